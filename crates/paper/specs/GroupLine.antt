@@ -1,0 +1,45 @@
+-- The line that begins a group. Document 01, "Lines", `2 TOTAL DATE`. Assumes nothing.
+use Prim.Native.Nat.{ℕ, suc}
+use mathlib.Core.Bool.{Bool, true, false}
+use mathlib.Core.List.{List, [], _∷_, _++_}
+use lib.Dec.{eqb, leb}
+use lib.ListN.{drop}
+use Rattle.base.specs.Pick.{pick}
+use Rattle.sheet.specs.declared.Sheet.{Sheet}
+use Rattle.paper.specs.Numerals.{decimal}
+use Rattle.paper.specs.Days.{readDue, dueWarnings, spellDay}
+use Rattle.paper.specs.Accounts.{Account, nobody, isNobody, readPayer, spellAccount}
+use Rattle.paper.specs.Amounts.{readTotal}
+use Rattle.paper.specs.Entries.{group, Said, got, field, gap, lineEnd}
+
+-- how many spaces a line has
+unfoldable pub spaceCount : List ℕ → ℕ
+spaceCount [] = 0
+spaceCount (x ∷ s) = pick (eqb x 32) (suc (spaceCount s)) (spaceCount s)
+
+-- S and E always have the payer's field; on K and C it is missing exactly when the line has fewer than three spaces
+unfoldable pub hasPayer : Bool → List ℕ → Bool
+hasPayer always s = pick always true (leb 3 (spaceCount s))
+
+-- TOTAL, at offset `at`, and DATE; the total's place is kept for refusal 10
+unfoldable pub totalAndDate : Sheet → ℕ → Account → ℕ → List ℕ → Said
+totalAndDate sh today payer at s =
+    field (readTotal (sh .comma)) at s λ total a1 s1.
+    gap a1 s1 λ a2 s2.
+    field (readDue (sh .longdate) (sh .early) (sh .ahead) today) a2 s2 λ date a3 s3.
+    lineEnd a3 s3 (got (group payer total date) (dueWarnings (sh .warnpast) today date) (at ∷ []))
+
+unfoldable pub readGroup : Sheet → ℕ → List ℕ → Said
+readGroup sh today s =
+    pick (hasPayer (sh .emptypayer) s)
+    (field (readPayer (sh .emptypayer) (sh .zeropayer) (sh .joined) (sh .basemin)) 2 (drop 2 s) λ payer a1 s1.
+    gap a1 s1 λ a2 s2.
+    totalAndDate sh today payer a2 s2)
+    (totalAndDate sh today nobody 2 (drop 2 s))
+
+-- "Canonical spelling": single groups have two spaces on S and E, and no account on K and C
+unfoldable pub spellPayer : Bool → Account → List ℕ
+spellPayer always a = pick (isNobody a) (pick always (32 ∷ []) []) (spellAccount a ++ (32 ∷ []))
+
+unfoldable pub spellGroup : Sheet → Account → ℕ → ℕ → List ℕ
+spellGroup sh payer total date = 50 ∷ 32 ∷ (spellPayer (sh .emptypayer) payer ++ (decimal total ++ (32 ∷ spellDay date)))

@@ -1,0 +1,206 @@
+-- The judged answer of any file: the batch, or the first broken rule in the testing order. Document 01, "Numbers returned". Assumes nothing.
+use Prim.Native.Nat.{ℕ, suc, _+_}
+use mathlib.Core.Bool.{Bool, true, false}
+use mathlib.Core.List.{List, [], _∷_}
+use lib.Dec.{eqb, ltb, leb}
+use lib.ListN.{length}
+use Rattle.base.specs.Pick.{pick}
+use Rattle.sheet.specs.declared.Sheet.{Sheet}
+use Rattle.paper.specs.Bytes.{null}
+use Rattle.paper.specs.Accounts.{Account, isNobody}
+use Rattle.paper.specs.Batch.{Item, Group, AccountFile, Batch, Header, sum, most14}
+use Rattle.paper.specs.Lines.{Line, linesOf}
+use Rattle.paper.specs.Entries.{Entry, head, file, group, item, closeGroup, closeFile, Said, got, no, Kind, headLine, fileLine, groupLine, itemLine, groupEnd, fileEnd, kindOf}
+use Rattle.paper.specs.FileLine.{series}
+use Rattle.paper.specs.Spells.{Context, forHead, forFile, forGroup, forItem, readAs, differs, groupItems, fileItems}
+
+-- number, line and byte; or header, batch and count of warnings
+pub data Answer : Type 0 where
+  Refused : ℕ → ℕ → ℕ → Answer
+  Accepted : Header → Batch → ℕ → Answer
+
+-- the elements of the first list, last one first, in front of the second
+abbrev pub revOn : {A : Type 0} → List A → List A → List A
+revOn [] m = m
+revOn (x ∷ a) m = revOn a (x ∷ m)
+
+-- ---- what is due after some lines, with the batch so far (lists are kept last one first) and the warnings so far
+
+-- the lines that opened an account file and a group; the total with its line and byte
+pub record FileHead : Type 0 where
+  pub kind : ℕ
+  pub number : ℕ
+
+pub record GroupHead : Type 0 where
+  pub payer : Account
+  pub date : ℕ
+  pub total : ℕ
+  pub line : ℕ
+  pub byte : ℕ
+
+pub data State : Type 0 where
+  atFirst : State
+  atFile : Header → List AccountFile → ℕ → State
+  atGroup : Header → List AccountFile → FileHead → List Group → ℕ → State
+  atItem : Header → List AccountFile → FileHead → List Group → GroupHead → List Item → ℕ → State
+  stop : Answer → State
+
+-- the first three digits of the numbers of account files
+unfoldable pub seen : List AccountFile → List ℕ
+seen [] = []
+seen (f ∷ fs) = series (f .number) ∷ seen fs
+
+-- what the reading of the next line depends on
+unfoldable pub contextOf : State → Context
+contextOf atFirst = forHead
+contextOf (atFile h fs w) = forFile h (seen fs)
+contextOf (atGroup h fs f gs w) = forGroup
+contextOf (atItem h fs f gs g xs w) = forItem (isNobody (g .payer))
+contextOf (stop a) = forHead
+
+-- ---- 3: another kind of line is due
+
+abbrev pub code : Kind → ℕ
+code headLine = 0
+code fileLine = 1
+code groupLine = 2
+code itemLine = 3
+code groupEnd = 4
+code fileEnd = 5
+
+abbrev pub is : Kind → Kind → Bool
+is a b = eqb (code a) (code b)
+
+-- First the first line; then an account file; in it a group; in that an item, and once there is one, an item or `3 +`; behind `3 +`,
+-- a group or `5 +`; behind `5 +`, an account file.
+unfoldable pub isDue : State → Kind → Bool
+isDue atFirst k = is headLine k
+isDue (atFile h fs w) k = is fileLine k
+isDue (atGroup h fs f gs w) k = pick (is groupLine k) true (pick (is fileEnd k) (pick (null gs) false true) false)
+isDue (atItem h fs f gs g xs w) k = pick (is itemLine k) true (pick (is groupEnd k) (pick (null xs) false true) false)
+isDue (stop a) k = false
+
+-- ---- 15: account file 1,001, item 100,000 of an account file, item 1,001 of an S file
+
+unfoldable pub isFull : Sheet → State → Kind → Bool
+isFull sh atFirst k = false
+isFull sh (atFile h fs w) k = leb 1000 (length fs)
+isFull sh (atGroup h fs f gs w) k = false
+isFull sh (atItem h fs f gs g xs w) k =
+    pick (is itemLine k)
+    (pick (leb 99999 (length xs + groupItems gs)) true (leb (sh .fileitems) (length xs + groupItems gs + fileItems fs)))
+    false
+isFull sh (stop a) k = false
+
+-- ---- 10: once the closing line has passed, at the group's total
+
+-- the total differs where that is refused (K, S), or the sum passes 14 digits
+unfoldable pub totalBroken : Bool → ℕ → ℕ → Bool
+totalBroken strict total exact = pick (ltb most14 exact) true (pick strict (pick (eqb total exact) false true) false)
+
+-- ---- one line
+
+abbrev pub groupOf : GroupHead → List Item → Group
+groupOf g xs = record { date = g .date; payer = g .payer; items = xs }
+
+abbrev pub fileOf : FileHead → List Group → AccountFile
+fileOf f gs = record { kind = f .kind; number = f .number; groups = gs }
+
+-- a group is closed: 10, or it is put to the others
+unfoldable pub closed : Sheet → Header → List AccountFile → FileHead → List Group → GroupHead → List Item → ℕ → State
+closed sh h fs f gs g xs w =
+    pick (totalBroken (sh .strict) (g .total) (sum xs))
+    (stop (Refused 10 (g .line) (g .byte)))
+    (atGroup h fs f (groupOf g xs ∷ gs) (w + differs (g .total) (sum xs)))
+
+-- a total's offset is the first of a line's places
+unfoldable pub firstOr0 : List ℕ → ℕ
+firstOr0 [] = 0
+firstOr0 (p ∷ ps) = p
+
+-- by entry: what it is expected to be goes on, any other answers z
+module _ {A : Type 0} where
+  unfoldable pub onHead : Entry → (Header → A) → A → A
+  onHead (head h) k z = k h
+  onHead (file n m) k z = z
+  onHead (group p t d) k z = z
+  onHead (item x) k z = z
+  onHead closeGroup k z = z
+  onHead closeFile k z = z
+
+  unfoldable pub onFile : Entry → (ℕ → ℕ → A) → A → A
+  onFile (head h) k z = z
+  onFile (file n m) k z = k n m
+  onFile (group p t d) k z = z
+  onFile (item x) k z = z
+  onFile closeGroup k z = z
+  onFile closeFile k z = z
+
+  unfoldable pub onGroup : Entry → (Account → ℕ → ℕ → A) → A → A → A
+  onGroup (head h) k c z = z
+  onGroup (file n m) k c z = z
+  onGroup (group p t d) k c z = k p t d
+  onGroup (item x) k c z = z
+  onGroup closeGroup k c z = z
+  onGroup closeFile k c z = c
+
+  unfoldable pub onItem : Entry → (Item → A) → A → A → A
+  onItem (head h) k c z = z
+  onItem (file n m) k c z = z
+  onItem (group p t d) k c z = z
+  onItem (item x) k c z = k x
+  onItem closeGroup k c z = c
+  onItem closeFile k c z = z
+
+-- line k, which starts at `at`, says the entry e, with v warnings
+unfoldable pub meet : Sheet → ℕ → ℕ → Entry → ℕ → List ℕ → State → State
+meet sh k at e v spots atFirst = onHead e (λ h. atFile h [] v) (stop (Refused 3 k at))
+meet sh k at e v spots (atFile h fs w) =
+    onFile e (λ kind number. atGroup h fs (record { kind = kind; number = number }) [] (w + v)) (stop (Refused 3 k at))
+meet sh k at e v spots (atGroup h fs f gs w) =
+    onGroup e
+    (λ payer total date. atItem h fs f gs (record { payer = payer; date = date; total = total; line = k; byte = at + firstOr0 spots }) [] (w + v))
+    (atFile h (fileOf f (revOn gs []) ∷ fs) (w + v))
+    (stop (Refused 3 k at))
+meet sh k at e v spots (atItem h fs f gs g xs w) =
+    onItem e (λ x. atItem h fs f gs g (x ∷ xs) (w + v)) (closed sh h fs f gs g (revOn xs []) (w + v)) (stop (Refused 3 k at))
+meet sh k at e v spots (stop a) = stop a
+
+-- what the line was read as
+unfoldable pub onSaid : Sheet → ℕ → ℕ → Said → State → State
+onSaid sh k at (got e v spots) st = meet sh k at e v spots st
+onSaid sh k at (no n off) st = stop (Refused n k (at + off))
+
+-- 3 and 15 come before a line's fields, both at the line's start
+unfoldable pub read : Sheet → ℕ → ℕ → Line → Kind → State → State
+read sh today k t kind st =
+    pick (isDue st kind)
+    (pick (isFull sh st kind)
+    (stop (Refused 15 k (t .start)))
+    (onSaid sh k (t .start) (readAs sh today (contextOf st) kind (t .bytes)) st))
+    (stop (Refused 3 k (t .start)))
+
+-- the judging ends with the first fault
+unfoldable pub step : Sheet → ℕ → ℕ → Line → State → State
+step sh today k t atFirst = read sh today k t (kindOf (t .bytes)) atFirst
+step sh today k t (atFile h fs w) = read sh today k t (kindOf (t .bytes)) (atFile h fs w)
+step sh today k t (atGroup h fs f gs w) = read sh today k t (kindOf (t .bytes)) (atGroup h fs f gs w)
+step sh today k t (atItem h fs f gs g xs w) = read sh today k t (kindOf (t .bytes)) (atItem h fs f gs g xs w)
+step sh today k t (stop a) = stop a
+
+-- the file ends after n bytes, where line k would be: early, unless an account file was closed
+unfoldable pub endOf : ℕ → ℕ → State → Answer
+endOf n k atFirst = Refused 3 k n
+endOf n k (atFile h fs w) = let all = revOn fs [] in pick (null all) (Refused 3 k n) (Accepted h all w)
+endOf n k (atGroup h fs f gs w) = Refused 3 k n
+endOf n k (atItem h fs f gs g xs w) = Refused 3 k n
+endOf n k (stop a) = a
+
+-- lines from line k on
+unfoldable pub run : Sheet → ℕ → ℕ → ℕ → List Line → State → Answer
+run sh today n k [] st = endOf n k st
+run sh today n k (t ∷ ts) st = run sh today n (suc k) ts (step sh today k t st)
+
+-- the file from its top
+unfoldable pub judge : Sheet → ℕ → List ℕ → Answer
+judge sh today f = run sh today (length f) 1 (linesOf 0 f) atFirst

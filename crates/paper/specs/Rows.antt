@@ -1,0 +1,137 @@
+-- Rows in lent bytes: what they hold, and which rows reading leaves. Document 01, "What the library handles"; docs/ROWS.md. Assumes nothing.
+use Prim.Native.Nat.{ℕ, zero, suc, _+_, _*_, _/_, _%_}
+use mathlib.Core.Bool.{Bool, true, false}
+use mathlib.Core.List.{List, [], _∷_, _++_}
+use lib.Dec.{eqb, leb}
+use lib.ListN.{length, take, drop, getD}
+use Rattle.base.specs.Pick.{pick}
+use Rattle.sheet.specs.declared.Sheet.{Sheet}
+use Rattle.paper.specs.Words.{wordOf, wordBytes}
+use Rattle.paper.specs.Bytes.{null}
+use Rattle.paper.specs.Accounts.{Account, account, isNobody}
+use Rattle.paper.specs.Batch.{Item, Thing, aFile, aGroup, anItem, strange}
+use Rattle.paper.specs.Lines.{Line}
+use Rattle.paper.specs.Entries.{Entry, head, file, group, item, closeGroup, closeFile, Said, got, no}
+use Rattle.paper.specs.Spells.{forItem, readLine}
+
+-- a row is 24 words of 8 bytes
+abbrev pub rowSize : ℕ
+rowSize = 192
+
+-- ---- lent rows, as writing takes them
+
+-- n words from the first byte on
+unfoldable pub words : ℕ → List ℕ → List ℕ
+words zero s = []
+words (suc n) s = wordOf (take 8 s) ∷ words n (drop 8 s)
+
+-- n rows from the first byte on; bytes that are left over make a row without words, whose kind is none
+unfoldable pub rowsOn : ℕ → List ℕ → List (List ℕ)
+rowsOn zero s = pick (null s) [] ([] ∷ [])
+rowsOn (suc n) s = words 24 s ∷ rowsOn n (drop rowSize s)
+
+unfoldable pub rowsIn : List ℕ → List (List ℕ)
+rowsIn s = rowsOn (length s / rowSize) s
+
+-- word i of a row
+abbrev pub word : List ℕ → ℕ → ℕ
+word r i = getD r i 0
+
+-- The text whose place and length are words i and i + 1, in the lent bytes t. One that lies outside is read as a byte that is no text
+-- byte, so that its field is refused.
+unfoldable pub textAt : List ℕ → List ℕ → ℕ → List ℕ
+textAt t r i = pick (leb (word r i + word r (suc i)) (length t)) (take (word r (suc i)) (drop (word r i) t)) (0 ∷ [])
+
+abbrev pub itemIn : List ℕ → List ℕ → Item
+itemIn t r =
+    record {
+      payer = account (word r 1) (word r 2);
+      payee = account (word r 3) (word r 4);
+      bank = word r 5;
+      amount = word r 6;
+      variable = word r 7;
+      specific = word r 8;
+      constant = word r 9;
+      priority = word r 10;
+      parts = textAt t r 11 ∷ textAt t r 13 ∷ textAt t r 15 ∷ textAt t r 17 ∷ [];
+      name = textAt t r 19;
+    }
+
+-- what a row says: word 0 is 1 for an account file, 2 for a group, 3 for an item
+unfoldable pub thingIn : List ℕ → List ℕ → Thing
+thingIn t r =
+    pick (eqb (word r 0) 1) (aFile (word r 1) (word r 2))
+    (pick (eqb (word r 0) 2) (aGroup (word r 1) (account (word r 2) (word r 3)))
+    (pick (eqb (word r 0) 3) (anItem (itemIn t r)) strange))
+
+unfoldable pub thingsIn : List ℕ → List (List ℕ) → List Thing
+thingsIn t [] = []
+thingsIn t (r ∷ rs) = thingIn t r ∷ thingsIn t rs
+
+-- ---- rows as reading leaves them; words that a kind does not use are 0
+
+unfoldable pub blanks : ℕ → List ℕ
+blanks zero = []
+blanks (suc n) = 0 ∷ blanks n
+
+unfoldable pub fileRow : ℕ → ℕ → List ℕ
+fileRow kind number = 1 ∷ kind ∷ number ∷ blanks 21
+
+unfoldable pub groupRow : ℕ → Account → List ℕ
+groupRow date payer = 2 ∷ date ∷ payer .prefix ∷ payer .base ∷ blanks 20
+
+-- place and length of a text at an offset of the line that starts at `start`; an empty one has the place 0
+unfoldable pub textWords : ℕ → ℕ → List ℕ → List ℕ
+textWords start off t = pick (null t) (0 ∷ 0 ∷ []) ((start + off) ∷ length t ∷ [])
+
+unfoldable pub textsWords : ℕ → List ℕ → List (List ℕ) → List ℕ
+textsWords start spots [] = []
+textsWords start [] (t ∷ ts) = textWords start 0 t ++ textsWords start [] ts
+textsWords start (off ∷ spots) (t ∷ ts) = textWords start off t ++ textsWords start spots ts
+
+unfoldable pub itemRow : ℕ → List ℕ → Item → List ℕ
+itemRow start spots x =
+    3 ∷ x .payer .prefix ∷ x .payer .base ∷ x .payee .prefix ∷ x .payee .base ∷ x .bank ∷ x .amount ∷ x .variable ∷ x .specific ∷ x .constant
+    ∷ x .priority ∷ (textsWords start spots (x .parts ++ (x .name ∷ [])) ++ blanks 3)
+
+-- the row of a line that starts at `start`, if it has one
+unfoldable pub entryRow : ℕ → List ℕ → Entry → List (List ℕ)
+entryRow start spots (head h) = []
+entryRow start spots (file k n) = fileRow k n ∷ []
+entryRow start spots (group p t d) = groupRow d p ∷ []
+entryRow start spots (item x) = itemRow start spots x ∷ []
+entryRow start spots closeGroup = []
+entryRow start spots closeFile = []
+
+unfoldable pub lineRow : ℕ → Said → List (List ℕ)
+lineRow start (got e v spots) = entryRow start spots e
+lineRow start (no n off) = []
+
+-- behind a group's line its items are read as that group's
+unfoldable pub singleAfter : Bool → Entry → Bool
+singleAfter b (head h) = b
+singleAfter b (file k n) = b
+singleAfter b (group p t d) = isNobody p
+singleAfter b (item x) = b
+singleAfter b closeGroup = b
+singleAfter b closeFile = b
+
+unfoldable pub singleBehind : Bool → Said → Bool
+singleBehind b (got e v spots) = singleAfter b e
+singleBehind b (no n off) = b
+
+-- the rows of an accepted file's lines, in order
+unfoldable pub linesRows : Sheet → ℕ → Bool → List Line → List (List ℕ)
+linesRows sh today single [] = []
+linesRows sh today single (t ∷ ts) =
+    lineRow (t .start) (readLine sh today (forItem single) (t .bytes))
+    ++ linesRows sh today (singleBehind single (readLine sh today (forItem single) (t .bytes))) ts
+
+-- rows as bytes
+unfoldable pub wordsBytes : List ℕ → List ℕ
+wordsBytes [] = []
+wordsBytes (w ∷ ws) = wordBytes 8 w ++ wordsBytes ws
+
+unfoldable pub rowsBytes : List (List ℕ) → List ℕ
+rowsBytes [] = []
+rowsBytes (r ∷ rs) = wordsBytes r ++ rowsBytes rs

@@ -1,0 +1,142 @@
+-- Which file spells which batch: line by line, and the rules over several lines. Document 01, "Lines", with the counts of "The batch"
+-- and of refusal 15. A file is accepted exactly when it spells a batch with a header. Assumes nothing.
+use Prim.Native.Nat.{ℕ, _+_, _≤_}
+use mathlib.Core.Path.{_≡_}
+use mathlib.Core.Bool.{Bool, true, false}
+use mathlib.Core.List.{List, [], _∷_}
+use lib.Dec.{eqb}
+use lib.ListN.{length}
+use Rattle.base.specs.Pick.{pick}
+use Rattle.sheet.specs.declared.Sheet.{Sheet}
+use Rattle.paper.specs.Accounts.{Account, isNobody}
+use Rattle.paper.specs.Batch.{Item, Group, AccountFile, Batch, Header, sum, most14}
+use Rattle.paper.specs.Lines.{Line, linesOf}
+use Rattle.paper.specs.Entries.{Entry, head, file, group, item, closeGroup, closeFile, Said, got, Kind, headLine, fileLine, groupLine, itemLine, groupEnd, fileEnd, kindOf}
+use Rattle.paper.specs.FirstLine.{readFirst}
+use Rattle.paper.specs.FileLine.{series, numberAllowed, readFile}
+use Rattle.paper.specs.GroupLine.{readGroup}
+use Rattle.paper.specs.ItemLine.{readItem}
+use Rattle.paper.specs.ClosingLine.{readClose}
+
+-- ---- one line
+
+-- What the reading of a line depends on: before an account file, the header and the first three digits of earlier account files' numbers;
+-- behind a group's line, whether the group is single.
+pub data Context : Type 0 where
+  forHead : Context
+  forFile : Header → List ℕ → Context
+  forGroup : Context
+  forItem : Bool → Context
+
+unfoldable pub allowedIn : Sheet → Context → ℕ → Bool
+allowedIn sh forHead n = true
+allowedIn sh (forFile h seen) n = numberAllowed (sh .interval) h seen n
+allowedIn sh forGroup n = true
+allowedIn sh (forItem single) n = true
+
+unfoldable pub singleIn : Context → Bool
+singleIn forHead = false
+singleIn (forFile h seen) = false
+singleIn forGroup = false
+singleIn (forItem single) = single
+
+unfoldable pub readAs : Sheet → ℕ → Context → Kind → List ℕ → Said
+readAs sh today c headLine s = readFirst sh s
+readAs sh today c fileLine s = readFile sh (allowedIn sh c) s
+readAs sh today c groupLine s = readGroup sh today s
+readAs sh today c itemLine s = readItem sh (singleIn c) s
+readAs sh today c groupEnd s = readClose (sh .near) closeGroup s
+readAs sh today c fileEnd s = readClose (sh .near) closeFile s
+
+unfoldable pub readLine : Sheet → ℕ → Context → List ℕ → Said
+readLine sh today c s = readAs sh today c (kindOf s) s
+
+-- the line says the entry, with w warnings
+abbrev pub Reads : Sheet → ℕ → List ℕ → Context → Entry → ℕ → Type 0
+Reads sh today s c e w = (spots : List ℕ) × (readLine sh today c s ≡ got e w spots)
+
+-- ---- the lines of a batch
+
+-- an entry that is due, in its context
+pub record Due : Type 0 where
+  pub context : Context
+  pub entry : Entry
+
+abbrev pub due : Context → Entry → Due
+due c e = record { context = c; entry = e }
+
+-- a group's items, and the line that closes it, in front of the lines r
+unfoldable pub itemDues : Bool → List Item → List Due → List Due
+itemDues single [] r = due (forItem single) closeGroup ∷ r
+itemDues single (x ∷ xs) r = due (forItem single) (item x) ∷ itemDues single xs r
+
+-- an account file's groups, each with the exact sum of its items as its total, and the line that closes it
+unfoldable pub groupDues : List Group → List Due → List Due
+groupDues [] r = due forGroup closeFile ∷ r
+groupDues (g ∷ gs) r =
+    due forGroup (group (g .payer) (sum (g .items)) (g .date)) ∷ itemDues (isNobody (g .payer)) (g .items) (groupDues gs r)
+
+-- account files; `seen` are the first three digits of earlier numbers
+unfoldable pub fileDues : Header → List ℕ → List AccountFile → List Due
+fileDues h seen [] = []
+fileDues h seen (f ∷ fs) =
+    due (forFile h seen) (file (f .kind) (f .number)) ∷ groupDues (f .groups) (fileDues h (series (f .number) ∷ seen) fs)
+
+unfoldable pub dues : Header → Batch → List Due
+dues h b = due forHead (head h) ∷ fileDues h [] b
+
+-- ---- the lines say the entries
+
+-- one warning where a total differs from the sum
+unfoldable pub differs : ℕ → ℕ → ℕ
+differs total exact = pick (eqb total exact) 0 1
+
+-- A group's line may give another total than the exact one where the sheet only warns of it (C, E). Every other line says its entry.
+abbrev pub SaysEntry : Sheet → ℕ → List ℕ → Context → Entry → ℕ → Type 0
+SaysEntry sh today s c (group payer exact date) w =
+    (total : ℕ) × (v : ℕ) × Reads sh today s c (group payer total date) v × (sh .strict ≡ true → total ≡ exact) × (w ≡ v + differs total exact)
+SaysEntry sh today s c (head h) w = Reads sh today s c (head h) w
+SaysEntry sh today s c (file k n) w = Reads sh today s c (file k n) w
+SaysEntry sh today s c (item x) w = Reads sh today s c (item x) w
+SaysEntry sh today s c closeGroup w = Reads sh today s c closeGroup w
+SaysEntry sh today s c closeFile w = Reads sh today s c closeFile w
+
+abbrev pub Says : Sheet → ℕ → List ℕ → Due → ℕ → Type 0
+Says sh today s d w = SaysEntry sh today s (d .context) (d .entry) w
+
+-- each line says the entry that is due, and w is the sum of their warnings
+abbrev pub Each : Sheet → ℕ → List Line → List Due → ℕ → Type 0
+Each sh today [] [] w = w ≡ 0
+Each sh today [] (d ∷ ds) w = ⊥
+Each sh today (t ∷ ts) [] w = ⊥
+Each sh today (t ∷ ts) (d ∷ ds) w = (v : ℕ) × (u : ℕ) × Says sh today (t .bytes) d v × Each sh today ts ds u × (w ≡ v + u)
+
+-- ---- the rules over several lines
+
+-- how many items groups and account files have
+unfoldable pub groupItems : List Group → ℕ
+groupItems [] = 0
+groupItems (g ∷ gs) = length (g .items) + groupItems gs
+
+unfoldable pub fileItems : List AccountFile → ℕ
+fileItems [] = 0
+fileItems (f ∷ fs) = groupItems (f .groups) + fileItems fs
+
+-- a group has an item or more, and its sum has at most 14 digits
+abbrev pub GroupRules : List Group → Type 0
+GroupRules [] = Unit {0}
+GroupRules (g ∷ gs) = (1 ≤ length (g .items)) × (sum (g .items) ≤ most14) × GroupRules gs
+
+-- an account file has a group or more, and at most 99,999 items
+abbrev pub FileRules : List AccountFile → Type 0
+FileRules [] = Unit {0}
+FileRules (f ∷ fs) = (1 ≤ length (f .groups)) × (groupItems (f .groups) ≤ 99999) × GroupRules (f .groups) × FileRules fs
+
+-- there are 1 to 1,000 account files, and on S at most 1,000 items
+abbrev pub Rules : Sheet → Batch → Type 0
+Rules sh b = (1 ≤ length b) × (length b ≤ 1000) × (fileItems b ≤ sh .fileitems) × FileRules b
+
+-- ---- a file spells a batch with a header, with w warnings
+pub record Spells (sh : Sheet) (today : ℕ) (f : List ℕ) (h : Header) (b : Batch) (w : ℕ) : Type 0 where
+  pub lines : Each sh today (linesOf 0 f) (dues h b) w
+  pub rules : Rules sh b

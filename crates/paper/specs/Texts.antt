@@ -1,0 +1,158 @@
+-- Texts: a message of up to four parts and a name. Document 01, "The batch", "Lines", tail, and "Canonical spelling". Assumes nothing.
+use Prim.Native.Nat.{ℕ, zero, suc, _+_}
+use mathlib.Core.Bool.{Bool, true, false, not}
+use mathlib.Core.List.{List, [], _∷_, _++_, map}
+use lib.Dec.{eqb, ltb, leb}
+use lib.ListN.{length, take, drop}
+use Rattle.base.specs.Pick.{pick}
+use Rattle.base.specs.Seek.{all, starts, seek, before}
+use Rattle.sheet.specs.declared.Style.{Style}
+use Rattle.paper.specs.Read.{Field, value, fault}
+use Rattle.paper.specs.Bytes.{isText, bar, av, np, mark, null}
+
+-- a piece of a line: where it begins, and its bytes
+pub record Piece : Type 0 where
+  pub place : ℕ
+  pub bytes : List ℕ
+
+abbrev pub piece : ℕ → List ℕ → Piece
+piece at s = record { place = at; bytes = s }
+
+-- four parts and a name, and how many of them were cut
+pub record Texts : Type 0 where
+  pub parts : List Piece
+  pub name : Piece
+  pub warnings : ℕ
+
+-- ---- reading
+
+-- what stands behind each `|` of s, which begins at `at`
+unfoldable pub others : ℕ → List ℕ → List Piece
+others at [] = []
+others at (x ∷ s) = pick (eqb x 124) (piece (at + 1) (before bar s) ∷ others (at + 1) s) (others (at + 1) s)
+
+-- a message's parts: what stands before the first `|`, and behind each
+abbrev pub divide : ℕ → List ℕ → List Piece
+divide at s = piece at (before bar s) ∷ others at s
+
+-- A part or a name has at most 35 bytes: longer ones are cut, and each is counted. An empty one has the place 0.
+unfoldable pub cut : Piece → Piece
+cut p = pick (null (p .bytes)) (piece 0 []) (piece (p .place) (take 35 (p .bytes)))
+
+unfoldable pub over : Piece → ℕ
+over p = pick (ltb 35 (length (p .bytes))) 1 0
+
+unfoldable pub overs : List Piece → ℕ
+overs [] = 0
+overs (p ∷ ps) = over p + overs ps
+
+-- n parts, the missing ones empty
+unfoldable pub pad : ℕ → List Piece → List Piece
+pad zero ps = []
+pad (suc n) [] = piece 0 [] ∷ pad n []
+pad (suc n) (p ∷ ps) = p ∷ pad n ps
+
+-- a text has a byte or more, and the first is not a space
+unfoldable pub opens : List ℕ → Bool
+opens [] = false
+opens (x ∷ t) = not (eqb x 32)
+
+module _ (y : Style) where
+  -- Parts and name as found: 14 for more parts than the sheet takes, and for one too long where it is not cut.
+  unfoldable pub finish : List Piece → Piece → Field Texts
+  finish ps n =
+      pick (ltb (y .most) (length ps)) (fault 14)
+      (pick (pick (y .cuts) true (eqb (overs ps + over n) 0))
+      (value (record { parts = pad 4 (map cut ps); name = cut n; warnings = overs ps + over n }))
+      (fault 14))
+
+  -- where the message ends: before its first ` NP:`, where names are
+  unfoldable pub messageEnd : List ℕ → ℕ
+  messageEnd m = pick (y .names) (seek mark m) (length m)
+
+  -- a message without its `AV:`, and the name behind its ` NP:`
+  unfoldable pub message : ℕ → List ℕ → Field Texts
+  message at m = finish (divide at (take (messageEnd m) m)) (piece (at + (messageEnd m + 4)) (drop (messageEnd m + 4) m))
+
+  -- C: a name alone begins after `NP:` at the text's start. A message begins after `AV:`, which on C may be missing; 14 elsewhere.
+  unfoldable pub marked : ℕ → List ℕ → Field Texts
+  marked at t =
+      pick (pick (y .names) (starts np t) false) (finish (piece at [] ∷ []) (piece (at + 3) (drop 3 t)))
+      (pick (starts av t) (message (at + 3) (drop 3 t))
+      (pick (y .may) (message at t) (fault 14)))
+
+  -- A text that begins at `at` of its line. First 4: a byte that is no text byte; off S a text that is empty or begins with a space.
+  unfoldable pub readText : ℕ → List ℕ → Field Texts
+  readText at t =
+      pick (all isText t)
+      (pick (y .av) (pick (opens t) (marked at t) (fault 4)) (message at t))
+      (fault 4)
+
+-- ---- what a batch may hold, and what a sheet can carry
+
+-- the text does not hold the pattern
+unfoldable pub lacks : List ℕ → List ℕ → Bool
+lacks ps s = eqb (seek ps s) (length s)
+
+-- "The batch": a part and a name have 0 to 35 text bytes, and a part no `|`
+unfoldable pub nameProper : List ℕ → Bool
+nameProper n = pick (ltb 35 (length n)) false (all isText n)
+
+unfoldable pub partProper : List ℕ → Bool
+partProper p = pick (nameProper p) (lacks bar p) false
+
+-- part i, from 0 on: empty where the sheet takes fewer parts; without ` NP:` where names are, for it would come back as a name
+unfoldable pub partCarried : Style → ℕ → List ℕ → Bool
+partCarried y i p = pick (pick (ltb i (y .most)) true (null p)) (pick (y .names) (lacks mark p) true) false
+
+-- a name only where names are
+unfoldable pub nameCarried : Style → List ℕ → Bool
+nameCarried y n = pick (y .names) true (null n)
+
+-- the same of all parts, the first being part i
+unfoldable pub partsProper : List (List ℕ) → Bool
+partsProper [] = true
+partsProper (p ∷ ps) = pick (partProper p) (partsProper ps) false
+
+unfoldable pub partsCarried : Style → ℕ → List (List ℕ) → Bool
+partsCarried y i [] = true
+partsCarried y i (p ∷ ps) = pick (partCarried y i p) (partsCarried y (suc i) ps) false
+
+-- ---- canonical spelling
+
+-- the parts up to the last one not empty
+unfoldable pub keep : List ℕ → List (List ℕ) → List (List ℕ)
+keep [] [] = []
+keep [] (q ∷ qs) = [] ∷ q ∷ qs
+keep (x ∷ p) qs = (x ∷ p) ∷ qs
+
+unfoldable pub trim : List (List ℕ) → List (List ℕ)
+trim [] = []
+trim (p ∷ ps) = keep p (trim ps)
+
+-- a part, and each further one behind a `|`
+unfoldable pub joinOn : List ℕ → List (List ℕ) → List ℕ
+joinOn p [] = p
+joinOn p (q ∷ qs) = p ++ (124 ∷ joinOn q qs)
+
+unfoldable pub joined : List (List ℕ) → List ℕ
+joined [] = []
+joined (p ∷ ps) = joinOn p ps
+
+-- ` NP:` and a name that is not empty
+unfoldable pub spellName : List ℕ → List ℕ
+spellName [] = []
+spellName (x ∷ n) = mark ++ (x ∷ n)
+
+-- `AV:` and the parts, then the name; or `NP:` and the name alone where all parts are empty
+unfoldable pub spellMarked : List (List ℕ) → List ℕ → List ℕ
+spellMarked [] n = np ++ n
+spellMarked (p ∷ ps) n = av ++ (joinOn p ps ++ spellName n)
+
+-- S has its part as it stands
+unfoldable pub spellText : Style → List (List ℕ) → List ℕ → List ℕ
+spellText y parts n = pick (y .av) (spellMarked (trim parts) n) (joined (trim parts))
+
+-- all parts and the name are empty: then K, C and E have no text
+unfoldable pub noText : List (List ℕ) → List ℕ → Bool
+noText parts n = pick (null (trim parts)) (null n) false

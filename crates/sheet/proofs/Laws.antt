@@ -1,0 +1,187 @@
+-- What holds of every sheet that a number or a letter names. Assumes nothing.
+use mathlib.Core.Path.{_≡_, refl, sym, subst}
+use mathlib.Core.Bool.{Bool, true, false}
+use Prim.Native.Nat.{ℕ, _^_, _≤_, _<_}
+use native.Mathlib.Omega.{arith}
+use lib.Dec.{eqb, lit≤, lit<}
+use borrow.Author.Tests.{eqb-true}
+use Rattle.base.specs.Pick.{pick}
+use Rattle.base.proofs.Seek.{never}
+use Rattle.sheet.specs.declared.Sheet.{Sheet}
+use Rattle.sheet.specs.declared.Known.{Known}
+use Rattle.sheet.specs.declared.Known.the-variants as known
+use Rattle.sheet.specs.Sheets.{sheetK, sheetS, sheetC, sheetE, sheetOf, sheetBy}
+
+-- ---- by its name
+
+module _ (P : Sheet → Type 0) where
+  -- one test: it names a, or the others name the sheet
+  named : (t : Bool) (a s : Sheet) (rest : Known) → (t ≡ true → P a) → (rest ≡ known.Sheet s → P s) → pick t (known.Sheet a) rest ≡ known.Sheet s → P s
+  unfolding pick
+  named true a s rest p q e = let z : a ≡ s = cc in subst P z (p refl)
+  named false a s rest p q e = q e
+
+  nothing : (s : Sheet) → known.Nothing ≡ known.Sheet s → P s
+  nothing s e = absurd (let z : _≡_ {A = ℕ} 0 1 = cc in omega arith)
+
+  -- what holds of the four holds of the sheet that a number names
+  pub every-sheet : P sheetK → P sheetS → P sheetC → P sheetE → (n : ℕ) (s : Sheet) → sheetOf n ≡ known.Sheet s → P s
+  unfolding sheetOf
+  every-sheet k s c e n x h =
+      named _ sheetK x _ (λ _. k) (named _ sheetS x _ (λ _. s) (named _ sheetC x _ (λ _. c) (named _ sheetE x _ (λ _. e) (nothing x)))) h
+
+  -- .. and of the sheet that a letter names
+  pub every-letter : P sheetK → P sheetS → P sheetC → P sheetE → (b : ℕ) (s : Sheet) → sheetBy b ≡ known.Sheet s → P s
+  unfolding sheetBy
+  every-letter k s c e b x h =
+      named _ sheetK x _ (λ _. k) (named _ sheetS x _ (λ _. s) (named _ sheetC x _ (λ _. c) (named _ sheetE x _ (λ _. e) (nothing x)))) h
+
+-- a sheet has the number and the letter that name it
+abbrev Numbered : ℕ → Sheet → Type 0
+Numbered n s = s .number ≡ n
+
+abbrev Lettered : ℕ → Sheet → Type 0
+Lettered b s = s .letter ≡ b
+
+pub sheet-number : (n : ℕ) (s : Sheet) → sheetOf n ≡ known.Sheet s → s .number ≡ n
+unfolding sheetOf
+sheet-number n x h =
+    named (Numbered n) _ sheetK x _ (λ t. sym (eqb-true n 1 t))
+    (named (Numbered n) _ sheetS x _ (λ t. sym (eqb-true n 2 t))
+    (named (Numbered n) _ sheetC x _ (λ t. sym (eqb-true n 3 t))
+    (named (Numbered n) _ sheetE x _ (λ t. sym (eqb-true n 4 t)) (nothing (Numbered n) x))))
+    h
+
+pub sheet-letter : (b : ℕ) (s : Sheet) → sheetBy b ≡ known.Sheet s → s .letter ≡ b
+unfolding sheetBy
+sheet-letter b x h =
+    named (Lettered b) _ sheetK x _ (λ t. sym (eqb-true b 75 t))
+    (named (Lettered b) _ sheetS x _ (λ t. sym (eqb-true b 83 t))
+    (named (Lettered b) _ sheetC x _ (λ t. sym (eqb-true b 67 t))
+    (named (Lettered b) _ sheetE x _ (λ t. sym (eqb-true b 69 t)) (nothing (Lettered b) x))))
+    h
+
+-- each of the four is named by its own number and its own letter
+pub named-k : (sheetOf 1 ≡ known.Sheet sheetK) × (sheetBy 75 ≡ known.Sheet sheetK)
+unfolding sheetOf sheetBy pick
+named-k = (refl, refl)
+
+pub named-s : (sheetOf 2 ≡ known.Sheet sheetS) × (sheetBy 83 ≡ known.Sheet sheetS)
+unfolding sheetOf sheetBy pick
+named-s = (refl, refl)
+
+pub named-c : (sheetOf 3 ≡ known.Sheet sheetC) × (sheetBy 67 ≡ known.Sheet sheetC)
+unfolding sheetOf sheetBy pick
+named-c = (refl, refl)
+
+pub named-e : (sheetOf 4 ≡ known.Sheet sheetE) × (sheetBy 69 ≡ known.Sheet sheetE)
+unfolding sheetOf sheetBy pick
+named-e = (refl, refl)
+
+-- so number and letter name the same sheet
+pub letter-same : (n : ℕ) (s : Sheet) → sheetOf n ≡ known.Sheet s → sheetBy (s .letter) ≡ known.Sheet s
+letter-same = every-sheet (λ s. sheetBy (s .letter) ≡ known.Sheet s) (named-k .1) (named-s .1) (named-c .1) (named-e .1)
+
+pub number-same : (b : ℕ) (s : Sheet) → sheetBy b ≡ known.Sheet s → sheetOf (s .number) ≡ known.Sheet s
+number-same = every-letter (λ s. sheetOf (s .number) ≡ known.Sheet s) (named-k .0) (named-s .0) (named-c .0) (named-e .0)
+
+-- ---- its parameters
+
+-- the bounds that every sheet keeps to
+pub record Sane (s : Sheet) : Type 0 where
+  pub base-some : 1 ≤ s .basemin
+  pub base-few : s .basemin ≤ 2
+  pub parts-some : 0 < s .text .most
+  pub parts-few : s .text .most ≤ 4
+  pub names-av : s .text .av ≡ false → s .text .names ≡ false
+  pub digits-some : 1 ≤ s .itemdigits
+  pub digits-few : s .itemdigits ≤ 14
+  pub item-low : s .itemmax ≤ 99999999999999
+  pub item-fits : s .itemmax < 10 ^ s .itemdigits
+  pub days : s .ahead ≤ 36525
+  pub kind-first : 1501 ≤ s .lastkind
+  pub kind-last : s .lastkind ≤ 1504
+  pub bank-low : s .bank ≤ 9999
+  pub items-low : s .fileitems ≤ 99999000
+
+pub sane-k : Sane sheetK
+sane-k =
+    record {
+      base-some = lit≤ tt;
+      base-few = lit≤ tt;
+      parts-some = lit< tt;
+      parts-few = lit≤ tt;
+      names-av = λ _. refl;
+      digits-some = lit≤ tt;
+      digits-few = lit≤ tt;
+      item-low = lit≤ tt;
+      item-fits = lit< tt;
+      days = lit≤ tt;
+      kind-first = lit≤ tt;
+      kind-last = lit≤ tt;
+      bank-low = lit≤ tt;
+      items-low = lit≤ tt;
+    }
+
+pub sane-s : Sane sheetS
+sane-s =
+    record {
+      base-some = lit≤ tt;
+      base-few = lit≤ tt;
+      parts-some = lit< tt;
+      parts-few = lit≤ tt;
+      names-av = λ _. refl;
+      digits-some = lit≤ tt;
+      digits-few = lit≤ tt;
+      item-low = lit≤ tt;
+      item-fits = lit< tt;
+      days = lit≤ tt;
+      kind-first = lit≤ tt;
+      kind-last = lit≤ tt;
+      bank-low = lit≤ tt;
+      items-low = lit≤ tt;
+    }
+
+pub sane-c : Sane sheetC
+sane-c =
+    record {
+      base-some = lit≤ tt;
+      base-few = lit≤ tt;
+      parts-some = lit< tt;
+      parts-few = lit≤ tt;
+      names-av = λ e. never e;
+      digits-some = lit≤ tt;
+      digits-few = lit≤ tt;
+      item-low = lit≤ tt;
+      item-fits = lit< tt;
+      days = lit≤ tt;
+      kind-first = lit≤ tt;
+      kind-last = lit≤ tt;
+      bank-low = lit≤ tt;
+      items-low = lit≤ tt;
+    }
+
+pub sane-e : Sane sheetE
+sane-e =
+    record {
+      base-some = lit≤ tt;
+      base-few = lit≤ tt;
+      parts-some = lit< tt;
+      parts-few = lit≤ tt;
+      names-av = λ _. refl;
+      digits-some = lit≤ tt;
+      digits-few = lit≤ tt;
+      item-low = lit≤ tt;
+      item-fits = lit< tt;
+      days = lit≤ tt;
+      kind-first = lit≤ tt;
+      kind-last = lit≤ tt;
+      bank-low = lit≤ tt;
+      items-low = lit≤ tt;
+    }
+
+pub sane : (n : ℕ) (s : Sheet) → sheetOf n ≡ known.Sheet s → Sane s
+sane = every-sheet Sane sane-k sane-s sane-c sane-e
+
+pub sane-by : (b : ℕ) (s : Sheet) → sheetBy b ≡ known.Sheet s → Sane s
+sane-by = every-letter Sane sane-k sane-s sane-c sane-e

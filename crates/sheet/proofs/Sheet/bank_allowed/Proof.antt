@@ -1,0 +1,21 @@
+-- `Sheet::bank_allowed` answers as its definition does.
+use borrow.Author.Needs.{needs}
+use Rattle.base.proofs.Cases.{picks}
+use Rattle.sheet.specs.Sheets.{bankAllowed}
+use Rattle.sheet.proofs.Sheet.bank_allowed.Statement.{statement}
+use Rattle.sheet.proofs.Sheet.bank_allowed.Tie as tie
+use Rattle.sheet.proofs.Sheet.bank_allowed.Reads as reads
+use Rattle.sheet.proofs.Sheet.bank_allowed.Lts as lts
+
+-- src/lib.rt:220:13
+returns : tie.Need-returns
+unfolding bankAllowed
+returns c = search picks depth 8
+
+-- src/lib.rt:216:5
+returns-2 : tie.Need-returns-2
+unfolding bankAllowed
+returns-2 c = search picks depth 8
+
+pub bank-allowed-spec : {M : Type 1} → statement M
+bank-allowed-spec = tie.close (tie.spec returns returns-2)

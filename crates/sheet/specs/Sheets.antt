@@ -1,0 +1,181 @@
+-- The four sheets as records of what their banks ask, and which number or letter names which. Document 01, "What the library handles",
+-- with each sheet's answers to the questions that "Accounts" and "Lines" put. Assumes nothing.
+use Prim.Native.Nat.{ℕ}
+use mathlib.Core.Bool.{Bool, true, false}
+use lib.Dec.{leb, eqb, ltb}
+use Rattle.base.specs.Pick.{pick}
+use Rattle.sheet.specs.declared.Style.{Style}
+use Rattle.sheet.specs.declared.Sheet.{Sheet}
+use Rattle.sheet.specs.declared.Known.{Known}
+use Rattle.sheet.specs.declared.Known.the-variants as known
+
+-- "Tail": on K and E a text begins `AV:`, has up to four parts and no name, and nothing in it is cut
+abbrev pub styleKE : Style
+styleKE = record { av = true; may = false; names = false; cuts = false; most = 4 }
+
+-- on S it is one part as it stands
+abbrev pub styleS : Style
+styleS = record { av = false; may = false; names = false; cuts = false; most = 1 }
+
+-- on C `AV:` may be missing, a name may follow, and what is too long is cut
+abbrev pub styleC : Style
+styleC = record { av = true; may = true; names = true; cuts = true; most = 4 }
+
+-- More days than 2000 to 2099 have: no day is too far ahead. More items than 1,000 account files of 99,999 can have.
+abbrev pub anyDay : ℕ
+anyDay = 36525
+
+abbrev pub anyItems : ℕ
+anyItems = 99999000
+
+-- source document 000
+abbrev pub sheetK : Sheet
+sheetK =
+    record {
+      number = 1;
+      letter = 75;
+      bank = 8100;
+      anybank = false;
+      lastkind = 1501;
+      header = true;
+      short = true;
+      interval = true;
+      joined = false;
+      basemin = 2;
+      emptypayer = false;
+      zeropayer = true;
+      longdate = false;
+      ahead = 364;
+      early = false;
+      warnpast = false;
+      near = false;
+      itemdigits = 14;
+      itemmax = 99999999999999;
+      comma = false;
+      priority = true;
+      fixedtail = false;
+      bare = false;
+      text = styleKE;
+      strict = true;
+      fileitems = anyItems;
+    }
+
+-- source document 001
+abbrev pub sheetS : Sheet
+sheetS =
+    record {
+      number = 2;
+      letter = 83;
+      bank = 800;
+      anybank = false;
+      lastkind = 1502;
+      header = true;
+      short = false;
+      interval = false;
+      joined = false;
+      basemin = 1;
+      emptypayer = true;
+      zeropayer = false;
+      longdate = false;
+      ahead = anyDay;
+      early = false;
+      warnpast = false;
+      near = false;
+      itemdigits = 12;
+      itemmax = 999999999999;
+      comma = false;
+      priority = false;
+      fixedtail = true;
+      bare = false;
+      text = styleS;
+      strict = true;
+      fileitems = 1000;
+    }
+
+-- source document 002
+abbrev pub sheetC : Sheet
+sheetC =
+    record {
+      number = 3;
+      letter = 67;
+      bank = 300;
+      anybank = true;
+      lastkind = 1504;
+      header = false;
+      short = false;
+      interval = false;
+      joined = true;
+      basemin = 1;
+      emptypayer = false;
+      zeropayer = false;
+      longdate = true;
+      ahead = 365;
+      early = true;
+      warnpast = true;
+      near = true;
+      itemdigits = 14;
+      itemmax = 99999999999999;
+      comma = false;
+      priority = false;
+      fixedtail = false;
+      bare = true;
+      text = styleC;
+      strict = false;
+      fileitems = anyItems;
+    }
+
+-- source document 003
+abbrev pub sheetE : Sheet
+sheetE =
+    record {
+      number = 4;
+      letter = 69;
+      bank = 6100;
+      anybank = false;
+      lastkind = 1501;
+      header = true;
+      short = false;
+      interval = false;
+      joined = false;
+      basemin = 1;
+      emptypayer = true;
+      zeropayer = true;
+      longdate = false;
+      ahead = anyDay;
+      early = true;
+      warnpast = false;
+      near = true;
+      itemdigits = 14;
+      itemmax = 999999999999;
+      comma = true;
+      priority = false;
+      fixedtail = false;
+      bare = false;
+      text = styleKE;
+      strict = false;
+      fileitems = anyItems;
+    }
+
+-- "What the library handles": 1 is K, 2 is S, 3 is C, 4 is E, and no other number names a sheet
+unfoldable pub sheetOf : ℕ → Known
+sheetOf n =
+    pick (eqb n 1) (known.Sheet sheetK)
+    (pick (eqb n 2) (known.Sheet sheetS)
+    (pick (eqb n 3) (known.Sheet sheetC)
+    (pick (eqb n 4) (known.Sheet sheetE) known.Nothing)))
+
+-- "A whole run": the same by letter
+unfoldable pub sheetBy : ℕ → Known
+sheetBy b =
+    pick (eqb b 75) (known.Sheet sheetK)
+    (pick (eqb b 83) (known.Sheet sheetS)
+    (pick (eqb b 67) (known.Sheet sheetC)
+    (pick (eqb b 69) (known.Sheet sheetE) known.Nothing)))
+
+-- "Lines", KIND: K and E 1501, S 1501 and 1502, C 1501 to 1504
+unfoldable pub kindAllowed : Sheet → ℕ → Bool
+kindAllowed sh kind = pick (ltb kind 1501) false (leb kind (sh .lastkind))
+
+-- "Lines", BANK: the sheet's own; C takes any
+unfoldable pub bankAllowed : Sheet → ℕ → Bool
+bankAllowed sh code = pick (sh .anybank) true (eqb code (sh .bank))
