@@ -1,0 +1,59 @@
+/*
+ * ABO (.kpc) payment batches under the four sheets of document 01:
+ * 1 is K, 2 is S, 3 is C and 4 is E.
+ *
+ * Days are numbers YYYYMMDD.  Rows are 24 little-endian 64-bit words each, lent
+ * as bytes of any alignment.  A pointer may be NULL where its length is 0.
+ * A refusal changes none of the lent bytes.
+ */
+#ifndef PEER_H
+#define PEER_H
+
+#include <stddef.h>
+#include <stdint.h>
+
+struct peer_header {
+    uint64_t date, client, from, to;
+    uint8_t name[20];
+};
+
+/* number 0: rows filled and warnings; number 16: needed is the count of rows
+   the file asks for; any other number: the line (from 1) and byte offset. */
+struct peer_answer {
+    uint64_t number, line, byte, rows, warnings, needed;
+    struct peer_header header;
+};
+
+struct peer_answer peer_read(const uint8_t *file, size_t len, uint64_t sheet,
+                             uint64_t today, uint8_t *rows, size_t rows_len);
+
+/* number 0: bytes written; number 16: bytes needed; numbers 20 and 21: the row
+   (0 is the header) and the field. */
+struct peer_written {
+    uint64_t number, row, field, bytes;
+};
+
+struct peer_written peer_write(const uint8_t *rows, size_t rows_len,
+                               const uint8_t *texts, size_t texts_len,
+                               uint64_t date, const uint8_t *name,
+                               size_t name_len, uint64_t client, uint64_t from,
+                               uint64_t to, uint64_t sheet, uint64_t today,
+                               uint8_t *out, size_t out_len);
+
+/* number 0 with the bytes written, or 16 with the bytes needed. */
+struct peer_text {
+    uint64_t number, bytes;
+};
+
+/* One line on how reading would answer: `refused N line L byte B` or
+   `accepted rows R warnings W`, and LF. */
+struct peer_text peer_explain(const uint8_t *file, size_t len, uint64_t sheet,
+                              uint64_t today, uint8_t *out, size_t out_len);
+
+/* The rewriting program on slices: a sheet letter, a space, today as DDMMRR,
+   a line end and a file come in; the canonical file or a refused line goes
+   out.  Takes about 110 KiB of stack for its rows. */
+struct peer_text peer_rewrite(const uint8_t *in, size_t in_len, uint8_t *out,
+                              size_t out_len);
+
+#endif

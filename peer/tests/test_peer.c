@@ -1,0 +1,17 @@
+/* Runs every group; the last line of the output is the two counts. */
+#include "check.h"
+
+int main(void)
+{
+    test_document();
+    test_readings();
+    test_fields();
+    test_texts();
+    test_writing();
+    test_rewriting();
+    test_samples();
+    test_random();
+    free(test_out);
+    printf("%lu %lu\n", test_passed, test_failed);
+    return test_failed == 0 ? 0 : 1;
+}
