@@ -1,0 +1,258 @@
+#!/usr/bin/env python3
+"""tools/crosscheck.py LIBPEER FOLDER SEED FILES BATCHES
+
+Writes FOLDER/Cases.antt: what the second program (LIBPEER) answers for random files and batches, as equations over the
+definitions of crates/paper. Prints how many equations there are. tools/crosscheck.sh has them checked."""
+import ctypes
+import random
+import re
+import struct
+import sys
+
+U64, SIZE, BYTES = ctypes.c_uint64, ctypes.c_size_t, ctypes.c_char_p
+ROW = 192
+
+
+class Header(ctypes.Structure):
+    _fields_ = [("date", U64), ("client", U64), ("start", U64), ("end", U64), ("name", ctypes.c_uint8 * 20)]
+
+
+class Answer(ctypes.Structure):
+    _fields_ = [(n, U64) for n in ("number", "line", "byte", "rows", "warnings", "needed")] + [("header", Header)]
+
+
+class Written(ctypes.Structure):
+    _fields_ = [(n, U64) for n in ("number", "row", "field", "bytes")]
+
+
+def load(path):
+    lib = ctypes.CDLL(path)
+    lib.peer_read.restype = Answer
+    lib.peer_read.argtypes = [BYTES, SIZE, U64, U64, BYTES, SIZE]
+    lib.peer_write.restype = Written
+    lib.peer_write.argtypes = [BYTES, SIZE, BYTES, SIZE, U64, BYTES, SIZE, U64, U64, U64, U64, U64, BYTES, SIZE]
+    return lib
+
+
+# ---- files: the pieces of which lines are made, the usual one first
+
+HEAD = b"UHL1010118" + b"RYBNIKY".ljust(20) + b"1234567890" + b"001900" + b"000000000000"
+BANK = {1: b"8100", 2: b"0800", 3: b"0300", 4: b"6100"}
+ACCOUNTS = [b"19-19", b"5152046", b"174-1999738514", b"500005-2267100237", b"705", b"000019-0000000019", b"190000000019",
+            b"0", b"00", b"000-00", b"9", b"1234567890", b"19-", b"-19", b"1-9-9", b"", b"0" * 17, b"0" * 18, b"2267100237"]
+AMOUNTS = [b"5001", b"1", b"0", b"0005001", b"50,01", b",50", b"3500,0", b"9" * 14, b"9" * 12, b"1" + b"0" * 12,
+           b"1" + b"0" * 14, b"5001a"]
+DATES = [b"020118", b"20180102", b"311218", b"010119", b"020119", b"311217", b"290218", b"20191231", b"320118", b"0201180",
+         b"20180132", b"200102"]
+BANKS = [b"03000558", b"0781000558", b"0181000558", b"00000558", b"1081000558", b"981000558", b"0281000558", b"0300055",
+         b"03000558x", b"00003000558"]
+SYMBOLS = [b"42", b"0042", b"0", b"12345678901", b"", b"x"]
+TAILS = [b"", b" 17", b" 17 AV:led", b" AV:led", b" 17 led", b" ", b" 17 ", b" 12345678901", b"  led", b" 0  ", b"  a|b",
+         b" 17 AV:a|b|c|d", b" 17 AV:a|b|c|d|e", b" 1 AV:" + b"x" * 36, b" 1 AV: NP:Jan", b" 1 NP:Jan",
+         b" 1 AV:a|b NP:Jan NP:K", b"  ", b" 5 " + b"z" * 35, b"  " + b"z" * 36, b" 1 AV:||||", b" 1 AV:|||", b" 1 AV:\x01",
+         b" 1  AV:x", b" 1 AV:" + b"y" * 36 + b" NP:" + b"n" * 36]
+USUAL_TAILS = {1: [b"", b" 17 AV:led"], 2: [b"  ", b" 17 led"], 3: [b"", b" led"], 4: [b"", b" 17 AV:led"]}
+NO_PAYER = {1: [b"", b"0 "], 2: [b" "], 3: [b""], 4: [b" ", b"00-0 "]}
+ENDS = [b"\n", b"\r\n", b"\r"]
+
+
+class Files:
+    def __init__(self, rnd):
+        self.rnd = rnd
+
+    def one(self, pieces, usual=1):
+        """one of the usual pieces, seldom another"""
+        return self.rnd.choice(pieces[:usual] if self.rnd.random() < self.good else pieces)
+
+    def item(self, sheet, single):
+        payer = self.one(ACCOUNTS) + b" " if single else b""
+        tail = self.rnd.choice(USUAL_TAILS[sheet]) if self.rnd.random() < self.good else self.rnd.choice(TAILS)
+        return payer + b" ".join([self.one(ACCOUNTS, 5), self.one(AMOUNTS), self.one(SYMBOLS), self.one(BANKS)]) + tail
+
+    def group(self, sheet):
+        single = self.rnd.random() < 0.4
+        count = self.rnd.choice([1, 1, 2])
+        payer = self.rnd.choice(NO_PAYER[sheet]) if single else self.one(ACCOUNTS) + b" "
+        total = self.one([b"%d" % (5001 * count)] + AMOUNTS)
+        lines = [b"2 " + payer + total + b" " + self.one(DATES)]
+        lines += [self.item(sheet, single) for _ in range(count)]
+        return lines + [self.one([b"3 +", b"3+", b"3 ", b"3 x", b"3+x", b"3 + ", b"3", b""])]
+
+    def first(self):
+        chance = self.rnd.random()
+        if chance < 0.1:
+            return HEAD[:self.rnd.choice([46, 52, 57, 40, 30, 4, 12])]
+        if chance < 0.15:
+            at = self.rnd.randrange(len(HEAD))
+            return HEAD[:at] + self.rnd.choice([b"0", b"9", b" ", b"\x01", b"A"]) + HEAD[at + 1:]
+        return HEAD
+
+    def file(self, sheet):
+        self.good = self.rnd.choice([1.0, 0.97, 0.9, 0.8])
+        lines = [self.first()]
+        for i in range(self.rnd.choice([1, 1, 1, 2])):
+            kind = self.one([b"1501", b"1502", b"1505"])
+            number = self.one([b"%03d000" % (i + 1), b"001000", b"950000", b"000000", b"00100", b"001500"])
+            lines.append(b" ".join([b"1", kind, number, self.one([BANK[sheet], b"0300", b"08100", b"abcd"])]))
+            for _ in range(self.rnd.choice([1, 1, 2])):
+                lines += self.group(sheet)
+            lines.append(self.one([b"5 +", b"5+", b"5 ", b"5x", b"5 ++"]))
+        if self.rnd.random() < 0.05:
+            lines.pop(self.rnd.randrange(len(lines)))
+        if self.rnd.random() < 0.05:
+            lines.insert(self.rnd.randrange(len(lines) + 1), self.rnd.choice([b"", b"3 +", b"x", b"2 5001 020118"]))
+        end = self.rnd.choice(ENDS)
+        text = b"".join(s + (end if self.rnd.random() < 0.95 else self.rnd.choice(ENDS)) for s in lines)
+        if self.rnd.random() < 0.2:
+            text = text.rstrip(b"\r\n")
+        if text and self.rnd.random() < 0.15:
+            at = self.rnd.randrange(len(text))
+            text = text[:at] + bytes([self.rnd.choice([32, 48, 13, 10, 124, 1, 200, 43])]) + text[at + 1:]
+        return text
+
+
+# ---- batches: rows of words, the usual value first
+
+TEXTS = b"led ryby NP:Jan|x" + b"abcdefghijklmnopqrstuvwxyzABCDEFGHIJKLMN" + b"\x01 NP: zz"
+LAST = 2 ** 64 - 1
+GOOD_ACCOUNTS = [(19, 19), (0, 705), (174, 1999738514), (500005, 2267100237)]
+BAD_ACCOUNTS = [(0, 0), (19, 19), (1, 19), (19, 9), (10 ** 6, 19), (19, 10 ** 10), (LAST, LAST)]
+SPANS = [(0, 0), (0, 3), (4, 12), (8, 7), (8, 9), (17, 35), (17, 36), (17, 0), (len(TEXTS), 0), (len(TEXTS) + 1, 0),
+         (len(TEXTS) - 2, 3), (LAST, 2), (2 ** 63, 2 ** 63), (57, 1), (58, 4), (3, 1)]
+
+
+class Batches:
+    def __init__(self, rnd):
+        self.rnd = rnd
+
+    def one(self, values):
+        return values[0] if self.rnd.random() < self.good else self.rnd.choice(values)
+
+    def account(self, missing):
+        if self.rnd.random() < self.good:
+            return (0, 0) if missing else self.rnd.choice(GOOD_ACCOUNTS)
+        return self.rnd.choice(BAD_ACCOUNTS)
+
+    def span(self, usual):
+        return self.rnd.choice(usual) if self.rnd.random() < self.good else self.rnd.choice(SPANS)
+
+    @staticmethod
+    def row(*words):
+        return struct.pack("<24Q", *(list(words) + [0] * (24 - len(words))))
+
+    def item(self, sheet, single):
+        words = [self.one([3, 1, 2, 4]), *self.account(not single), *self.account(False), self.one([300, 0, 1, 9999, 10000]),
+                 self.one([5001, 0, 10 ** 12 - 1, 10 ** 12, 10 ** 14 - 1, 10 ** 14, LAST]), self.one([42, 10 ** 10, 0]),
+                 self.one([17, 0, 10 ** 10, 5]), self.one([558, 10 ** 4, 9999]), self.one([5, 2, 3, 9, 10, 7])]
+        for part in range(4):
+            words += self.span([(0, 0), (0, 3), (4, 4)] if part == 0 else [(0, 0)])
+        words += self.span([(0, 0), (0, 3)] if sheet == 3 else [(0, 0)])
+        return self.row(*(words + [self.rnd.choice([0, 5])] * 3))
+
+    def rows(self, sheet):
+        self.good = self.rnd.choice([1.0, 0.99, 0.97, 0.9])
+        rows = b""
+        for i in range(self.rnd.choice([1, 1, 2])):
+            rows += self.row(self.one([1, 0, 2, 3, 7]), self.one([1501, 1502, 1504, 1505, 1500]),
+                             self.one([1000 * (i + 1), 0, 999999, 1000000, 1999]))
+            for _ in range(self.rnd.choice([1, 1, 2])):
+                payer = self.account(self.rnd.random() < 0.4)
+                date = self.one([20180102, 20180101, 20181231, 20190101, 20190102, 20171231, 20180229, 0])
+                rows += self.row(self.one([2, 1, 3]), date, *payer)
+                for _ in range(self.rnd.choice([1, 1, 2]) if self.rnd.random() < self.good else 0):
+                    rows += self.item(sheet, payer == (0, 0))
+        if self.rnd.random() < 0.05:
+            rows = rows[:-self.rnd.randrange(1, 300)]
+        return rows if self.rnd.random() < 0.97 else b""
+
+    def header(self):
+        return (self.one([20180101, 0, 20180230, 20991231]),
+                self.one([b"FIRMA".ljust(20), b"JAN", b"\x7f" * 20, b""]),
+                self.one([1234567890, 10 ** 10, 0]), self.one([0, 5, 999, 1000]), self.one([999, 0, 1000, 4]))
+
+
+# ---- equations
+
+def listed(data):
+    return "".join("%d ∷ " % b for b in data) + "[]"
+
+
+def quoted(data):
+    """bytes as a definition has them: in quotes where they are plain letters"""
+    if any(b > 126 or (b < 32 and b not in (10, 13)) for b in data):
+        return listed(data)
+    text = data.decode("ascii").replace("\\", "\\\\").replace('"', '\\"').replace("\n", "\\n").replace("\r", "\\r")
+    return 'bytes "%s"' % text
+
+
+def header_of(date, name, client, start, end):
+    return "record { date = %d; name = %s; client = %d; from = %d; to = %d }" % (date, listed(name), client, start, end)
+
+
+def file_cases(lib, rnd, count):
+    make = Files(rnd)
+    for _ in range(count):
+        sheet = rnd.randrange(1, 5) if rnd.random() < 0.97 else rnd.choice([0, 5, 2 ** 63])
+        text = make.file(sheet if sheet in BANK else 3)
+        today = 20180101 if rnd.random() < 0.97 else rnd.choice([20171231, 20180230, 0])
+        room = rnd.choice([40, 40, 40, 3])
+        lent = ctypes.create_string_buffer(ROW * room)
+        a = lib.peer_read(text, len(text), sheet, today, lent, ROW * room)
+        asked = "%d %d (%s)" % (sheet, today, quoted(text))
+        h = a.header
+        yield ("readAnswer %s (blanks %d) ≡ record { number = %d; line = %d; byte = %d; rows = %d; warnings = %d; needed = %d; header = %s }"
+               % (asked, ROW * room, a.number, a.line, a.byte, a.rows, a.warnings, a.needed,
+                  header_of(h.date, bytes(h.name), h.client, h.start, h.end)))
+        if a.number == 0:
+            kept = min(ROW * a.rows + 3, ROW * room)
+            yield "rowsAfter %s (blanks %d) ≡ (%s)" % (asked, kept, listed(lent.raw[:kept]))
+
+
+def batch_cases(lib, rnd, count):
+    make = Batches(rnd)
+    for _ in range(count):
+        sheet = rnd.randrange(1, 5) if rnd.random() < 0.97 else rnd.choice([0, 5])
+        rows = make.rows(sheet)
+        h = make.header()
+        today = 20180101 if rnd.random() < 0.97 else rnd.choice([20180230, 0])
+        room = rnd.choice([4096, 4096, 4096, 10, 0])
+        out = ctypes.create_string_buffer(room)
+        a = lib.peer_write(rows, len(rows), TEXTS, len(TEXTS), h[0], h[1], len(h[1]), h[2], h[3], h[4], sheet, today, out, room)
+        asked = "(draft %d %d (%s) (%s) (%s))" % (sheet, today, header_of(*h), listed(rows), listed(TEXTS))
+        yield "writtenIn %d %s ≡ record { number = %d; row = %d; field = %d; bytes = %d }" % (
+            room, asked, a.number, a.row, a.field, a.bytes)
+        if a.number == 0:
+            yield "%s ≡ drafted (%s)" % (asked, quoted(out.raw[:a.bytes]))
+
+
+def definitions():
+    """the modules to import, and every definition that the prover has to see through"""
+    paths = [("Rattle.base.specs.Pick", "crates/base/specs/Pick.antt"), ("Rattle.base.specs.Seek", "crates/base/specs/Seek.antt"),
+             ("Rattle.sheet.specs.Sheets", "crates/sheet/specs/Sheets.antt")]
+    for m in re.findall(r"^pub mod (\w+)", open("crates/paper/specs/Lib.antt").read(), re.M):
+        paths.append(("Rattle.paper.specs." + m, "crates/paper/specs/%s.antt" % m))
+    uses, names = [], []
+    for module, path in paths:
+        found = [n for n in re.findall(r"^\s*unfoldable pub (\S+) :", open(path).read(), re.M) if n not in names]
+        if found:
+            uses.append("use %s.{%s}" % (module, ", ".join(found)))
+        names += found
+    return uses, names
+
+
+def main():
+    lib, folder = load(sys.argv[1]), sys.argv[2]
+    rnd = random.Random(int(sys.argv[3]))
+    cases = list(file_cases(lib, rnd, int(sys.argv[4]))) + list(batch_cases(lib, rnd, int(sys.argv[5])))
+    uses, names = definitions()
+    with open(folder + "/Lib.antt", "w") as f:
+        f.write("pub mod Cases\n")
+    with open(folder + "/Cases.antt", "w") as f:
+        f.write("use Prim.Native.Nat.{ℕ, suc}\nuse mathlib.Core.List.{List, [], _∷_}\nuse mathlib.Core.Path.{_≡_, refl}\n")
+        f.write("use Rattle.paper.specs.Bytes.{bytes}\nuse Rattle.paper.specs.Writing.{drafted}\n" + "\n".join(uses) + "\n")
+        for i, case in enumerate(cases):
+            f.write("\ncase%d : %s\nunfolding %s\ncase%d = refl\n" % (i, case, " ".join(names), i))
+    print(len(cases))
+
+
+main()
