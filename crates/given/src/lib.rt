@@ -1,0 +1,1 @@
+// Laws of a field that is read on. No code.

@@ -1,0 +1,68 @@
+-- `next_line` meets its contract: no byte passed ends a line, and each `return` stands at a line's end. Assumes nothing.
+use Prim.Native.Nat.{_-_}
+use lib.ListN.{length}
+use mathlib.Core.Logic.{⊎-elim}
+use native.Mathlib.Omega.{arith}
+use Rattle.line.proofs.Plain.{is-plain, high-plain}
+use Rattle.line.proofs.Cutting.{Passed, passed-none, passed-more, cuts}
+use borrow.Author.Needs.{needs}
+use Rattle.line.proofs.next_line.Statement.{statement}
+use Rattle.line.proofs.next_line.Tie as tie
+use Rattle.line.proofs.next_line.Reads as reads
+use Rattle.line.proofs.next_line.Lts as lts
+use Rattle.line.proofs.past_cr.Reads as past-cr-reads
+
+abbrev Inv-loop : tie.InvT-loop
+Inv-loop f at i₀ i = Passed f at i
+
+abbrev μ-loop : tie.MeasureT-loop
+μ-loop f at i₀ i = length f - i
+
+loop-holds : tie.Need-loop-holds Inv-loop μ-loop
+loop-holds c = search passed-none
+
+shared-slice-read-b : tie.Need-shared-slice-read-b Inv-loop μ-loop
+shared-slice-read-b c = search needs
+
+add-t10 : tie.Need-add-t10 Inv-loop μ-loop
+add-t10 c = search needs
+
+returns : tie.Need-returns Inv-loop μ-loop
+returns c = search cuts
+
+past-cr-requires : tie.Need-past-cr-requires Inv-loop μ-loop
+past-cr-requires c κs = search needs
+
+returns-2 : tie.Need-returns-2 Inv-loop μ-loop
+returns-2 c = search cuts
+
+add-i : tie.Need-add-i Inv-loop μ-loop
+add-i c = search needs
+
+loop-less : tie.Need-loop-less Inv-loop μ-loop
+loop-less c = search needs
+
+loop-again : tie.Need-loop-again Inv-loop μ-loop
+loop-again c =
+    passed-more _ _ _ (c .before .before .before .loop .inv) (c .before .before .loop-test .taken)
+    (⊎-elim (λ w. is-plain _ (w .1 .left) (w .2 .left)) (λ w. high-plain _ (omega arith)) (c .if1 .came))
+
+returns-3 : tie.Need-returns-3 Inv-loop μ-loop
+returns-3 c = search cuts
+
+pub next-line-spec : {M : Type 1} → statement M
+next-line-spec =
+    tie.close
+    (tie.spec
+    Inv-loop
+    μ-loop
+    loop-holds
+    shared-slice-read-b
+    add-t10
+    returns
+    past-cr-requires
+    returns-2
+    add-i
+    loop-less
+    loop-again
+    returns-3)
