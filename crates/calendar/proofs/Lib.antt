@@ -1,0 +1,10 @@
+pub mod Below
+pub mod Real
+pub mod Number
+pub mod Order
+pub mod Next
+pub mod Due
+pub mod Reading
+pub mod Sound
+pub mod Back
+pub mod Examples

@@ -1,0 +1,32 @@
+-- `due_allowed` tells the days of a sheet.
+use borrow.Author.Needs.{needs}
+use Rattle.calendar.proofs.Due.{dues}
+use Rattle.calendar.proofs.due_allowed.Statement.{statement}
+use Rattle.calendar.proofs.due_allowed.Tie as tie
+use Rattle.calendar.proofs.due_allowed.Reads as reads
+use Rattle.calendar.proofs.due_allowed.Lts as lts
+use Rattle.calendar.proofs.day_number.Reads as day-number-reads
+
+-- src/lib.rt:76:9
+returns : tie.Need-returns
+returns c = search dues
+
+-- src/lib.rt:78:5
+day-number-requires : tie.Need-day-number-requires
+day-number-requires c κs = search needs
+
+-- src/lib.rt:78:21
+day-number-requires-2 : tie.Need-day-number-requires-2
+day-number-requires-2 c κs = search needs
+
+-- src/lib.rt:78:5
+sub-result : tie.Need-sub-result
+sub-result c = search (dues, needs)
+
+-- src/lib.rt:70:1
+returns-2 : tie.Need-returns-2
+returns-2 c = search dues
+
+pub due-allowed-spec : {M : Type 1} → statement M
+due-allowed-spec =
+    tie.close (tie.spec returns day-number-requires day-number-requires-2 sub-result returns-2)

@@ -1,0 +1,26 @@
+-- `only_real` refuses what is no day by 11.
+use borrow.Author.Needs.{needs}
+use Rattle.paper.specs.Days.{real}
+use Rattle.calendar.proofs.Reading.{reading}
+use Rattle.calendar.proofs.only_real.Statement.{statement}
+use Rattle.calendar.proofs.only_real.Tie as tie
+use Rattle.calendar.proofs.only_real.Reads as reads
+use Rattle.calendar.proofs.only_real.Lts as lts
+use Rattle.calendar.proofs.real_day.Reads as real-day-reads
+
+-- src/lib.rt:104:8
+real-day-requires : tie.Need-real-day-requires
+real-day-requires c κs = search needs
+
+-- src/lib.rt:105:9
+returns : tie.Need-returns
+unfolding real
+returns c = search reading
+
+-- src/lib.rt:101:1
+returns-2 : tie.Need-returns-2
+unfolding real
+returns-2 c = search reading
+
+pub only-real-spec : {M : Type 1} → statement M
+only-real-spec = tie.close (tie.spec real-day-requires returns returns-2)

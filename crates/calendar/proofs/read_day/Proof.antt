@@ -1,0 +1,44 @@
+-- `read_day` reads a date in the forms that a sheet takes.
+use borrow.Author.Needs.{needs}
+use Rattle.calendar.proofs.Reading.{reading}
+use Rattle.calendar.proofs.read_day.Statement.{statement}
+use Rattle.calendar.proofs.read_day.Tie as tie
+use Rattle.calendar.proofs.read_day.Reads as reads
+use Rattle.calendar.proofs.read_day.Lts as lts
+use Rattle.calendar.proofs.read_long.Reads as read-long-reads
+use Rattle.calendar.proofs.read_short.Reads as read-short-reads
+
+-- src/lib.rt:136:13
+read-long-requires : tie.Need-read-long-requires
+read-long-requires c κs = search needs
+
+-- src/lib.rt:136:13
+returns : tie.Need-returns
+returns c = search reading
+
+-- src/lib.rt:138:9
+read-short-requires : tie.Need-read-short-requires
+read-short-requires c κs = search needs
+
+-- src/lib.rt:138:9
+returns-2 : tie.Need-returns-2
+returns-2 c = search reading
+
+-- src/lib.rt:140:5
+read-short-requires-2 : tie.Need-read-short-requires-2
+read-short-requires-2 c κs = search needs
+
+-- src/lib.rt:131:1
+returns-3 : tie.Need-returns-3
+returns-3 c = search reading
+
+pub read-day-spec : {M : Type 1} → statement M
+read-day-spec =
+    tie.close
+    (tie.spec
+    read-long-requires
+    returns
+    read-short-requires
+    returns-2
+    read-short-requires-2
+    returns-3)

@@ -1,0 +1,9 @@
+pub mod Digits
+pub mod Fixed
+pub mod Counting
+pub mod Store
+pub mod Plain
+pub mod Sound
+pub mod Long
+pub mod Back
+pub mod Split
