@@ -1,0 +1,33 @@
+-- `fits::part_proper` meets its contract. Assumes nothing.
+use borrow.Author.Needs.{needs}
+use Rattle.base.proofs.Cases.{picks}
+use Rattle.paper.specs.Texts.{partProper}
+use Rattle.fits.proofs.part_proper.Statement.{statement}
+use Rattle.fits.proofs.part_proper.Tie as tie
+
+name-proper-requires : tie.Need-name-proper-requires
+name-proper-requires c κs = search needs
+
+slice-aggregate-lacks-pattern : tie.Need-slice-aggregate-lacks-pattern
+slice-aggregate-lacks-pattern c = search needs
+
+lacks-pattern-requires : tie.Need-lacks-pattern-requires
+lacks-pattern-requires c κs = search needs
+
+returns : tie.Need-returns
+unfolding partProper
+returns c = search (picks)
+
+returns-2 : tie.Need-returns-2
+unfolding partProper
+returns-2 c = search (picks)
+
+pub part-proper-spec : {M : Type 1} → statement M
+part-proper-spec =
+    tie.close
+    (tie.spec
+    name-proper-requires
+    slice-aggregate-lacks-pattern
+    lacks-pattern-requires
+    returns
+    returns-2)

@@ -1,0 +1,64 @@
+// Tests of the parts of a message and of a name: what a batch may hold, and what a sheet can carry.
+ghost use mathlib.Core.Path.{_≡_};
+ghost use mathlib.Core.Bool.{true};
+ghost use lib.Dec.{ltb};
+ghost use Rattle.base.specs.Pick.{pick};
+ghost use Rattle.paper.specs.Bytes.{null};
+ghost use Rattle.paper.specs.Texts.{nameProper, partProper, partCarried, nameCarried};
+use sheet::Style;
+
+// A name, or a part but for its bars: 0 to 35 text bytes.
+pub fn name_proper(n: &[u8]) -> bool
+    ensures { λ r. ⌜ r ≡ nameProper (now (n .entry)) ⌝ }
+{
+    if 35 < n.len() {
+        return false;
+    }
+    seek::all_text(n, 0)
+}
+
+// A part: 0 to 35 text bytes, none of them `|`.
+pub fn part_proper(p: &[u8]) -> bool
+    ensures { λ r. ⌜ r ≡ partProper (now (p .entry)) ⌝ }
+{
+    if name_proper(p) {
+        return seek::lacks_pattern(p, b"|");
+    }
+    false
+}
+
+// Part i has a place on the sheet, or needs none because it is empty.
+fn has_place(y: Style, i: usize, p: &[u8]) -> bool
+    ensures { λ r. ⌜ r ≡ pick (ltb i (y .most)) true (null (now (p .entry))) ⌝ }
+{
+    let most = y.most;
+    if i < most {
+        return true;
+    }
+    p.len() == 0
+}
+
+// The sheet can carry p as part i, from 0 on. Where names are, ` NP:` in a part would come back as a name.
+pub fn part_carried(y: Style, i: usize, p: &[u8]) -> bool
+    ensures { λ r. ⌜ r ≡ partCarried y i (now (p .entry)) ⌝ }
+{
+    if has_place(y, i, p) {
+        let names = y.names;
+        if names {
+            return seek::lacks_pattern(p, b" NP:");
+        }
+        return true;
+    }
+    false
+}
+
+// The sheet can carry n as the name.
+pub fn name_carried(y: Style, n: &[u8]) -> bool
+    ensures { λ r. ⌜ r ≡ nameCarried y (now (n .entry)) ⌝ }
+{
+    let named = y.names;
+    if named {
+        return true;
+    }
+    n.len() == 0
+}
