@@ -1,0 +1,4 @@
+pub mod Exits
+pub mod Sound
+pub mod Back
+pub mod Edges

@@ -1,0 +1,20 @@
+-- `read_total` answers as its definition does.
+use borrow.Author.Needs.{needs}
+use Rattle.paper.specs.Amounts.{readTotal}
+use Rattle.amount.proofs.read_total.Statement.{statement}
+use Rattle.amount.proofs.read_total.Tie as tie
+use Rattle.amount.proofs.read_total.Reads as reads
+use Rattle.amount.proofs.read_total.Lts as lts
+use Rattle.amount.proofs.read_amount.Reads as read-amount-reads
+
+-- src/lib.rt:50:5
+read-amount-requires : tie.Need-read-amount-requires
+read-amount-requires c κs = search needs
+
+-- src/lib.rt:47:1
+returns : tie.Need-returns
+unfolding readTotal
+returns c = search needs
+
+pub read-total-spec : {M : Type 1} → statement M
+read-total-spec = tie.close (tie.spec read-amount-requires returns)

@@ -1,0 +1,6 @@
+pub mod Range
+pub mod Exits
+pub mod Sound
+pub mod Spelled
+pub mod Back
+pub mod Edges
