@@ -1,0 +1,131 @@
+// Four parts of a message and a name, by their places: found one after another, and cut.
+use seek::find;
+ghost use mathlib.Core.Path.{_≡_};
+ghost use Prim.Native.Nat.{_≤_};
+ghost use lib.ListN.{length, drop};
+ghost use Rattle.paper.specs.Texts.{others};
+ghost use Rattle.span.specs.Places.{partAt, placed, longer, cutsOf, foundAt, fourFrom};
+
+// A place in the line and a length.
+pub struct Span {
+    pub at: usize,
+    pub len: usize,
+}
+
+// Where four parts and a name stand, and how many of them were cut.
+pub struct Spans {
+    pub part1: Span,
+    pub part2: Span,
+    pub part3: Span,
+    pub part4: Span,
+    pub name: Span,
+    pub warnings: u64,
+}
+
+// A part before it is cut, and where the next one begins.
+pub struct Part {
+    pub at: usize,
+    pub len: usize,
+    pub next: usize,
+}
+
+// How many `|` stand in m at or after `from`.
+pub fn bars(m: &[u8], from: usize) -> usize
+    requires { ⌜ from ≤ length (now m) ⌝ }
+    ensures { λ r. ⌜ r ≡ length (others from (drop from (now (m .entry)))) ⌝ }
+{
+    let mut n = 0;
+    let mut i = from;
+    while i < m.len() {
+        if m[i] == 124 {
+            n += 1;
+            i += 1;
+        } else {
+            i += 1;
+        }
+    }
+    n
+}
+
+// The part of m that begins at `from`.
+fn part_at(m: &[u8], from: usize) -> Part
+    requires { ⌜ from ≤ length (now m) ⌝ }
+    ensures { λ r. ⌜ r ≡ partAt (now (m .entry)) from ⌝ }
+{
+    let end = find(m, from, b"|");
+    if end < m.len() {
+        return Part {
+            at: from,
+            len: end - from,
+            next: end + 1,
+        };
+    }
+    Part {
+        at: from,
+        len: end - from,
+        next: end,
+    }
+}
+
+// A text cut to 35; the place of an empty one is 0.
+fn place(at: usize, len: usize) -> Span
+    ensures { λ r. ⌜ r ≡ placed at len ⌝ }
+{
+    if len == 0 {
+        return Span { at: 0, len: 0 };
+    }
+    if 35 < len {
+        return Span { at, len: 35 };
+    }
+    Span { at, len }
+}
+
+// 1 if a text is cut.
+fn long(len: usize) -> u64
+    ensures { λ r. ⌜ r ≡ longer len ⌝ }
+    ensures { λ r. ⌜ r ≤ 1 ⌝ }
+{
+    if 35 < len {
+        return 1;
+    }
+    0
+}
+
+// How many of five texts are cut.
+fn cuts(a: usize, b: usize, c: usize, d: usize, n: usize) -> u64
+    ensures { λ r. ⌜ r ≡ cutsOf a b c d n ⌝ }
+{
+    long(a) + long(b) + long(c) + long(d) + long(n)
+}
+
+// The four parts and the name, cut, and how many were cut.
+fn gather(a: Part, b: Part, c: Part, d: Part, at: usize, len: usize) -> Spans
+    ensures { λ r. ⌜ r ≡ foundAt a b c d at len ⌝ }
+{
+    let part1 = place(a.at, a.len);
+    let part2 = place(b.at, b.len);
+    let part3 = place(c.at, c.len);
+    let part4 = place(d.at, d.len);
+    let name = place(at, len);
+    let warnings = cuts(a.len, b.len, c.len, d.len, len);
+    Spans {
+        part1,
+        part2,
+        part3,
+        part4,
+        name,
+        warnings,
+    }
+}
+
+// The parts of m from `from` on, up to four, and a name at its place.
+pub fn four_from(m: &[u8], from: usize, at: usize, len: usize) -> Spans
+    requires { ⌜ from ≤ length (now m) ⌝ }
+    ensures { λ r. ⌜ r ≡ fourFrom (now (m .entry)) from at len ⌝ }
+{
+    let a = part_at(m, from);
+    let b = part_at(m, a.next);
+    let c = part_at(m, b.next);
+    let d = part_at(m, c.next);
+    gather(a, b, c, d, at, len)
+}

@@ -1,0 +1,4 @@
+pub mod Turns
+pub mod Right
+pub mod Exits
+pub mod Laws

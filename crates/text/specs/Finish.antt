@@ -1,0 +1,21 @@
+-- How the parts and the name of a text are judged, in the order of the code. Assumes nothing.
+use Prim.Native.Nat.{ℕ}
+use mathlib.Core.List.{List}
+use lib.Dec.{eqb, leb}
+use lib.ListN.{length, drop}
+use Rattle.base.specs.Pick.{pick}
+use Rattle.sheet.specs.declared.Style.{Style}
+use Rattle.paper.specs.Texts.{others}
+use Rattle.span.specs.declared.Spans.{Spans}
+use Rattle.span.specs.Places.{fourFrom}
+use Rattle.text.specs.declared.TextRead.{TextRead}
+use Rattle.text.specs.declared.TextRead.the-variants as answer
+
+-- cut where the sheet cuts, else refused
+unfoldable pub judged : Style → Spans → TextRead
+judged y f = pick (y .cuts) (answer.Texts f) (pick (eqb (f .warnings) 0) (answer.Texts f) (answer.Refused 14))
+
+-- the message's parts from `from` to the end of m, and a name
+unfoldable pub finishAt : Style → List ℕ → ℕ → ℕ → ℕ → TextRead
+finishAt y m from at len =
+    pick (leb (y .most) (length (others from (drop from m)))) (answer.Refused 14) (judged y (fourFrom m from at len))
