@@ -1,0 +1,9 @@
+pub mod Rule
+pub mod Bytes
+pub mod Zeros
+pub mod Exits
+pub mod Spelled
+pub mod Proper
+pub mod Plain
+pub mod Sound
+pub mod Back

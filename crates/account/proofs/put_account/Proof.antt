@@ -1,0 +1,54 @@
+-- `put_account`: with and without a prefix; room for each part, and the parts written one behind the other.
+use borrow.Author.Needs.{needs}
+use Rattle.account.proofs.Spelled.{spelled}
+use Rattle.account.proofs.put_account.Statement.{statement}
+use Rattle.account.proofs.put_account.Tie as tie
+use Rattle.account.proofs.put_account.Reads as reads
+use Rattle.account.proofs.put_account.Lts as lts
+use Rattle.numeral.proofs.put_number.Reads as put-number-reads
+use Rattle.put.proofs.put_byte.Reads as put-byte-reads
+
+-- src/lib.rt:222:9
+put-number-requires : tie.Need-put-number-requires
+put-number-requires c κs = search (spelled, needs)
+
+-- src/lib.rt:222:9
+same-length : tie.Need-same-length
+same-length c = search needs
+
+-- src/lib.rt:222:9
+returns : tie.Need-returns
+returns c = search spelled
+
+-- src/lib.rt:224:9
+put-number-requires-2 : tie.Need-put-number-requires-2
+put-number-requires-2 c κs = search (spelled, needs)
+
+-- src/lib.rt:225:9
+put-byte-requires : tie.Need-put-byte-requires
+put-byte-requires c κs = search (spelled, needs)
+
+-- src/lib.rt:226:5
+put-number-requires-3 : tie.Need-put-number-requires-3
+put-number-requires-3 c κs = search (spelled, needs)
+
+-- src/lib.rt:217:1
+same-length-2 : tie.Need-same-length-2
+same-length-2 c = search needs
+
+-- src/lib.rt:217:1
+returns-2 : tie.Need-returns-2
+returns-2 c = search spelled
+
+pub put-account-spec : {M : Type 1} → statement M
+put-account-spec =
+    tie.close
+    (tie.spec
+    put-number-requires
+    same-length
+    returns
+    put-number-requires-2
+    put-byte-requires
+    put-number-requires-3
+    same-length-2
+    returns-2)

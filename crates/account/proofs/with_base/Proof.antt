@@ -1,0 +1,38 @@
+-- `with_base`: what the base says, read on.
+use borrow.Author.Needs.{needs}
+use Rattle.given.proofs.Steps.{steps}
+use Rattle.account.proofs.with_base.Statement.{statement}
+use Rattle.account.proofs.with_base.Tie as tie
+use Rattle.account.proofs.with_base.Reads as reads
+use Rattle.account.proofs.with_base.Lts as lts
+use Rattle.account.proofs.by_rule.Reads as by-rule-reads
+use Rattle.numeral.proofs.read_digits.Reads as read-digits-reads
+
+-- src/lib.rt:150:11
+read-digits-requires : tie.Need-read-digits-requires
+read-digits-requires c κs = search needs
+
+-- src/lib.rt:151:20
+enum-known-base : tie.Need-enum-known-base
+enum-known-base c = search needs
+
+-- src/lib.rt:151:29
+by-rule-requires : tie.Need-by-rule-requires
+by-rule-requires c κs = search needs
+
+-- src/lib.rt:152:22
+enum-known-n : tie.Need-enum-known-n
+enum-known-n c = search needs
+
+-- src/lib.rt:147:1
+returns : tie.Need-returns
+returns c = search steps
+
+-- src/lib.rt:147:1
+returns-2 : tie.Need-returns-2
+returns-2 c = search steps
+
+pub with-base-spec : {M : Type 1} → statement M
+with-base-spec =
+    tie.close
+    (tie.spec read-digits-requires enum-known-base by-rule-requires enum-known-n returns returns-2)

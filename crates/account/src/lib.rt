@@ -1,0 +1,227 @@
+// Accounts: the rule of their digits, how a field is read as an account or as a group's payer, and their one spelling.
+use numeral::Num;
+ghost use mathlib.Core.Path.{_≡_};
+ghost use mathlib.Core.Bool.{false};
+ghost use Prim.Native.Nat.{_+_, _≤_};
+ghost use lib.ListN.{length};
+ghost use Rattle.base.specs.Pick.{pick};
+ghost use Rattle.base.specs.Put.{Wrote};
+ghost use Rattle.base.specs.Seek.{all};
+ghost use Rattle.paper.specs.Bytes.{null};
+ghost use Rattle.paper.specs.Accounts.{account, weights, weighted, accountOk, ruled, twoParts, readAccount, accountProper, isNobody, spellAccount, zeros, onlyZeros, readPayer};
+ghost use Rattle.account.specs.Bytes.{isZero};
+ghost use Rattle.account.specs.Told.{told, withBase};
+
+// What a field says: an account's prefix and base, or the refusal's number. Nobody is prefix 0 and base 0.
+pub enum Acct {
+    Account(u64, u64),
+    Refused(u64),
+}
+
+const WEIGHTS: [u64; 10] = [1, 2, 4, 8, 5, 10, 9, 7, 3, 6];
+
+// The weighted sum of the last ten digits of n. Most prefixes are 0, so it ends with the digits that are left.
+fn weighted_sum(n: u64) -> u64
+    ensures { λ r. ⌜ r ≡ weighted weights n ⌝ }
+{
+    let mut m = n;
+    let mut sum: u64 = 0;
+    let mut i: usize = 0;
+    while 0 < m {
+        if 10 <= i {
+            return sum;
+        }
+        sum += WEIGHTS[i] * (m % 10);
+        m = m / 10;
+        i += 1;
+    }
+    sum
+}
+
+// Do prefix and base keep the rule? One digit times its weight never divides by 11, so a base whose sum does, and is not 0, has two
+// digits or more that are not zero: they need not be counted.
+pub fn account_ok(prefix: u64, base: u64) -> bool
+    ensures { λ r. ⌜ r ≡ accountOk prefix base ⌝ }
+{
+    if weighted_sum(prefix) % 11 != 0 {
+        return false;
+    }
+    let sum = weighted_sum(base);
+    if sum % 11 != 0 {
+        return false;
+    }
+    0 < sum
+}
+
+// Is it an account that a batch may hold?
+pub fn account_proper(prefix: u64, base: u64) -> bool
+    ensures { λ r. ⌜ r ≡ accountProper (account prefix base) ⌝ }
+{
+    if 1000000 <= prefix {
+        return false;
+    }
+    if 10000000000 <= base {
+        return false;
+    }
+    account_ok(prefix, base)
+}
+
+// Does it stand for no account?
+pub fn is_nobody(prefix: u64, base: u64) -> bool
+    ensures { λ r. ⌜ r ≡ isNobody (account prefix base) ⌝ }
+{
+    if prefix != 0 {
+        return false;
+    }
+    base == 0
+}
+
+// Is every byte a zero?
+fn all_zero(f: &[u8]) -> bool
+    ensures { λ r. ⌜ r ≡ all isZero (now (f .entry)) ⌝ }
+{
+    let mut i: usize = 0;
+    while i < f.len() {
+        if f[i] != 48 {
+            return false;
+        }
+        i += 1;
+    }
+    true
+}
+
+// Are they 1 to `most` zeros?
+fn some_zeros(f: &[u8], most: usize) -> bool
+    ensures { λ r. ⌜ r ≡ zeros most (now (f .entry)) ⌝ }
+{
+    if f.len() < 1 {
+        return false;
+    }
+    if most < f.len() {
+        return false;
+    }
+    all_zero(f)
+}
+
+// Is an account spelled with only zeros, where that is looked for?
+fn only_zeros(f: &[u8], allzero: bool) -> bool
+    ensures { λ r. ⌜ r ≡ pick allzero (onlyZeros (now (f .entry))) false ⌝ }
+{
+    if !allzero {
+        return false;
+    }
+    let n = f.len();
+    let d = find::find_byte(f, 0, 45);
+    if n <= d {
+        return some_zeros(f, 17);
+    }
+    if some_zeros(&f[0..d], 6) {
+        let from = d + 1;
+        return some_zeros(&f[from..n], 10);
+    }
+    false
+}
+
+// Is the field empty, where that is looked for?
+fn left_empty(f: &[u8], empty: bool) -> bool
+    ensures { λ r. ⌜ r ≡ pick empty (null (now (f .entry))) false ⌝ }
+{
+    if !empty {
+        return false;
+    }
+    f.len() == 0
+}
+
+// A prefix and a base as an account, 5 where they break the rule.
+fn by_rule(prefix: u64, base: u64) -> Acct
+    ensures { λ r. ⌜ told r ≡ ruled prefix base ⌝ }
+{
+    if account_ok(prefix, base) {
+        Acct::Account(prefix, base)
+    } else {
+        Acct::Refused(5)
+    }
+}
+
+// A base behind its prefix, which has been read.
+fn with_base(prefix: u64, b: &[u8], least: usize) -> Acct
+    ensures { λ r. ⌜ told r ≡ withBase least prefix (now (b .entry)) ⌝ }
+{
+    match numeral::read_digits(b, least, 10) {
+        Num::Value(base) => by_rule(prefix, base),
+        Num::Refused(n) => Acct::Refused(n),
+    }
+}
+
+// A prefix and a base.
+fn two_parts(p: &[u8], b: &[u8], least: usize) -> Acct
+    ensures { λ r. ⌜ told r ≡ twoParts least (now (p .entry)) (now (b .entry)) ⌝ }
+{
+    match numeral::read_digits(p, 1, 6) {
+        Num::Value(prefix) => with_base(prefix, b, least),
+        Num::Refused(n) => Acct::Refused(n),
+    }
+}
+
+// An account: a prefix, a dash and a base; a base alone, of `least` digits or more; or, if `joined`, prefix and base with no dash.
+pub fn read_account(f: &[u8], joined: bool, least: usize) -> Acct
+    ensures { λ r. ⌜ told r ≡ readAccount joined least (now (f .entry)) ⌝ }
+{
+    let n = f.len();
+    let d = find::find_byte(f, 0, 45);
+    if d < n {
+        let from = d + 1;
+        return two_parts(&f[0..d], &f[from..n], least);
+    }
+    if n <= 10 {
+        return with_base(0, f, least);
+    }
+    // more than ten digits and no dash
+    if joined {
+        let cut = n - 10;
+        return two_parts(&f[0..cut], &f[cut..n], 10);
+    }
+    Acct::Refused(4)
+}
+
+// A group's payer where its field stands: nobody if the field is empty (`empty`) or has only zeros (`allzero`), else an account. What
+// is an account does not have only zeros, so zeros are looked for only where there is none.
+pub fn read_payer(f: &[u8], empty: bool, allzero: bool, joined: bool, least: usize) -> Acct
+    ensures { λ r. ⌜ told r ≡ readPayer empty allzero joined least (now (f .entry)) ⌝ }
+{
+    if left_empty(f, empty) {
+        return Acct::Account(0, 0);
+    }
+    match read_account(f, joined, least) {
+        Acct::Account(prefix, base) => Acct::Account(prefix, base),
+        Acct::Refused(n) => if only_zeros(f, allzero) {
+            Acct::Account(0, 0)
+        } else {
+            Acct::Refused(n)
+        },
+    }
+}
+
+// How many bytes the account's spelling has.
+pub fn account_len(prefix: u64, base: u64) -> usize
+    ensures { λ r. ⌜ r ≡ length (spellAccount (account prefix base)) ⌝ }
+{
+    let w = numeral::width(base);
+    if prefix == 0 {
+        return w;
+    }
+    numeral::width(prefix) + 1 + w
+}
+
+// Writes the account at `at`, the prefix and its dash only where the prefix is not 0. Returns the next place.
+pub fn put_account(out: &mut [u8], at: usize, prefix: u64, base: u64) -> usize
+    requires { ⌜ at + length (spellAccount (account prefix base)) ≤ length (now out) ⌝ }
+    ensures { λ r. ⌜ Wrote (now (out .entry)) at (spellAccount (account prefix base)) (now (out .exit)) r ⌝ }
+{
+    if prefix == 0 {
+        return numeral::put_number(out, at, base);
+    }
+    let p = numeral::put_number(out, at, prefix);
+    let q = put::put_byte(out, p, 45);
+    numeral::put_number(out, q, base)
+}
