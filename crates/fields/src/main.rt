@@ -1,0 +1,130 @@
+// Reads fields and spells them canonically. Each line of standard input names a sheet by its letter and a field by another, as
+// `KA 19-19`: A an account, M an item's amount, D a due date (today is 1 January 2018), B a bank field. It is answered by the
+// canonical spelling, or by the number of the refusal.
+use account::Acct;
+use bank::BankRead;
+use numeral::Num;
+use sheet::Known;
+use sheet::Sheet;
+
+const TODAY: u64 = 20180101;
+
+fn refused(n: u64) {
+    io::write_all(1, b"refused ");
+    io::print_decimal(1, n);
+}
+
+fn show_account(sh: Sheet, f: &[u8]) {
+    match account::read_account(f, sh.joined, sh.basemin) {
+        Acct::Refused(n) => {
+            refused(n);
+        }
+        Acct::Account(prefix, base) => {
+            let mut out = [0; 64];
+            if account::account_len(prefix, base) <= 64 {
+                let end = account::put_account(&mut out, 0, prefix, base);
+                io::write_all(1, &out[0..end]);
+            }
+        }
+    }
+}
+
+fn show_amount(sh: Sheet, f: &[u8]) {
+    let most = sh.itemdigits;
+    if 19 < most {
+        return;
+    }
+    match amount::read_item_amount(f, sh.comma, most, sh.itemmax) {
+        Num::Refused(n) => {
+            refused(n);
+        }
+        Num::Value(v) => {
+            io::print_decimal(1, v);
+        }
+    }
+}
+
+fn show_date(sh: Sheet, f: &[u8]) {
+    if calendar::real_day(TODAY) {
+        match calendar::read_due(f, sh.longdate, sh.early, sh.ahead, TODAY) {
+            Num::Refused(n) => {
+                refused(n);
+            }
+            Num::Value(d) => {
+                let mut out = [0; 6];
+                calendar::put_day(&mut out, 0, d);
+                io::write_all(1, &out);
+            }
+        }
+    }
+}
+
+fn show_bank(sh: Sheet, f: &[u8]) {
+    match bank::read_bank(f, sh.priority) {
+        BankRead::Refused(n) => {
+            refused(n);
+        }
+        BankRead::Bank {
+            bank,
+            constant,
+            priority,
+            warnings,
+        } => {
+            spell_bank(bank, constant, priority);
+            if 0 < warnings {
+                io::write_all(1, b" (with a warning)");
+            }
+        }
+    }
+}
+
+fn spell_bank(bank: u64, constant: u64, priority: u64) {
+    let mut out = [0; 64];
+    if bank::bank_len(priority) <= 64 {
+        if bank <= 9999 {
+            if constant <= 9999 {
+                if priority <= 9 {
+                    let end = bank::put_bank(&mut out, 0, bank, constant, priority);
+                    io::write_all(1, &out[0..end]);
+                }
+            }
+        }
+    }
+}
+
+fn show(sh: Sheet, what: u8, f: &[u8]) {
+    match what {
+        65 => show_account(sh, f),
+        66 => show_bank(sh, f),
+        68 => show_date(sh, f),
+        77 => show_amount(sh, f),
+        _ => {
+            io::write_all(1, b"no such field");
+        }
+    }
+}
+
+fn answer(line: &[u8]) {
+    if line.len() < 3 {
+        io::write_all(1, b"no such field\n");
+        return;
+    }
+    match sheet::sheet_by(line[0]) {
+        Known::Nothing => refused(1),
+        Known::Sheet(sh) => show(sh, line[1], &line[3..]),
+    }
+    io::write_all(1, b"\n");
+}
+
+fn main() {
+    let mut buf = io::buffer();
+    let n = io::read_full(0, &mut buf);
+    let input = &buf[0..n];
+    let mut at = 0;
+    while at < input.len() {
+        let cut = line::next_line(input, at);
+        let stop = cut.stop;
+        answer(&input[at..stop]);
+        at = cut.next;
+    }
+}
