@@ -1,0 +1,30 @@
+-- `plussed` gives the kind of a line with a plus second. Assumes nothing.
+use borrow.Author.Needs.{needs}
+use Rattle.base.specs.Pick.{pick}
+use Rattle.kind.proofs.Starts.{byPlus, kinds}
+use Rattle.kind.proofs.plussed.Statement.{statement}
+use Rattle.kind.proofs.plussed.Tie as tie
+use Rattle.kind.proofs.plussed.Reads as reads
+use Rattle.kind.proofs.plussed.Lts as lts
+
+-- src/lib.rt:82:11
+shared-slice-read-match : tie.Need-shared-slice-read-match
+shared-slice-read-match c = search needs
+
+-- src/lib.rt:77:1
+returns : tie.Need-returns
+unfolding byPlus pick
+returns c = search kinds
+
+-- src/lib.rt:77:1
+returns-2 : tie.Need-returns-2
+unfolding byPlus pick
+returns-2 c = search kinds
+
+-- src/lib.rt:77:1
+returns-3 : tie.Need-returns-3
+unfolding byPlus pick
+returns-3 c = search kinds
+
+pub plussed-spec : {M : Type 1} → statement M
+plussed-spec = tie.close (tie.spec shared-slice-read-match returns returns-2 returns-3)

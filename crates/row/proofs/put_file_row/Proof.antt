@@ -1,0 +1,21 @@
+-- The words are those of the definition.
+use borrow.Author.Needs.{needs}
+use Rattle.paper.specs.Rows.{fileRow, blanks}
+use Rattle.row.proofs.put_file_row.Statement.{statement}
+use Rattle.row.proofs.put_file_row.Tie as tie
+use Rattle.row.proofs.put_file_row.Reads as reads
+use Rattle.row.proofs.put_file_row.Lts as lts
+use Rattle.row.proofs.put_row.Reads as put-row-reads
+
+put-row-requires : tie.Need-put-row-requires
+put-row-requires c κs = search needs
+
+same-length : tie.Need-same-length
+same-length c = search needs
+
+returns : tie.Need-returns
+unfolding fileRow blanks
+returns c = search needs
+
+pub put-file-row-spec : {M : Type 1} → statement M
+put-file-row-spec = tie.close (tie.spec put-row-requires same-length returns)

@@ -1,0 +1,12 @@
+use Rattle.seen.proofs.Laws.{holds-none}
+use Rattle.seen.proofs.Seen.none.Statement.{statement}
+use Rattle.seen.proofs.Seen.none.Tie as tie
+use Rattle.seen.proofs.Seen.none.Reads as reads
+use Rattle.seen.proofs.Seen.none.Lts as lts
+
+-- src/lib.rt:13:5
+returns : tie.Need-returns
+returns c = search holds-none
+
+pub none-spec : {M : Type 1} → statement M
+none-spec = tie.close (tie.spec returns)
