@@ -1,0 +1,4 @@
+pub mod Abs
+pub mod Same
+pub mod Light
+pub mod Small

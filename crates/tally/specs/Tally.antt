@@ -1,0 +1,161 @@
+-- The machine of numbers: what judging keeps between lines when it builds no batch. Each definition is the judge's of the same name, with a
+-- count in the place of a list; `proofs/Same.antt` says that both answer alike. Assumes nothing.
+use Prim.Native.Nat.{ℕ, suc, _+_}
+use mathlib.Core.Bool.{Bool, true, false}
+use mathlib.Core.List.{List, [], _∷_}
+use lib.Dec.{eqb, leb}
+use lib.ListN.{length}
+use Rattle.base.specs.Pick.{pick}
+use Rattle.sheet.specs.declared.Sheet.{Sheet}
+use Rattle.paper.specs.Accounts.{isNobody}
+use Rattle.paper.specs.Batch.{Batch, Header, things}
+use Rattle.paper.specs.Lines.{Line, linesOf}
+use Rattle.paper.specs.Entries.{Entry, Said, got, no, Kind, headLine, fileLine, groupLine, itemLine, groupEnd, fileEnd, kindOf}
+use Rattle.paper.specs.FileLine.{series}
+use Rattle.paper.specs.Spells.{Context, forHead, forFile, forGroup, forItem, readAs, differs}
+use Rattle.paper.specs.Judge.{Answer, Refused, Accepted, is, totalBroken, firstOr0, onHead, onFile, onGroup, onItem}
+
+-- the judge's answer in brief: number, line and byte; or the header and the counts of rows and warnings
+pub data Brief : Type 0 where
+  No : ℕ → ℕ → ℕ → Brief
+  Yes : Header → ℕ → ℕ → Brief
+
+unfoldable pub brief : Answer → Brief
+brief (Refused n l p) = No n l p
+brief (Accepted h b w) = Yes h (length (things b)) w
+
+-- of the file so far: the header, the first three digits of account files' numbers, account files, items, rows, warnings
+pub record Book : Type 0 where
+  pub head : Header
+  pub seen : List ℕ
+  pub files : ℕ
+  pub items : ℕ
+  pub rows : ℕ
+  pub warnings : ℕ
+
+-- of the open account file: items and closed groups
+pub record Shelf : Type 0 where
+  pub items : ℕ
+  pub groups : ℕ
+
+-- of the open group: whether it is single, its total with its place, the sum and count of its items
+pub record Open : Type 0 where
+  pub single : Bool
+  pub total : ℕ
+  pub line : ℕ
+  pub byte : ℕ
+  pub sum : ℕ
+  pub count : ℕ
+
+pub data Tally : Type 0 where
+  tFirst : Tally
+  tFile : Book → Tally
+  tGroup : Book → Shelf → Tally
+  tItem : Book → Shelf → Open → Tally
+  tStop : Brief → Tally
+
+abbrev pub newBook : Header → ℕ → Book
+newBook h w = record { head = h; seen = []; files = 0; items = 0; rows = 0; warnings = w }
+
+-- one account file, group or item more
+abbrev pub moreFile : Book → ℕ → ℕ → Book
+moreFile b number v =
+    record { head = b .head; seen = series number ∷ b .seen; files = b .files + 1; items = b .items; rows = b .rows + 1; warnings = b .warnings + v }
+
+abbrev pub moreGroup : Book → ℕ → Book
+moreGroup b v = record { head = b .head; seen = b .seen; files = b .files; items = b .items; rows = b .rows + 1; warnings = b .warnings + v }
+
+abbrev pub moreItem : Book → ℕ → Book
+moreItem b v = record { head = b .head; seen = b .seen; files = b .files; items = b .items + 1; rows = b .rows + 1; warnings = b .warnings + v }
+
+abbrev pub warned : Book → ℕ → Book
+warned b v = record { head = b .head; seen = b .seen; files = b .files; items = b .items; rows = b .rows; warnings = b .warnings + v }
+
+abbrev pub noShelf : Shelf
+noShelf = record { items = 0; groups = 0 }
+
+abbrev pub itemMore : Shelf → Shelf
+itemMore s = record { items = s .items + 1; groups = s .groups }
+
+abbrev pub groupMore : Shelf → Shelf
+groupMore s = record { items = s .items; groups = s .groups + 1 }
+
+abbrev pub opened : Bool → ℕ → ℕ → ℕ → Open
+opened single total line byte = record { single = single; total = total; line = line; byte = byte; sum = 0; count = 0 }
+
+abbrev pub added : Open → ℕ → Open
+added o amount =
+    record { single = o .single; total = o .total; line = o .line; byte = o .byte; sum = o .sum + amount; count = o .count + 1 }
+
+unfoldable pub contextOf : Tally → Context
+contextOf tFirst = forHead
+contextOf (tFile b) = forFile (b .head) (b .seen)
+contextOf (tGroup b s) = forGroup
+contextOf (tItem b s o) = forItem (o .single)
+contextOf (tStop a) = forHead
+
+unfoldable pub isDue : Tally → Kind → Bool
+isDue tFirst k = is headLine k
+isDue (tFile b) k = is fileLine k
+isDue (tGroup b s) k = pick (is groupLine k) true (pick (is fileEnd k) (pick (eqb (s .groups) 0) false true) false)
+isDue (tItem b s o) k = pick (is itemLine k) true (pick (is groupEnd k) (pick (eqb (o .count) 0) false true) false)
+isDue (tStop a) k = false
+
+unfoldable pub isFull : Sheet → Tally → Kind → Bool
+isFull sh tFirst k = false
+isFull sh (tFile b) k = leb 1000 (b .files)
+isFull sh (tGroup b s) k = false
+isFull sh (tItem b s o) k = pick (is itemLine k) (pick (leb 99999 (s .items)) true (leb (sh .fileitems) (b .items))) false
+isFull sh (tStop a) k = false
+
+unfoldable pub closed : Sheet → Book → Shelf → Open → ℕ → Tally
+closed sh b s o v =
+    pick (totalBroken (sh .strict) (o .total) (o .sum))
+    (tStop (No 10 (o .line) (o .byte)))
+    (tGroup (warned b (v + differs (o .total) (o .sum))) (groupMore s))
+
+unfoldable pub meet : Sheet → ℕ → ℕ → Entry → ℕ → List ℕ → Tally → Tally
+meet sh k at e v spots tFirst = onHead e (λ h. tFile (newBook h v)) (tStop (No 3 k at))
+meet sh k at e v spots (tFile b) = onFile e (λ kind number. tGroup (moreFile b number v) noShelf) (tStop (No 3 k at))
+meet sh k at e v spots (tGroup b s) =
+    onGroup e
+    (λ payer total date. tItem (moreGroup b v) s (opened (isNobody payer) total k (at + firstOr0 spots)))
+    (tFile (warned b v))
+    (tStop (No 3 k at))
+meet sh k at e v spots (tItem b s o) =
+    onItem e (λ x. tItem (moreItem b v) (itemMore s) (added o (x .amount))) (closed sh b s o v) (tStop (No 3 k at))
+meet sh k at e v spots (tStop a) = tStop a
+
+unfoldable pub onSaid : Sheet → ℕ → ℕ → Said → Tally → Tally
+onSaid sh k at (got e v spots) c = meet sh k at e v spots c
+onSaid sh k at (no n off) c = tStop (No n k (at + off))
+
+unfoldable pub read : Sheet → ℕ → ℕ → Line → Kind → Tally → Tally
+read sh today k t kind c =
+    pick (isDue c kind)
+    (pick (isFull sh c kind)
+    (tStop (No 15 k (t .start)))
+    (onSaid sh k (t .start) (readAs sh today (contextOf c) kind (t .bytes)) c))
+    (tStop (No 3 k (t .start)))
+
+unfoldable pub step : Sheet → ℕ → ℕ → Line → Tally → Tally
+step sh today k t tFirst = read sh today k t (kindOf (t .bytes)) tFirst
+step sh today k t (tFile b) = read sh today k t (kindOf (t .bytes)) (tFile b)
+step sh today k t (tGroup b s) = read sh today k t (kindOf (t .bytes)) (tGroup b s)
+step sh today k t (tItem b s o) = read sh today k t (kindOf (t .bytes)) (tItem b s o)
+step sh today k t (tStop a) = tStop a
+
+unfoldable pub endOf : ℕ → ℕ → Tally → Brief
+endOf n k tFirst = No 3 k n
+endOf n k (tFile b) = pick (eqb (b .files) 0) (No 3 k n) (Yes (b .head) (b .rows) (b .warnings))
+endOf n k (tGroup b s) = No 3 k n
+endOf n k (tItem b s o) = No 3 k n
+endOf n k (tStop a) = a
+
+unfoldable pub run : Sheet → ℕ → ℕ → ℕ → List Line → Tally → Brief
+run sh today n k [] c = endOf n k c
+run sh today n k (t ∷ ts) c = run sh today n (suc k) ts (step sh today k t c)
+
+-- the file from its top, in brief
+unfoldable pub tally : Sheet → ℕ → List ℕ → Brief
+tally sh today f = run sh today (length f) 1 (linesOf 0 f) tFirst
