@@ -1,0 +1,72 @@
+-- Counts and totals: what the judge's tests say in numbers. Assumes nothing.
+use mathlib.Core.Path.{_≡_, refl, sym, _∙_}
+use mathlib.Core.Bool.{Bool, true, false}
+use mathlib.Core.List.{List, [], _∷_}
+use Prim.Native.Nat.{ℕ, _+_, _<_, _≤_}
+use native.Mathlib.Omega.{arith}
+use lib.Dec.{eqb, leb, ltb}
+use lib.ListN.{length}
+use borrow.Author.Tests.{leb-false, lt-leb, ltb-false, le-ltb, eqb-true, eq-eqb}
+use Rattle.base.specs.Pick.{pick}
+use Rattle.base.proofs.Cases.{by-test}
+use Rattle.sheet.specs.declared.Sheet.{Sheet}
+use Rattle.paper.specs.Bytes.{null}
+use Rattle.paper.specs.Batch.{Item, Group, AccountFile, Header, most14}
+use Rattle.paper.specs.Entries.{itemLine}
+use Rattle.paper.specs.Spells.{groupItems, fileItems}
+use Rattle.paper.specs.Judge.{revOn, FileHead, GroupHead, atItem, isFull, totalBroken}
+
+-- no test has both answers
+pub wrong : {t : Bool} {A : Type 0} → t ≡ true → t ≡ false → A
+wrong p q = let y : true ≡ false = sym p ∙ q in let z : _≡_ {A = ℕ} 0 1 = cc in absurd (omega arith)
+
+-- ---- lists that are kept last one first
+
+pub length-rev : {A : Type 0} (a m : List A) → length (revOn a m) ≡ length a + length m
+length-rev [] m = omega arith
+length-rev (y ∷ a) m = omega (arith, length-rev a (y ∷ m))
+
+pub items-rev : (a m : List Group) → groupItems (revOn a m) ≡ groupItems a + groupItems m
+unfolding groupItems
+items-rev [] m = omega arith
+items-rev (y ∷ a) m = omega (arith, items-rev a (y ∷ m))
+
+pub null-some : {A : Type 0} (a : List A) → null a ≡ false → 1 ≤ length a
+unfolding null
+null-some [] e = wrong refl e
+null-some (x ∷ a) e = omega arith
+
+pub some-null : {A : Type 0} (a : List A) → 1 ≤ length a → null a ≡ false
+unfolding null
+some-null [] e = absurd (omega arith)
+some-null (x ∷ a) e = refl
+
+-- ---- one item more
+
+module _ (sh : Sheet) (h : Header) (fs : List AccountFile) (f : FileHead) (gs : List Group) (g : GroupHead) (xs : List Item) (w : ℕ) where
+  pub room : isFull sh (atItem h fs f gs g xs w) itemLine ≡ false
+      → (length xs + groupItems gs < 99999) × (length xs + groupItems gs + fileItems fs < sh .fileitems)
+  unfolding isFull pick
+  room e =
+      by-test (leb 99999 (length xs + groupItems gs))
+      (λ y. wrong refl (rw y at e))
+      (λ n. (leb-false _ _ n, leb-false (sh .fileitems) (length xs + groupItems gs + fileItems fs) (rw n at e)))
+
+  pub has-room : length xs + groupItems gs < 99999 → length xs + groupItems gs + fileItems fs < sh .fileitems
+      → isFull sh (atItem h fs f gs g xs w) itemLine ≡ false
+  unfolding isFull pick
+  has-room a b = rw (lt-leb 99999 (length xs + groupItems gs) a) (lt-leb (sh .fileitems) _ b)
+
+-- ---- a total that is taken
+
+pub taken : (strict : Bool) (total exact : ℕ) → totalBroken strict total exact ≡ false → (exact ≤ most14) × (strict ≡ true → total ≡ exact)
+unfolding totalBroken pick
+taken true total exact e =
+    by-test (ltb most14 exact) (λ y. wrong refl (rw y at e))
+    (λ n. (ltb-false most14 exact n, λ _. by-test (eqb total exact) (λ y. eqb-true total exact y) (λ m. wrong refl (rw (n, m) at e))))
+taken false total exact e = by-test (ltb most14 exact) (λ y. wrong refl (rw y at e)) (λ n. (ltb-false most14 exact n, λ z. wrong z refl))
+
+pub takes : (strict : Bool) (total exact : ℕ) → exact ≤ most14 → (strict ≡ true → total ≡ exact) → totalBroken strict total exact ≡ false
+unfolding totalBroken pick
+takes true total exact a b = rw (le-ltb most14 exact a, eq-eqb total exact (b refl))
+takes false total exact a b = rw (le-ltb most14 exact a)

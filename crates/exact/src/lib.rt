@@ -1,0 +1,1 @@
+// Which files are accepted: exactly those that spell a batch, and no file spells two. No code.

@@ -1,0 +1,4 @@
+pub mod Reached
+pub mod Found
+pub mod Halts
+pub mod Main
