@@ -1,0 +1,9 @@
+pub mod Fields
+pub mod Starts
+pub mod FirstLine
+pub mod FileLine
+pub mod GroupLine
+pub mod Tail
+pub mod ItemLine
+pub mod Plain
+pub mod Main

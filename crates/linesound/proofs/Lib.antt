@@ -1,0 +1,9 @@
+pub mod Fine
+pub mod Checks
+pub mod Items
+pub mod FirstLine
+pub mod FileLine
+pub mod GroupLine
+pub mod ItemLine
+pub mod ClosingLine
+pub mod Main
