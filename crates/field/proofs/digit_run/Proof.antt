@@ -1,0 +1,83 @@
+-- `digit_run` meets its contract. The loop's invariant: what is left of the run, read on from the number so far, says what the whole run says.
+-- Assumes nothing.
+use Prim.Native.Nat.{_-_}
+use borrow.Author.Needs.{needs}
+use Rattle.field.proofs.Turns.{Reads, turns}
+use Rattle.field.proofs.digit_run.Statement.{statement}
+use Rattle.field.proofs.digit_run.Tie as tie
+use Rattle.field.proofs.digit_run.Reads as reads
+use Rattle.field.proofs.digit_run.Lts as lts
+use Rattle.field.proofs.stop_of.Reads as stop-of-reads
+
+abbrev Inv-loop : tie.InvT-loop
+Inv-loop s at most stop v₀ i₀ v i = Reads s at most stop v i
+
+abbrev μ-loop : tie.MeasureT-loop
+μ-loop s at most stop v₀ i₀ v i = stop - i
+
+-- src/lib.rt:36:9
+stop-of-requires : tie.Need-stop-of-requires Inv-loop μ-loop
+stop-of-requires c κs = search (turns, needs)
+
+-- src/lib.rt:39:5
+loop-holds : tie.Need-loop-holds Inv-loop μ-loop
+loop-holds c = search (turns, needs)
+
+-- src/lib.rt:40:17
+shared-slice-read-b : tie.Need-shared-slice-read-b Inv-loop μ-loop
+shared-slice-read-b c = search (turns, needs)
+
+-- src/lib.rt:42:13
+returns : tie.Need-returns Inv-loop μ-loop
+returns c = search turns
+
+-- src/lib.rt:45:13
+returns-2 : tie.Need-returns-2 Inv-loop μ-loop
+returns-2 c = search turns
+
+-- src/lib.rt:47:13
+mul-v : tie.Need-mul-v Inv-loop μ-loop
+mul-v c = search (turns, needs)
+
+-- src/lib.rt:47:22
+cast-v : tie.Need-cast-v Inv-loop μ-loop
+cast-v c = search (turns, needs)
+
+-- src/lib.rt:47:13
+add-v : tie.Need-add-v Inv-loop μ-loop
+add-v c = search (turns, needs)
+
+-- src/lib.rt:48:9
+add-i : tie.Need-add-i Inv-loop μ-loop
+add-i c = search (turns, needs)
+
+-- src/lib.rt:39:5
+loop-less : tie.Need-loop-less Inv-loop μ-loop
+loop-less c = search (turns, needs)
+
+-- src/lib.rt:39:5
+loop-again : tie.Need-loop-again Inv-loop μ-loop
+loop-again c = search (turns, needs)
+
+-- src/lib.rt:32:1
+returns-3 : tie.Need-returns-3 Inv-loop μ-loop
+returns-3 c = search turns
+
+pub digit-run-spec : {M : Type 1} → statement M
+digit-run-spec =
+    tie.close
+    (tie.spec
+    Inv-loop
+    μ-loop
+    stop-of-requires
+    loop-holds
+    shared-slice-read-b
+    returns
+    returns-2
+    mul-v
+    cast-v
+    add-v
+    add-i
+    loop-less
+    loop-again
+    returns-3)

@@ -1,0 +1,84 @@
+// One field of a line, read at its place in one pass: runs of digits, and numbers with the field's end.
+ghost use mathlib.Core.Path.{_≡_};
+ghost use Prim.Native.Nat.{_+_, _-_, _≤_};
+ghost use lib.Dec.{ltb};
+ghost use lib.ListN.{length, drop};
+ghost use Rattle.base.specs.Pick.{pick};
+ghost use Rattle.paper.specs.Read.{value};
+ghost use Rattle.paper.specs.Bytes.{fieldOf, null};
+ghost use Rattle.paper.specs.Numerals.{digits};
+ghost use Rattle.field.specs.At.{fieldAt};
+ghost use Rattle.field.specs.Digits.{run};
+ghost use Rattle.field.specs.Told.{told};
+
+// Digits that were read: their number, and the place behind them.
+pub struct Run {
+    pub value: u64,
+    pub end: usize,
+}
+
+// Where a run of at most `most` bytes from `at` on stops in a line of n bytes.
+fn stop_of(n: usize, at: usize, most: usize) -> usize
+    requires { ⌜ at ≤ n ⌝ }
+    ensures { λ r. ⌜ r ≡ pick (ltb (n - at) most) n (at + most) ⌝ }
+{
+    if n - at < most {
+        return n;
+    }
+    at + most
+}
+
+// The digits from `at` on, up to `most` of them.
+pub fn digit_run(s: &[u8], at: usize, most: usize) -> Run
+    requires { ⌜ (at ≤ length (now s)) × (most ≤ 19) ⌝ }
+    ensures { λ r. ⌜ (r .end ≡ at + length (run most (drop at (now (s .entry))))) × (digits 0 most (run most (drop at (now (s .entry)))) ≡ value (r .value)) ⌝ }
+{
+    let stop = stop_of(s.len(), at, most);
+    let mut v: u64 = 0;
+    let mut i = at;
+    while i < stop {
+        let b = s[i];
+        if b < 48 {
+            return Run { value: v, end: i };
+        }
+        if 57 < b {
+            return Run { value: v, end: i };
+        }
+        v = v * 10 + (b - 48) as u64;
+        i += 1;
+    }
+    Run { value: v, end: i }
+}
+
+// Does a field end at `at`: at a space, or with the line?
+pub fn ends(s: &[u8], at: usize) -> bool
+    requires { ⌜ at ≤ length (now s) ⌝ }
+    ensures { λ r. ⌜ r ≡ null (fieldOf (drop at (now (s .entry)))) ⌝ }
+{
+    if s.len() <= at {
+        return true;
+    }
+    s[at] == 32
+}
+
+// What a field of digits at its place says: its number and the field's end, or the refusal's number.
+pub enum NumAt {
+    Value(u64, usize),
+    Refused(u64),
+}
+
+// A field of `least` to `most` digits and nothing else.
+pub fn number_at(s: &[u8], at: usize, least: usize, most: usize) -> NumAt
+    requires { ⌜ (at ≤ length (now s)) × (most ≤ 19) ⌝ }
+    ensures { λ r. ⌜ told r ≡ fieldAt (digits least most) (now (s .entry)) at ⌝ }
+{
+    let got = digit_run(s, at, most);
+    let end = got.end;
+    if ends(s, end) {
+        if end - at < least {
+            return NumAt::Refused(4);
+        }
+        return NumAt::Value(got.value, end);
+    }
+    NumAt::Refused(4)
+}

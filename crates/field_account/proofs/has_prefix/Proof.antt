@@ -1,0 +1,34 @@
+-- `has_prefix` meets its contract: the tests of a prefix. Assumes nothing.
+use borrow.Author.Needs.{needs}
+use Rattle.base.proofs.Cases.{picks}
+use Rattle.field_account.specs.Parts.{dashed}
+use Rattle.field_account.proofs.has_prefix.Statement.{statement}
+use Rattle.field_account.proofs.has_prefix.Tie as tie
+use Rattle.field_account.proofs.has_prefix.Reads as reads
+use Rattle.field_account.proofs.has_prefix.Lts as lts
+
+-- src/lib.rt:60:13
+sub-n : tie.Need-sub-n
+sub-n c = search needs
+
+-- src/lib.rt:62:9
+returns : tie.Need-returns
+unfolding dashed
+returns c = search picks
+
+-- src/lib.rt:65:9
+returns-2 : tie.Need-returns-2
+unfolding dashed
+returns-2 c = search picks
+
+-- src/lib.rt:67:5
+shared-slice-read-result : tie.Need-shared-slice-read-result
+shared-slice-read-result c = search needs
+
+-- src/lib.rt:56:1
+returns-3 : tie.Need-returns-3
+unfolding dashed
+returns-3 c = search picks
+
+pub has-prefix-spec : {M : Type 1} → statement M
+has-prefix-spec = tie.close (tie.spec sub-n returns returns-2 shared-slice-read-result returns-3)

@@ -1,0 +1,40 @@
+-- An amount of digits alone holds no comma, so it is a number that is read on. Assumes nothing.
+use mathlib.Core.Path.{_≡_, refl, sym, ap, _∙_}
+use mathlib.Core.Bool.{Bool, true, false}
+use mathlib.Core.List.{List}
+use Prim.Native.Nat.{ℕ}
+use native.Mathlib.Omega.{arith}
+use lib.Dec.{ltb}
+use lib.ListN.{length, take, drop}
+use lib.Seq.{take-length, drop-length}
+use borrow.Author.Tests.{le-ltb}
+use Rattle.base.specs.Pick.{pick}
+use Rattle.base.specs.Seek.{all, seek}
+use Rattle.base.proofs.Cases.{either, pick-false}
+use Rattle.paper.specs.Read.{Field, value, fault, given}
+use Rattle.paper.specs.Bytes.{isDigit, comma, fieldOf}
+use Rattle.paper.specs.Numerals.{digits}
+use Rattle.paper.specs.Amounts.{readAmount, amountProper, readItemAmount}
+use Rattle.numeral.proofs.Sound.{digits-plain}
+use Rattle.field.specs.At.{At, found, ending, fieldAt}
+use Rattle.field.specs.declared.NumAt.{NumAt}
+use Rattle.field.specs.declared.NumAt.the-variants.{Value}
+use Rattle.field.specs.Told.{told}
+use Rattle.field.proofs.Front.{seek-over}
+use Rattle.field.proofs.Steps.{found-value, found-end}
+
+module _ (may : Bool) (most max : ℕ) where
+  -- the field f is the number v
+  plain-amount : (f : List ℕ) (v : ℕ) → digits 1 most f ≡ value v → readAmount may most f ≡ value v
+  unfolding readAmount isDigit pick seek
+  plain-amount f v g =
+      let a : all isDigit (take (length f) f) ≡ true = rw take-length (digits-plain 1 most f v g) in
+      let n : seek comma f ≡ length f = seek-over 44 refl (length f) f (omega arith) a ∙ rw drop-length (omega arith) in
+      let o : pick may (ltb (seek comma f) (length f)) false ≡ false = either (λ x. x ≡ false) may (λ j. le-ltb (seek comma f) (length f) (omega arith)) (λ j. refl) in
+      pick-false _ _ o ∙ g
+
+  pub digits-amount : (r : At ℕ) (s : List ℕ) (at : ℕ) (n : NumAt) → told n ≡ fieldAt (digits 1 most) s at → (v e : ℕ) → n ≡ Value v e → r ≡ ending e (pick (amountProper max v) (value v) (fault 6)) → r ≡ fieldAt (readItemAmount may most max) s at
+  unfolding fieldAt readItemAmount given
+  digits-amount r s at n g v e f q =
+      let h : found v e ≡ fieldAt (digits 1 most) s at = rw f at g in
+      q ∙ rw (plain-amount (fieldOf (drop at s)) v (found-value (digits 1 most) s at v e h), ← (found-end (digits 1 most) s at v e h))

@@ -1,0 +1,23 @@
+-- `in_limit` meets its contract: the test of the limit. Assumes nothing.
+use borrow.Author.Needs.{needs}
+use Rattle.field.proofs.Onward.{onwards}
+use Rattle.field_amount.proofs.in_limit.Statement.{statement}
+use Rattle.field_amount.proofs.in_limit.Tie as tie
+use Rattle.field_amount.proofs.in_limit.Reads as reads
+use Rattle.field_amount.proofs.in_limit.Lts as lts
+use Rattle.amount.proofs.amount_proper.Reads as amount-proper-reads
+
+-- src/lib.rt:17:8
+amount-proper-requires : tie.Need-amount-proper-requires
+amount-proper-requires c κs = search needs
+
+-- src/lib.rt:18:9
+returns : tie.Need-returns
+returns c = search onwards
+
+-- src/lib.rt:14:1
+returns-2 : tie.Need-returns-2
+returns-2 c = search onwards
+
+pub in-limit-spec : {M : Type 1} → statement M
+in-limit-spec = tie.close (tie.spec amount-proper-requires returns returns-2)

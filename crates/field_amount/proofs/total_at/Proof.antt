@@ -1,0 +1,60 @@
+-- `total_at` meets its contract: the field by its bytes. Assumes nothing.
+use borrow.Author.Needs.{needs}
+use Rattle.field.proofs.Whole.{wholes}
+use Rattle.line.proofs.Fields.{end-within}
+use Rattle.field_amount.proofs.total_at.Statement.{statement}
+use Rattle.field_amount.proofs.total_at.Tie as tie
+use Rattle.field_amount.proofs.total_at.Reads as reads
+use Rattle.field_amount.proofs.total_at.Lts as lts
+use Rattle.amount.proofs.read_total.Reads as read-total-reads
+use Rattle.line.proofs.field_end.Reads as field-end-reads
+
+-- src/lib.rt:51:9
+field-end-requires : tie.Need-field-end-requires
+field-end-requires c κs = search needs
+
+-- src/lib.rt:52:30
+sub-read-total : tie.Need-sub-read-total
+sub-read-total c = search needs
+
+-- src/lib.rt:52:30
+part-read-total-start : tie.Need-part-read-total-start
+part-read-total-start c = search needs
+
+-- src/lib.rt:52:30
+part-read-total-end : tie.Need-part-read-total-end
+part-read-total-end c = search (end-within, needs)
+
+-- src/lib.rt:52:11
+read-total-requires : tie.Need-read-total-requires
+read-total-requires c κs = search needs
+
+-- src/lib.rt:53:20
+enum-known-total : tie.Need-enum-known-total
+enum-known-total c = search needs
+
+-- src/lib.rt:54:22
+enum-known-n : tie.Need-enum-known-n
+enum-known-n c = search needs
+
+-- src/lib.rt:47:1
+returns : tie.Need-returns
+returns c = search wholes
+
+-- src/lib.rt:47:1
+returns-2 : tie.Need-returns-2
+returns-2 c = search wholes
+
+pub total-at-spec : {M : Type 1} → statement M
+total-at-spec =
+    tie.close
+    (tie.spec
+    field-end-requires
+    sub-read-total
+    part-read-total-start
+    part-read-total-end
+    read-total-requires
+    enum-known-total
+    enum-known-n
+    returns
+    returns-2)
