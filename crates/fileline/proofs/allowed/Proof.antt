@@ -1,0 +1,41 @@
+-- `allowed` meets its contract: the tests in their order. Assumes nothing.
+use borrow.Author.Needs.{needs}
+use Rattle.base.proofs.Cases.{picks}
+use Rattle.fileline.specs.Free.{numberFree}
+use Rattle.fileline.proofs.allowed.Statement.{statement}
+use Rattle.fileline.proofs.allowed.Tie as tie
+use Rattle.fileline.proofs.allowed.Reads as reads
+use Rattle.fileline.proofs.allowed.Lts as lts
+use Rattle.seen.proofs.Seen.has.Reads as has-reads
+
+-- src/lib.rt:58:13
+returns : tie.Need-returns
+unfolding numberFree
+returns c = search picks depth 8
+
+-- src/lib.rt:61:13
+returns-2 : tie.Need-returns-2
+unfolding numberFree
+returns-2 c = search picks depth 8
+
+-- src/lib.rt:63:12
+has-requires : tie.Need-has-requires
+has-requires c κs = search needs
+
+-- src/lib.rt:64:13
+returns-3 : tie.Need-returns-3
+unfolding numberFree
+returns-3 c = search picks depth 8
+
+-- src/lib.rt:66:9
+returns-4 : tie.Need-returns-4
+unfolding numberFree
+returns-4 c = search picks depth 8
+
+-- src/lib.rt:51:1
+returns-5 : tie.Need-returns-5
+unfolding numberFree
+returns-5 c = search picks depth 8
+
+pub allowed-spec : {M : Type 1} → statement M
+allowed-spec = tie.close (tie.spec returns returns-2 has-requires returns-3 returns-4 returns-5)

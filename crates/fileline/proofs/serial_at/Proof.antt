@@ -1,0 +1,50 @@
+-- `serial_at` meets its contract: a number that is read on. Assumes nothing.
+use borrow.Author.Needs.{needs}
+use Rattle.field.proofs.Onward.{onwards}
+use Rattle.fileline.proofs.Fields.{fields, serial-below}
+use Rattle.fileline.proofs.serial_at.Statement.{statement}
+use Rattle.fileline.proofs.serial_at.Tie as tie
+use Rattle.fileline.proofs.serial_at.Reads as reads
+use Rattle.fileline.proofs.serial_at.Lts as lts
+use Rattle.field.proofs.number_at.Reads as number-at-reads
+use Rattle.fileline.proofs.allowed.Reads as allowed-reads
+
+-- src/lib.rt:76:11
+number-at-requires : tie.Need-number-at-requires
+number-at-requires c κs = search needs
+
+-- src/lib.rt:77:22
+enum-known-n : tie.Need-enum-known-n
+enum-known-n c = search needs
+
+-- src/lib.rt:77:36
+allowed-requires : tie.Need-allowed-requires
+allowed-requires c κs = search (serial-below, needs)
+
+-- src/lib.rt:82:24
+enum-known-c : tie.Need-enum-known-c
+enum-known-c c = search needs
+
+-- src/lib.rt:72:1
+returns : tie.Need-returns
+returns c = search (fields, onwards)
+
+-- src/lib.rt:72:1
+returns-2 : tie.Need-returns-2
+returns-2 c = search (fields, onwards)
+
+-- src/lib.rt:72:1
+returns-3 : tie.Need-returns-3
+returns-3 c = search (fields, onwards)
+
+pub serial-at-spec : {M : Type 1} → statement M
+serial-at-spec =
+    tie.close
+    (tie.spec
+    number-at-requires
+    enum-known-n
+    allowed-requires
+    enum-known-c
+    returns
+    returns-2
+    returns-3)

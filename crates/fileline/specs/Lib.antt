@@ -1,0 +1,3 @@
+pub mod Told
+pub mod Free
+pub mod Ending

@@ -1,0 +1,5 @@
+pub mod Steps
+pub mod Holds
+pub mod Sound
+pub mod Only
+pub mod Back
