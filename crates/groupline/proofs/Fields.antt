@@ -1,0 +1,51 @@
+-- What the fields of the line give, for `search`: s is the line, and n what a field's reader answered. Assumes nothing.
+use mathlib.Core.Path.{_≡_, sym}
+use mathlib.Core.Bool.{Bool, true, false}
+use mathlib.Core.List.{List, [], _∷_}
+use Prim.Native.Nat.{ℕ, _^_, _<_}
+use lib.Dec.{leb}
+use Rattle.base.proofs.Cases.{pick-true, pick-false}
+use Rattle.paper.specs.Accounts.{Account}
+use Rattle.paper.specs.Amounts.{readTotal}
+use Rattle.paper.specs.Days.{readDue, realDay, dueWarnings}
+use Rattle.paper.specs.Entries.{group, got}
+use Rattle.paper.specs.GroupLine.{spaceCount, hasPayer}
+use Rattle.amount.proofs.Sound.{total-sound}
+use Rattle.calendar.proofs.Sound.{due-sound}
+use Rattle.field.specs.At.{fieldAt}
+use Rattle.field.specs.declared.NumAt.{NumAt}
+use Rattle.field.specs.declared.NumAt.the-variants as num
+use Rattle.field.specs.Told as number
+use Rattle.field.proofs.Steps.{found-value, number-within, steps}
+use Rattle.field_account.proofs.Steps.{accounts, account-within}
+
+-- ---- whether the payer's field stands in the line
+
+pub payer-counted : (always : Bool) (s : List ℕ) (n : ℕ) → n ≡ spaceCount s → always ≡ false → leb 3 n ≡ hasPayer always s
+unfolding hasPayer
+payer-counted always s n g h = rw g (sym (pick-false _ _ h))
+
+pub payer-always : (always : Bool) (s : List ℕ) → always ≡ true → true ≡ hasPayer always s
+unfolding hasPayer
+payer-always always s h = sym (pick-true _ _ h)
+
+-- ---- what total and date are
+
+module _ (s : List ℕ) (at : ℕ) (n : NumAt) (v e : ℕ) (f : n ≡ num.Value v e) where
+  pub total-low : (may : Bool) → number.told n ≡ fieldAt (readTotal may) s at → v < 10 ^ 14
+  total-low may g = total-sound may _ v (found-value (readTotal may) s at v e (rw f at g))
+
+  pub due-real : (long early : Bool) (ahead today : ℕ) → number.told n ≡ fieldAt (readDue long early ahead today) s at → realDay v ≡ true
+  due-real long early ahead today g = due-sound long _ early ahead today v (found-value (readDue long early ahead today) s at v e (rw f at g)) .0
+
+-- ---- what the line says, with the warnings w that were counted
+
+pub step-group : (warns : Bool) (today date w : ℕ) → w ≡ dueWarnings warns today date → (payer : Account) (total at : ℕ)
+    → got (group payer total date) w (at ∷ []) ≡ got (group payer total date) (dueWarnings warns today date) (at ∷ [])
+step-group warns today date w g payer total at = rw g
+
+pub ruleset payers = (payer-counted, payer-always)
+
+pub ruleset groups = (accounts, step-group, steps)
+
+pub ruleset bounds = (account-within, number-within, total-low, due-real)

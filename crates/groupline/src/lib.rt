@@ -1,0 +1,93 @@
+// The line that begins a group: `2 TOTAL DATE`, or with the payer's account before TOTAL.
+use field::NumAt;
+use field_account::AcctAt;
+use sheet::Sheet;
+ghost use mathlib.Core.Path.{_≡_};
+ghost use mathlib.Core.Bool.{true};
+ghost use Prim.Native.Nat.{_≤_};
+ghost use lib.ListN.{length, drop};
+ghost use Rattle.paper.specs.Accounts.{account};
+ghost use Rattle.paper.specs.Days.{realDay};
+ghost use Rattle.paper.specs.GroupLine.{hasPayer, totalAndDate, readGroup};
+ghost use Rattle.groupline.specs.Told.{told, Low};
+
+// What the line says: the payer, prefix and base 0 where there is none, total and due date, how many warnings the line gives, and where
+// in it the total stands; or the refusal's number and its offset in the line.
+pub enum GroupRead {
+    Group {
+        prefix: u64,
+        base: u64,
+        total: u64,
+        date: u64,
+        warnings: u64,
+        spot: usize,
+    },
+    Refused(u64, usize),
+}
+
+// Does the payer's field stand in the line? Where it does not stand always, the line's spaces tell.
+fn has_payer(s: &[u8], always: bool) -> bool
+    ensures { λ r. ⌜ r ≡ hasPayer always (now (s .entry)) ⌝ }
+{
+    if always {
+        return true;
+    }
+    3 <= line::spaces(s)
+}
+
+// TOTAL, at `at`, and DATE, behind the payer.
+fn total_and_date(s: &[u8], at: usize, sh: Sheet, today: u64, prefix: u64, base: u64) -> GroupRead
+    requires { ⌜ realDay today ≡ true ⌝ }
+    requires { ⌜ at ≤ length (now s) ⌝ }
+    ensures { λ r. ⌜ told r ≡ totalAndDate sh today (account prefix base) at (drop at (now (s .entry))) ⌝ }
+    ensures { λ r. ⌜ Low r ⌝ }
+{
+    match field_amount::total_at(s, at, sh.comma) {
+        NumAt::Refused(n) => GroupRead::Refused(n, at),
+        NumAt::Value(total, end) => {
+            if s.len() <= end {
+                return GroupRead::Refused(4, end);
+            }
+            let from = end + 1;
+            match field_day::due_at(s, from, sh.longdate, sh.early, sh.ahead, today) {
+                NumAt::Refused(n) => GroupRead::Refused(n, from),
+                NumAt::Value(date, last) => {
+                    if last < s.len() {
+                        return GroupRead::Refused(4, last);
+                    }
+                    let warnings = calendar::due_warnings(sh.warnpast, today, date);
+                    GroupRead::Group {
+                        prefix,
+                        base,
+                        total,
+                        date,
+                        warnings,
+                        spot: at,
+                    }
+                }
+            }
+        }
+    }
+}
+
+// The whole line, which is known to begin with `2 `.
+pub fn group_line(s: &[u8], sh: Sheet, today: u64) -> GroupRead
+    requires { ⌜ realDay today ≡ true ⌝ }
+    requires { ⌜ 2 ≤ length (now s) ⌝ }
+    ensures { λ r. ⌜ told r ≡ readGroup sh today (now (s .entry)) ⌝ }
+    ensures { λ r. ⌜ Low r ⌝ }
+{
+    if has_payer(s, sh.emptypayer) {
+        match field_account::payer_at(s, 2, sh.emptypayer, sh.zeropayer, sh.joined, sh.basemin) {
+            AcctAt::Refused(n) => GroupRead::Refused(n, 2),
+            AcctAt::Account(prefix, base, end) => {
+                if s.len() <= end {
+                    return GroupRead::Refused(4, end);
+                }
+                total_and_date(s, end + 1, sh, today, prefix, base)
+            }
+        }
+    } else {
+        total_and_date(s, 2, sh, today, 0, 0)
+    }
+}
