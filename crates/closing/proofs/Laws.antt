@@ -1,19 +1,22 @@
 -- What a closing line that is taken looks like, and that the canonical one is taken. Assumes nothing.
-use mathlib.Core.Path.{_≡_, refl, sym, ap, _∙_}
+use mathlib.Core.Path.{_≡_, refl, sym, _∙_}
 use mathlib.Core.Bool.{Bool, true, false}
 use mathlib.Core.List.{List, [], _∷_}
 use mathlib.Core.Logic.{_⊎_, inl, inr}
-use Prim.Native.Nat.{ℕ, _+_}
+use Prim.Native.Nat.{ℕ, _+_, _≤_}
 use native.Mathlib.Omega.{arith}
 use lib.Dec.{eqb}
-use lib.ListN.{length, drop}
+use lib.ListN.{length}
 use borrow.Author.Tests.{eqb-true}
 use Rattle.base.specs.Pick.{pick}
 use Rattle.base.specs.Seek.{all, starts}
 use Rattle.base.proofs.Cases.{by-test}
-use Rattle.paper.specs.Bytes.{space, isText}
-use Rattle.paper.specs.Entries.{Entry, Said, got, no, lineEnd}
+use Rattle.paper.specs.Bytes.{isText}
+use Rattle.paper.specs.Entries.{Entry, closeGroup, got, no, lineEnd}
 use Rattle.paper.specs.ClosingLine.{plusAt, readClose, spellClose}
+use Rattle.closing.specs.declared.CloseRead.{CloseRead}
+use Rattle.closing.specs.declared.CloseRead.the-variants.{Refused}
+use Rattle.closing.specs.Told.{told}
 
 -- a refusal is no entry
 refused : {P : Type 0} (n at : ℕ) (f : Entry) (w : ℕ) (l : List ℕ) → no n at ≡ got f w l → P
@@ -54,6 +57,42 @@ module _ (e f : Entry) (w : ℕ) (l : List ℕ) where
       by-test (eqb y 32)
       (λ t. let p = plus-sound 2 s (simp t at h) in (p .1, x, inl (rw (eqb-true y 32 t, p .0))))
       (λ t. refused 4 1 f w l (simp t at h))
+
+-- where a line is refused: within it, if it has its first byte
+module _ (e : Entry) (n at : ℕ) where
+  end-within : (i : ℕ) (s : List ℕ) → lineEnd i s (got e 0 []) ≡ no n at → at ≤ i
+  unfolding lineEnd
+  end-within i [] h = refused n at e 0 [] (sym h)
+  end-within i (x ∷ s) h = let q : i ≡ at = cc in omega arith
+
+  plus-within : (i : ℕ) (s : List ℕ) → plusAt e i s ≡ no n at → at ≤ i + length s
+  unfolding plusAt pick
+  plus-within i [] h = let q : i ≡ at = cc in omega arith
+  plus-within i (x ∷ s) h =
+      by-test (eqb x 43)
+      (λ t. omega (arith, end-within (i + 1) s (simp t at h)))
+      (λ t. let f : no 4 i ≡ no n at = simp t at h in let q : i ≡ at = cc in omega arith)
+
+  first : (m : ℕ) → no 4 1 ≡ no n at → 1 ≤ m → at ≤ m
+  first m h l = let q : 1 ≡ at = cc in omega arith
+
+  pub close-within : (near : Bool) (s : List ℕ) → readClose near e s ≡ no n at → 1 ≤ length s → at ≤ length s
+  unfolding readClose starts pick
+  close-within near [] h l = absurd (omega arith)
+  close-within true (x ∷ []) h l = omega (arith, plus-within 1 [] h)
+  close-within false (x ∷ []) h l = first 1 h l
+  close-within true (x ∷ y ∷ s) h l =
+      by-test (eqb y 32)
+      (λ t. omega (arith, plus-within 2 s (simp t at h)))
+      (λ t. omega (arith, plus-within 1 (y ∷ s) (simp t at h)))
+  close-within false (x ∷ y ∷ s) h l =
+      by-test (eqb y 32)
+      (λ t. omega (arith, plus-within 2 s (simp t at h)))
+      (λ t. first (length (x ∷ y ∷ s)) (simp t at h) l)
+
+-- r is what `close_line` answered
+pub told-within : (near : Bool) (s : List ℕ) (r : CloseRead) (n at : ℕ) → ((e : Entry) → told e r ≡ readClose near e s) → r ≡ Refused n at → 1 ≤ length s → at ≤ length s
+told-within near s r n at g f l = close-within closeGroup n at near s (sym (g closeGroup) ∙ rw f) l
 
 -- the canonical line is taken, on every sheet
 pub close-back : (near : Bool) (e : Entry) (x : ℕ) → readClose near e (spellClose x) ≡ got e 0 []

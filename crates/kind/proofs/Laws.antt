@@ -2,9 +2,10 @@
 use mathlib.Core.Path.{_≡_, refl, sym, ap, _∙_}
 use mathlib.Core.Bool.{Bool, true, false}
 use mathlib.Core.List.{List, [], _∷_, _++_}
-use mathlib.Core.Logic.{_⊎_, inl, inr}
-use Prim.Native.Nat.{ℕ, _<_}
+use mathlib.Core.Logic.{_⊎_, inl, inr, ⊎-elim}
+use Prim.Native.Nat.{ℕ, _≤_, _<_}
 use lib.Dec.{eqb, ltb}
+use lib.ListN.{length}
 use borrow.Author.Tests.{ltb-false, leb-true}
 use native.Mathlib.Omega.{arith}
 use Rattle.base.specs.Pick.{pick}
@@ -13,6 +14,8 @@ use Rattle.base.proofs.Cases.{by-test, either}
 use Rattle.base.proofs.Seek.{never}
 use Rattle.paper.specs.Bytes.{bytes, isDigit}
 use Rattle.paper.specs.Entries.{Kind, headLine, fileLine, groupLine, itemLine, groupEnd, fileEnd, kindOf}
+use Rattle.kind.specs.declared.LineKind.{LineKind}
+use Rattle.kind.specs.Told.{told}
 use Rattle.kind.proofs.Starts.{kind-high}
 
 -- the starts that a kind stands for
@@ -46,6 +49,38 @@ kind-sound s =
     (λ g. either (λ k. Begins k s) _ (λ e. either-true _ _ e)
     (λ i. either (λ k. Begins k s) _ (λ e. either-true _ _ e)
     (λ j. let p = neither _ _ i in let q = neither _ _ j in (h, f, g, p .0, p .1, q .0, q .1))))))
+
+-- a line that begins with a pattern is no shorter
+starts-long : (ps s : List ℕ) → starts ps s ≡ true → length ps ≤ length s
+unfolding starts pick
+starts-long [] s e = omega arith
+starts-long (p ∷ ps) [] e = never (sym e)
+starts-long (p ∷ ps) (x ∷ s) e =
+    by-test (eqb x p) (λ t. omega (arith, starts-long ps s (simp t at e))) (λ t. never (sym (simp t at e)))
+
+-- how many bytes a line of each kind has at least
+abbrev pub least : Kind → ℕ
+least headLine = 4
+least fileLine = 2
+least groupLine = 2
+least itemLine = 0
+least groupEnd = 2
+least fileEnd = 2
+
+begins-long : (k : Kind) (s : List ℕ) → Begins k s → least k ≤ length s
+begins-long headLine s b = starts-long (bytes "UHL1") s b
+begins-long fileLine s b = starts-long (bytes "1 ") s b
+begins-long groupLine s b = starts-long (bytes "2 ") s b
+begins-long itemLine s b = omega arith
+begins-long groupEnd s b = ⊎-elim (starts-long (bytes "3 ") s) (starts-long (bytes "3+") s) b
+begins-long fileEnd s b = ⊎-elim (starts-long (bytes "5 ") s) (starts-long (bytes "5+") s) b
+
+pub kind-long : (k : Kind) (s : List ℕ) → kindOf s ≡ k → least k ≤ length s
+kind-long k s e = begins-long k s (rw e at (kind-sound s))
+
+-- r is what `kind_of` answered
+pub told-long : (k : LineKind) (r : LineKind) (s : List ℕ) → told r ≡ kindOf s → r ≡ k → least (told k) ≤ length s
+told-long k r s g e = kind-long (told k) s (sym g ∙ ap told e)
 
 -- the starts that the canonical spelling has
 module _ (s : List ℕ) where

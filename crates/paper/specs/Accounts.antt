@@ -10,10 +10,12 @@ use Rattle.paper.specs.Read.{Field, value, fault, given}
 use Rattle.paper.specs.Bytes.{dash, null}
 use Rattle.paper.specs.Numerals.{digits, decimal}
 
+-- "Accounts": a prefix and a base, as numbers
 pub record Account : Type 0 where
   pub prefix : ℕ
   pub base : ℕ
 
+-- an account of these two
 abbrev pub account : ℕ → ℕ → Account
 account p b = record { prefix = p; base = b }
 
@@ -72,6 +74,7 @@ spellAccount a = pick (eqb (a .prefix) 0) (decimal (a .base)) (decimal (a .prefi
 abbrev pub nobody : Account
 nobody = account 0 0
 
+-- is it no account?
 unfoldable pub isNobody : Account → Bool
 isNobody a = pick (eqb (a .prefix) 0) (eqb (a .base) 0) false
 

@@ -7,6 +7,7 @@ use Rattle.base.specs.Pick.{pick}
 use Rattle.paper.specs.Read.{Field, value, fault, given}
 use Rattle.paper.specs.Numerals.{digits, fixed}
 
+-- what the field says, and how many warnings it gives ("Warnings are counted")
 pub record Bank : Type 0 where
   pub bank : ℕ
   pub constant : ℕ
@@ -32,6 +33,7 @@ readBank ranked s =
 unfoldable pub bankProper : ℕ → Bool
 bankProper b = pick (ltb b 1) false (leb b 9999)
 
+-- a priority is 3 to 9
 unfoldable pub priorityProper : ℕ → Bool
 priorityProper p = pick (ltb p 3) false (leb p 9)
 

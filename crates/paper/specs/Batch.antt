@@ -24,14 +24,17 @@ pub record Group : Type 0 where
   pub payer : Account
   pub items : List Item
 
+-- "The batch": a kind, a six-digit number and the groups
 pub record AccountFile : Type 0 where
   pub kind : ℕ
   pub number : ℕ
   pub groups : List Group
 
+-- "The batch": account files in their order
 abbrev pub Batch : Type 0
 Batch = List AccountFile
 
+-- "The batch", the header: creation date, name, client number, interval start and end
 pub record Header : Type 0 where
   pub date : ℕ
   pub name : List ℕ
@@ -65,14 +68,17 @@ pub data Thing : Type 0 where
   anItem : Item → Thing
   strange : Thing
 
+-- a group's items, in front of what follows
 unfoldable pub itemThings : List Item → List Thing → List Thing
 itemThings [] r = r
 itemThings (x ∷ xs) r = anItem x ∷ itemThings xs r
 
+-- groups, each followed by its items
 unfoldable pub groupThings : List Group → List Thing → List Thing
 groupThings [] r = r
 groupThings (g ∷ gs) r = aGroup (g .date) (g .payer) ∷ itemThings (g .items) (groupThings gs r)
 
+-- account files, each followed by its groups
 unfoldable pub things : Batch → List Thing
 things [] = []
 things (f ∷ fs) = aFile (f .kind) (f .number) ∷ groupThings (f .groups) (things fs)
@@ -83,6 +89,7 @@ pub record Heap : Type 0 where
   pub groups : List Group
   pub files : List AccountFile
 
+-- an item goes to the items, a group takes the items behind it, an account file the groups behind it
 unfoldable pub heapOf : List Thing → Heap
 heapOf [] = record { items = []; groups = []; files = [] }
 heapOf (anItem x ∷ ts) = let h = heapOf ts in record { items = x ∷ h .items; groups = h .groups; files = h .files }
@@ -92,5 +99,6 @@ heapOf (aFile k n ∷ ts) =
     let h = heapOf ts in record { items = []; groups = []; files = record { kind = k; number = n; groups = h .groups } ∷ h .files }
 heapOf (strange ∷ ts) = heapOf ts
 
+-- the account files of the whole list
 unfoldable pub batchOf : List Thing → Batch
 batchOf ts = heapOf ts .files

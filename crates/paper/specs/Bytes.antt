@@ -26,15 +26,19 @@ isDigit x = pick (ltb x 48) false (leb x 57)
 abbrev pub space : List ℕ
 space = 32 ∷ []
 
+-- `-`, between prefix and base ("Accounts")
 abbrev pub dash : List ℕ
 dash = 45 ∷ []
 
+-- `,`, before the haléř ("Lines", amounts)
 abbrev pub comma : List ℕ
 comma = 44 ∷ []
 
+-- `|`, between parts ("Lines", tail)
 abbrev pub bar : List ℕ
 bar = 124 ∷ []
 
+-- `+`, in closing lines ("Lines")
 abbrev pub plus : List ℕ
 plus = 43 ∷ []
 
@@ -42,9 +46,11 @@ plus = 43 ∷ []
 abbrev pub av : List ℕ
 av = 65 ∷ 86 ∷ 58 ∷ []
 
+-- `NP:`, before a name at a text's start
 abbrev pub np : List ℕ
 np = 78 ∷ 80 ∷ 58 ∷ []
 
+-- ` NP:`, before a name behind a message
 abbrev pub mark : List ℕ
 mark = 32 ∷ np
 
@@ -52,6 +58,7 @@ mark = 32 ∷ np
 abbrev pub fieldOf : List ℕ → List ℕ
 fieldOf s = before space s
 
+-- "Lines": what is left of the line behind a field
 abbrev pub restOf : List ℕ → List ℕ
 restOf s = drop (seek space s) s
 

@@ -11,6 +11,7 @@ use Rattle.paper.specs.ItemLine.{spellItem}
 use Rattle.paper.specs.ClosingLine.{spellClose}
 use Rattle.paper.specs.Spells.{Due, dues}
 
+-- "Canonical spelling": each kind of line as its own file of definitions spells it
 unfoldable pub spell : Sheet → Entry → List ℕ
 spell sh (head h) = spellFirst sh h
 spell sh (file kind number) = spellFile sh kind number
@@ -24,5 +25,6 @@ unfoldable pub textOf : Sheet → List Due → List ℕ
 textOf sh [] = []
 textOf sh (d ∷ ds) = spell sh (d .entry) ++ (13 ∷ 10 ∷ textOf sh ds)
 
+-- the first line, then account files, groups and items with their closing lines
 unfoldable pub canon : Sheet → Header → Batch → List ℕ
 canon sh h b = textOf sh (dues h b)

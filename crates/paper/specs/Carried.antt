@@ -25,6 +25,7 @@ unfoldable pub partsCarriedFrom : Style → ℕ → ℕ → ℕ → List (List �
 partsCarriedFrom y k n i [] rest = rest
 partsCarriedFrom y k n i (p ∷ ps) rest = check k n (partCarried y i p) (partsCarriedFrom y k (n + 2) (suc i) ps rest)
 
+-- an item's fields that a sheet may not carry: amount, priority, parts, name
 unfoldable pub itemCarried : Sheet → ℕ → Item → Verdict → Verdict
 itemCarried sh k x rest =
     check k 6 (amountProper (sh .itemmax) (x .amount))
@@ -46,5 +47,6 @@ rowsCarried sh today h k n seen (anItem x ∷ ts) =
     check k 0 (ltb n (sh .fileitems)) (itemCarried sh k x (rowsCarried sh today h (suc k) (suc n) seen ts))
 rowsCarried sh today h k n seen (strange ∷ ts) = wrong k 0
 
+-- the whole batch from row 1 on: no item and no account file stands before it
 unfoldable pub batchCarried : Sheet → ℕ → Header → List Thing → Verdict
 batchCarried sh today h ts = rowsCarried sh today h 1 0 [] ts

@@ -9,12 +9,15 @@ use Rattle.base.specs.Pick.{pick}
 use Rattle.paper.specs.Read.{Field, value, fault, given}
 use Rattle.paper.specs.Numerals.{digits, fixed}
 
+-- the year YYYY of a day
 abbrev pub yearOf : ℕ → ℕ
 yearOf d = d / 10000
 
+-- its month MM
 abbrev pub monthOf : ℕ → ℕ
 monthOf d = d / 100 % 100
 
+-- its day DD
 abbrev pub dayOf : ℕ → ℕ
 dayOf d = d % 100
 
@@ -45,6 +48,7 @@ unfoldable pub yearsDays : ℕ → ℕ
 yearsDays zero = 0
 yearsDays (suc n) = yearsDays n + pick (leap (2000 + n)) 366 365
 
+-- the days of the first m months of year y
 unfoldable pub monthsDays : ℕ → ℕ → ℕ
 monthsDays y zero = 0
 monthsDays y (suc m) = monthsDays y m + monthDays y (suc m)

@@ -29,6 +29,7 @@ pub data Said : Type 0 where
 
 -- ---- a line is known by its start
 
+-- "Lines": the first line, an account file, a group, an item, the end of a group, the end of an account file
 pub data Kind : Type 0 where
   headLine fileLine groupLine itemLine groupEnd fileEnd : Kind
 

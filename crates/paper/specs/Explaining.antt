@@ -20,6 +20,7 @@ refusedLine n l p = bytes "refused " ++ (decimal n ++ (bytes " line " ++ (decima
 unfoldable pub acceptedLine : ℕ → ℕ → List ℕ
 acceptedLine rows w = bytes "accepted rows " ++ (decimal rows ++ (bytes " warnings " ++ (decimal w ++ (10 ∷ []))))
 
+-- an answer of reading in words
 unfoldable pub explained : ReadAnswer → List ℕ
 explained a = pick (eqb (a .number) 0) (acceptedLine (a .rows) (a .warnings)) (refusedLine (a .number) (a .line) (a .byte))
 

@@ -38,6 +38,7 @@ readNumber allowed s = given (digits 6 6 s) λ n. pick (allowed n) (value n) (fa
 unfoldable pub readCode : Sheet → List ℕ → Field ℕ
 readCode sh s = given (digits 4 4 s) λ b. pick (bankAllowed sh b) (value b) (fault 8)
 
+-- "Lines": `1 KIND NUMBER BANK`, and nothing behind it
 unfoldable pub readFile : Sheet → (ℕ → Bool) → List ℕ → Said
 readFile sh allowed s =
     field (readKind sh) 2 (drop 2 s) λ kind a1 s1.

@@ -29,6 +29,7 @@ totalAndDate sh today payer at s =
     field (readDue (sh .longdate) (sh .early) (sh .ahead) today) a2 s2 λ date a3 s3.
     lineEnd a3 s3 (got (group payer total date) (dueWarnings (sh .warnpast) today date) (at ∷ []))
 
+-- "Lines": `2 TOTAL DATE`, or with the payer's account before TOTAL
 unfoldable pub readGroup : Sheet → ℕ → List ℕ → Said
 readGroup sh today s =
     pick (hasPayer (sh .emptypayer) s)
@@ -41,5 +42,6 @@ readGroup sh today s =
 unfoldable pub spellPayer : Bool → Account → List ℕ
 spellPayer always a = pick (isNobody a) (pick always (32 ∷ []) []) (spellAccount a ++ (32 ∷ []))
 
+-- "Canonical spelling": TOTAL in plain digits, DATE as DDMMRR
 unfoldable pub spellGroup : Sheet → Account → ℕ → ℕ → List ℕ
 spellGroup sh payer total date = 50 ∷ 32 ∷ (spellPayer (sh .emptypayer) payer ++ (decimal total ++ (32 ∷ spellDay date)))

@@ -30,6 +30,7 @@ readSymbol s = digits 1 10 s
 unfoldable pub readSymbolOrNone : List ℕ → Field ℕ
 readSymbolOrNone s = pick (null s) (value 0) (readSymbol s)
 
+-- was a value read?
 unfoldable pub isValue : {A : Type 0} → Field A → Bool
 isValue (value v) = true
 isValue (fault n) = false
@@ -58,6 +59,7 @@ module _ (y : Style) (k : ℕ → Texts → Said) where
       (toEnd (readText y (at + 1)) (at + 1) s λ texts. k 0 texts)
       (field readSymbol (at + 1) s λ specific a1 s1. afterSymbol specific a1 s1)
 
+-- "Lines", tail: one of the two forms, as the sheet has it
 unfoldable pub tail : Sheet → ℕ → List ℕ → (ℕ → Texts → Said) → Said
 tail sh at s k = pick (sh .fixedtail) (fixedTail (sh .text) k at s) (openTail (sh .text) k (sh .bare) at s)
 
@@ -67,9 +69,11 @@ tail sh at s k = pick (sh .fixedtail) (fixedTail (sh .text) k at s) (openTail (s
 abbrev pub partBytes : Texts → List (List ℕ)
 partBytes t = map (λ (p : Piece). p .bytes) (t .parts)
 
+-- where the four parts and the name begin
 abbrev pub places : Texts → List ℕ
 places t = map (λ (p : Piece). p .place) (t .parts) ++ (t .name .place ∷ [])
 
+-- an item of the fields that were read
 abbrev pub itemOf : Account → Account → ℕ → ℕ → ℕ → Bank → Texts → Item
 itemOf payer payee amount variable specific bank texts =
     record {
@@ -118,6 +122,7 @@ spellTail sh specific parts name =
     (pick (eqb specific 0) [] (32 ∷ decimal specific))
     (32 ∷ (decimal specific ++ (32 ∷ spellText (sh .text) parts name))))
 
+-- "Canonical spelling": the payer if there is one, payee, amount, variable symbol, bank field, tail
 unfoldable pub spellItem : Sheet → Item → List ℕ
 spellItem sh x =
     pick (isNobody (x .payer)) [] (spellAccount (x .payer) ++ (32 ∷ []))

@@ -31,6 +31,7 @@ pub record FileHead : Type 0 where
   pub kind : ℕ
   pub number : ℕ
 
+-- the line that opened a group: payer, due date, and the total with its line and byte
 pub record GroupHead : Type 0 where
   pub payer : Account
   pub date : ℕ
@@ -38,6 +39,7 @@ pub record GroupHead : Type 0 where
   pub line : ℕ
   pub byte : ℕ
 
+-- before the first line; between account files; inside an account file; inside a group; at the end, with the answer
 pub data State : Type 0 where
   atFirst : State
   atFile : Header → List AccountFile → ℕ → State
@@ -60,6 +62,7 @@ contextOf (stop a) = forHead
 
 -- ---- 3: another kind of line is due
 
+-- kinds by number, to compare them
 abbrev pub code : Kind → ℕ
 code headLine = 0
 code fileLine = 1
@@ -68,6 +71,7 @@ code itemLine = 3
 code groupEnd = 4
 code fileEnd = 5
 
+-- are two kinds the same?
 abbrev pub is : Kind → Kind → Bool
 is a b = eqb (code a) (code b)
 
@@ -82,6 +86,7 @@ isDue (stop a) k = false
 
 -- ---- 15: account file 1,001, item 100,000 of an account file, item 1,001 of an S file
 
+-- "Numbers returned", 15: is there no room for one line more of this kind?
 unfoldable pub isFull : Sheet → State → Kind → Bool
 isFull sh atFirst k = false
 isFull sh (atFile h fs w) k = leb 1000 (length fs)
@@ -100,9 +105,11 @@ totalBroken strict total exact = pick (ltb most14 exact) true (pick strict (pick
 
 -- ---- one line
 
+-- a group of the line that opened it and its items
 abbrev pub groupOf : GroupHead → List Item → Group
 groupOf g xs = record { date = g .date; payer = g .payer; items = xs }
 
+-- an account file of the line that opened it and its groups
 abbrev pub fileOf : FileHead → List Group → AccountFile
 fileOf f gs = record { kind = f .kind; number = f .number; groups = gs }
 
@@ -120,6 +127,7 @@ firstOr0 (p ∷ ps) = p
 
 -- by entry: what it is expected to be goes on, any other answers z
 module _ {A : Type 0} where
+  -- a header
   unfoldable pub onHead : Entry → (Header → A) → A → A
   onHead (head h) k z = k h
   onHead (file n m) k z = z
@@ -128,6 +136,7 @@ module _ {A : Type 0} where
   onHead closeGroup k z = z
   onHead closeFile k z = z
 
+  -- an account file's kind and number
   unfoldable pub onFile : Entry → (ℕ → ℕ → A) → A → A
   onFile (head h) k z = z
   onFile (file n m) k z = k n m
@@ -136,6 +145,7 @@ module _ {A : Type 0} where
   onFile closeGroup k z = z
   onFile closeFile k z = z
 
+  -- a group's payer, total and date, or the account file's end (c)
   unfoldable pub onGroup : Entry → (Account → ℕ → ℕ → A) → A → A → A
   onGroup (head h) k c z = z
   onGroup (file n m) k c z = z
@@ -144,6 +154,7 @@ module _ {A : Type 0} where
   onGroup closeGroup k c z = z
   onGroup closeFile k c z = c
 
+  -- an item, or the group's end (c)
   unfoldable pub onItem : Entry → (Item → A) → A → A → A
   onItem (head h) k c z = z
   onItem (file n m) k c z = z

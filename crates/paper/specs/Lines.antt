@@ -11,9 +11,11 @@ pub record Line : Type 0 where
   pub start : ℕ
   pub bytes : List ℕ
 
+-- a line of these two
 abbrev pub line : ℕ → List ℕ → Line
 line at s = record { start = at; bytes = s }
 
+-- does an LF come next?
 abbrev pub startsLF : List ℕ → Bool
 startsLF [] = false
 startsLF (b ∷ bs) = eqb b 10

@@ -26,6 +26,7 @@ check k n ok rest = pick ok rest (wrong k n)
 
 -- ---- the header: row 0, fields in the order in which "The batch" names them
 
+-- a real day; 20 text bytes; a client number of ten digits; interval start and end of three
 unfoldable pub headerProper : Header → Verdict
 headerProper h =
     check 0 1 (realDay (h .date))
@@ -40,24 +41,28 @@ headerProper h =
 pub data Stage : Type 0 where
   needFile needGroup needItem any : Stage
 
+-- may an account file come here?
 unfoldable pub fileDue : Stage → Bool
 fileDue needFile = true
 fileDue needGroup = false
 fileDue needItem = false
 fileDue any = true
 
+-- may a group?
 unfoldable pub groupDue : Stage → Bool
 groupDue needFile = false
 groupDue needGroup = true
 groupDue needItem = false
 groupDue any = true
 
+-- may an item?
 unfoldable pub itemDue : Stage → Bool
 itemDue needFile = false
 itemDue needGroup = false
 itemDue needItem = true
 itemDue any = true
 
+-- may the rows end here?
 unfoldable pub mayStop : Stage → Bool
 mayStop needFile = false
 mayStop needGroup = false
@@ -72,6 +77,7 @@ pub record Before : Type 0 where
   pub single : Bool
   pub sum : ℕ
 
+-- before the first row
 abbrev pub atTop : Before
 atTop = record { stage = needFile; files = 0; items = 0; single = false; sum = 0 }
 

@@ -25,6 +25,7 @@ pub record ReadAnswer : Type 0 where
   pub needed : ℕ
   pub header : Header
 
+-- a refusal: its number, line and byte
 unfoldable pub refusedAt : ℕ → ℕ → ℕ → ReadAnswer
 refusedAt n l p = record { number = n; line = l; byte = p; rows = 0; warnings = 0; needed = 0; header = noHeader }
 
@@ -32,6 +33,7 @@ refusedAt n l p = record { number = n; line = l; byte = p; rows = 0; warnings = 
 unfoldable pub needs : ℕ → ReadAnswer
 needs n = record { number = 16; line = 0; byte = 0; rows = 0; warnings = 0; needed = n; header = noHeader }
 
+-- 0: header, rows and warnings
 unfoldable pub acceptedAs : Header → ℕ → ℕ → ReadAnswer
 acceptedAs h n w = record { number = 0; line = 0; byte = 0; rows = n; warnings = w; needed = 0; header = h }
 
@@ -55,15 +57,18 @@ readAnswer sheet today f lent = readWith (sheetOf sheet) today f (length lent / 
 
 -- ---- the lent rows afterwards: the rows in front of the old bytes behind them; a refusal leaves them as they were
 
+-- the rows of an accepted file, if there is room for them
 unfoldable pub filled : Sheet → ℕ → List ℕ → List ℕ → Answer → List ℕ
 filled sh today f lent (Refused n l p) = lent
 filled sh today f lent (Accepted h b w) =
     pick (ltb (length lent / rowSize) (rowCount b)) lent
     (rowsBytes (linesRows sh today false (linesOf 0 f)) ++ drop (rowSize * rowCount b) lent)
 
+-- 1 and 2 leave the rows alone too
 unfoldable pub rowsWith : Known → ℕ → List ℕ → List ℕ → List ℕ
 rowsWith (known.Sheet sh) today f lent = pick (realDay today) (filled sh today f lent (judge sh today f)) lent
 rowsWith known.Nothing today f lent = lent
 
+-- of the sheet that the number names
 unfoldable pub rowsAfter : ℕ → ℕ → List ℕ → List ℕ → List ℕ
 rowsAfter sheet today f lent = rowsWith (sheetOf sheet) today f lent

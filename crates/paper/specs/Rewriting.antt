@@ -20,10 +20,12 @@ unfoldable pub firstLine : List ℕ → List ℕ
 firstLine [] = []
 firstLine (b ∷ s) = pick (eqb b 10) [] (pick (eqb b 13) [] (b ∷ firstLine s))
 
+-- behind the LF of a CR LF
 unfoldable pub pastLF : List ℕ → List ℕ
 pastLF [] = []
 pastLF (b ∷ s) = pick (eqb b 10) s (b ∷ s)
 
+-- what stands behind the first line's end
 unfoldable pub behindFirst : List ℕ → List ℕ
 behindFirst [] = []
 behindFirst (b ∷ s) = pick (eqb b 10) s (pick (eqb b 13) (pastLF s) (behindFirst s))
@@ -43,6 +45,7 @@ unfoldable pub dayField : List ℕ → Field ℕ
 dayField [] = fault 2
 dayField (x ∷ s) = pick (eqb x 32) (shortDay s) (fault 2)
 
+-- 1 where the letter names no sheet
 unfoldable pub onSheet : Known → List ℕ → List ℕ → List ℕ
 onSheet (known.Sheet sh) rest input = onDay sh input (dayField rest)
 onSheet known.Nothing rest input = refusedLine 1 0 0
@@ -52,5 +55,6 @@ unfoldable pub onLetter : List ℕ → List ℕ → List ℕ
 onLetter [] input = refusedLine 1 0 0
 onLetter (letter ∷ rest) input = onSheet (sheetBy letter) rest input
 
+-- the whole output for the whole input
 unfoldable pub rewriting : List ℕ → List ℕ
 rewriting input = onLetter (firstLine input) input

@@ -30,6 +30,7 @@ unfoldable pub rowsOn : ℕ → List ℕ → List (List ℕ)
 rowsOn zero s = pick (null s) [] ([] ∷ [])
 rowsOn (suc n) s = words 24 s ∷ rowsOn n (drop rowSize s)
 
+-- all rows of the lent bytes
 unfoldable pub rowsIn : List ℕ → List (List ℕ)
 rowsIn s = rowsOn (length s / rowSize) s
 
@@ -42,6 +43,7 @@ word r i = getD r i 0
 unfoldable pub textAt : List ℕ → List ℕ → ℕ → List ℕ
 textAt t r i = pick (leb (word r i + word r (suc i)) (length t)) (take (word r (suc i)) (drop (word r i) t)) (0 ∷ [])
 
+-- an item's row, word by word (docs/ROWS.md)
 abbrev pub itemIn : List ℕ → List ℕ → Item
 itemIn t r =
     record {
@@ -64,19 +66,23 @@ thingIn t r =
     (pick (eqb (word r 0) 2) (aGroup (word r 1) (account (word r 2) (word r 3)))
     (pick (eqb (word r 0) 3) (anItem (itemIn t r)) strange))
 
+-- what rows say, in order
 unfoldable pub thingsIn : List ℕ → List (List ℕ) → List Thing
 thingsIn t [] = []
 thingsIn t (r ∷ rs) = thingIn t r ∷ thingsIn t rs
 
 -- ---- rows as reading leaves them; words that a kind does not use are 0
 
+-- n words that are 0
 unfoldable pub blanks : ℕ → List ℕ
 blanks zero = []
 blanks (suc n) = 0 ∷ blanks n
 
+-- an account file's row: its kind and number
 unfoldable pub fileRow : ℕ → ℕ → List ℕ
 fileRow kind number = 1 ∷ kind ∷ number ∷ blanks 21
 
+-- a group's row: its due date and payer
 unfoldable pub groupRow : ℕ → Account → List ℕ
 groupRow date payer = 2 ∷ date ∷ payer .prefix ∷ payer .base ∷ blanks 20
 
@@ -84,11 +90,13 @@ groupRow date payer = 2 ∷ date ∷ payer .prefix ∷ payer .base ∷ blanks 20
 unfoldable pub textWords : ℕ → ℕ → List ℕ → List ℕ
 textWords start off t = pick (null t) (0 ∷ 0 ∷ []) ((start + off) ∷ length t ∷ [])
 
+-- the same of several texts, each at its offset
 unfoldable pub textsWords : ℕ → List ℕ → List (List ℕ) → List ℕ
 textsWords start spots [] = []
 textsWords start [] (t ∷ ts) = textWords start 0 t ++ textsWords start [] ts
 textsWords start (off ∷ spots) (t ∷ ts) = textWords start off t ++ textsWords start spots ts
 
+-- an item's row: its numbers, then places and lengths of parts and name
 unfoldable pub itemRow : ℕ → List ℕ → Item → List ℕ
 itemRow start spots x =
     3 ∷ x .payer .prefix ∷ x .payer .base ∷ x .payee .prefix ∷ x .payee .base ∷ x .bank ∷ x .amount ∷ x .variable ∷ x .specific ∷ x .constant
@@ -103,6 +111,7 @@ entryRow start spots (item x) = itemRow start spots x ∷ []
 entryRow start spots closeGroup = []
 entryRow start spots closeFile = []
 
+-- a line that was refused has none
 unfoldable pub lineRow : ℕ → Said → List (List ℕ)
 lineRow start (got e v spots) = entryRow start spots e
 lineRow start (no n off) = []
@@ -116,6 +125,7 @@ singleAfter b (item x) = b
 singleAfter b closeGroup = b
 singleAfter b closeFile = b
 
+-- a line that was refused changes nothing
 unfoldable pub singleBehind : Bool → Said → Bool
 singleBehind b (got e v spots) = singleAfter b e
 singleBehind b (no n off) = b
@@ -132,6 +142,7 @@ unfoldable pub wordsBytes : List ℕ → List ℕ
 wordsBytes [] = []
 wordsBytes (w ∷ ws) = wordBytes 8 w ++ wordsBytes ws
 
+-- rows one behind the other
 unfoldable pub rowsBytes : List (List ℕ) → List ℕ
 rowsBytes [] = []
 rowsBytes (r ∷ rs) = wordsBytes r ++ rowsBytes rs

@@ -28,18 +28,21 @@ pub data Context : Type 0 where
   forGroup : Context
   forItem : Bool → Context
 
+-- may an account file have this number here?
 unfoldable pub allowedIn : Sheet → Context → ℕ → Bool
 allowedIn sh forHead n = true
 allowedIn sh (forFile h seen) n = numberAllowed (sh .interval) h seen n
 allowedIn sh forGroup n = true
 allowedIn sh (forItem single) n = true
 
+-- is the group that the line stands in single?
 unfoldable pub singleIn : Context → Bool
 singleIn forHead = false
 singleIn (forFile h seen) = false
 singleIn forGroup = false
 singleIn (forItem single) = single
 
+-- a line of a known kind, read by the definition of that kind
 unfoldable pub readAs : Sheet → ℕ → Context → Kind → List ℕ → Said
 readAs sh today c headLine s = readFirst sh s
 readAs sh today c fileLine s = readFile sh (allowedIn sh c) s
@@ -48,6 +51,7 @@ readAs sh today c itemLine s = readItem sh (singleIn c) s
 readAs sh today c groupEnd s = readClose (sh .near) closeGroup s
 readAs sh today c fileEnd s = readClose (sh .near) closeFile s
 
+-- a line, read by what its start says it is
 unfoldable pub readLine : Sheet → ℕ → Context → List ℕ → Said
 readLine sh today c s = readAs sh today c (kindOf s) s
 
@@ -62,6 +66,7 @@ pub record Due : Type 0 where
   pub context : Context
   pub entry : Entry
 
+-- an entry in a context
 abbrev pub due : Context → Entry → Due
 due c e = record { context = c; entry = e }
 
@@ -82,6 +87,7 @@ fileDues h seen [] = []
 fileDues h seen (f ∷ fs) =
     due (forFile h seen) (file (f .kind) (f .number)) ∷ groupDues (f .groups) (fileDues h (series (f .number) ∷ seen) fs)
 
+-- the first line, then the account files
 unfoldable pub dues : Header → Batch → List Due
 dues h b = due forHead (head h) ∷ fileDues h [] b
 
@@ -101,6 +107,7 @@ SaysEntry sh today s c (item x) w = Reads sh today s c (item x) w
 SaysEntry sh today s c closeGroup w = Reads sh today s c closeGroup w
 SaysEntry sh today s c closeFile w = Reads sh today s c closeFile w
 
+-- the line says the entry that is due
 abbrev pub Says : Sheet → ℕ → List ℕ → Due → ℕ → Type 0
 Says sh today s d w = SaysEntry sh today s (d .context) (d .entry) w
 
@@ -118,6 +125,7 @@ unfoldable pub groupItems : List Group → ℕ
 groupItems [] = 0
 groupItems (g ∷ gs) = length (g .items) + groupItems gs
 
+-- .. and account files
 unfoldable pub fileItems : List AccountFile → ℕ
 fileItems [] = 0
 fileItems (f ∷ fs) = groupItems (f .groups) + fileItems fs

@@ -15,6 +15,7 @@ pub record Piece : Type 0 where
   pub place : ℕ
   pub bytes : List ℕ
 
+-- a piece of these two
 abbrev pub piece : ℕ → List ℕ → Piece
 piece at s = record { place = at; bytes = s }
 
@@ -39,9 +40,11 @@ divide at s = piece at (before bar s) ∷ others at s
 unfoldable pub cut : Piece → Piece
 cut p = pick (null (p .bytes)) (piece 0 []) (piece (p .place) (take 35 (p .bytes)))
 
+-- one warning for a piece that is cut
 unfoldable pub over : Piece → ℕ
 over p = pick (ltb 35 (length (p .bytes))) 1 0
 
+-- .. for each of several
 unfoldable pub overs : List Piece → ℕ
 overs [] = 0
 overs (p ∷ ps) = over p + overs ps
@@ -98,6 +101,7 @@ lacks ps s = eqb (seek ps s) (length s)
 unfoldable pub nameProper : List ℕ → Bool
 nameProper n = pick (ltb 35 (length n)) false (all isText n)
 
+-- "The batch": a part, besides, holds no `|`
 unfoldable pub partProper : List ℕ → Bool
 partProper p = pick (nameProper p) (lacks bar p) false
 
@@ -114,6 +118,7 @@ unfoldable pub partsProper : List (List ℕ) → Bool
 partsProper [] = true
 partsProper (p ∷ ps) = pick (partProper p) (partsProper ps) false
 
+-- all parts are carried, the first being part i
 unfoldable pub partsCarried : Style → ℕ → List (List ℕ) → Bool
 partsCarried y i [] = true
 partsCarried y i (p ∷ ps) = pick (partCarried y i p) (partsCarried y (suc i) ps) false
@@ -126,6 +131,7 @@ keep [] [] = []
 keep [] (q ∷ qs) = [] ∷ q ∷ qs
 keep (x ∷ p) qs = (x ∷ p) ∷ qs
 
+-- .. of a whole list
 unfoldable pub trim : List (List ℕ) → List (List ℕ)
 trim [] = []
 trim (p ∷ ps) = keep p (trim ps)
@@ -135,6 +141,7 @@ unfoldable pub joinOn : List ℕ → List (List ℕ) → List ℕ
 joinOn p [] = p
 joinOn p (q ∷ qs) = p ++ (124 ∷ joinOn q qs)
 
+-- all parts, or nothing where there are none
 unfoldable pub joined : List (List ℕ) → List ℕ
 joined [] = []
 joined (p ∷ ps) = joinOn p ps

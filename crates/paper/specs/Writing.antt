@@ -21,6 +21,7 @@ pub data Draft : Type 0 where
   drafted : List ℕ → Draft
   refusal : ℕ → ℕ → ℕ → Draft
 
+-- a fault that was found is refused with its number; otherwise the next is tested
 unfoldable pub onVerdict : ℕ → Verdict → Draft → Draft
 onVerdict n fine rest = rest
 onVerdict n (wrong row field) rest = refusal n row field
@@ -45,6 +46,7 @@ draft sheet today h rows texts = draftWith (sheetOf sheet) today h (thingsIn tex
 
 -- ---- the answer, with the bytes written or, with 16, needed; and the output afterwards
 
+-- number, row and field, and the bytes written or needed
 pub record WriteAnswer : Type 0 where
   pub number : ℕ
   pub row : ℕ
