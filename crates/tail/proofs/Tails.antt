@@ -5,7 +5,6 @@ use mathlib.Core.List.{List, [], _∷_}
 use Prim.Native.Nat.{ℕ, suc, _+_, _≤_, _<_}
 use native.Mathlib.Numerals.{add-one}
 use native.Mathlib.Omega.{arith}
-use lib.Dec.{ltb}
 use lib.ListN.{length, drop, drop-of-length-le}
 use lib.Seq.{drop-cons}
 use Rattle.base.specs.Pick.{pick}
@@ -18,7 +17,7 @@ use Rattle.paper.specs.Numerals.{digits, digitsOn}
 use Rattle.paper.specs.Texts.{Texts, readText}
 use Rattle.paper.specs.Entries.{Said, no, field, toEnd}
 use Rattle.paper.specs.ItemLine.{readSymbol, readSymbolOrNone, isValue, noTexts, afterSymbol, fixedTail, openTail}
-use Rattle.field.specs.At.{At, found, missed, ending, fieldAt}
+use Rattle.field.specs.At.{ending, fieldAt}
 use Rattle.field.specs.declared.NumAt.{NumAt}
 use Rattle.field.specs.declared.NumAt.the-variants.{Value, Refused}
 use Rattle.field.specs.Told.{told}

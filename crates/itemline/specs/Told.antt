@@ -1,0 +1,64 @@
+-- What the answer of the line's reader stands for in document 01, "The batch", "Lines" and "Numbers returned". Assumes nothing.
+use Prim.Native.Nat.{ℕ, _≤_}
+use mathlib.Core.List.{List}
+use lib.ListN.{length, drop}
+use Rattle.paper.specs.Accounts.{Account, account}
+use Rattle.paper.specs.Batch.{Item, most14}
+use Rattle.paper.specs.Entries.{item, Said, got, no}
+use Rattle.paper.specs.ItemLine.{partBytes, places}
+use Rattle.span.specs.declared.Span.{Span}
+use Rattle.span.specs.declared.Spans.{Spans}
+use Rattle.span.specs.Held.{pieceAt, textsAt, Held}
+use Rattle.itemline.specs.declared.Fields.{Fields}
+use Rattle.itemline.specs.declared.ItemRead.{ItemRead}
+use Rattle.itemline.specs.declared.ItemRead.the-variants as answer
+use Rattle.itemline.specs.declared.PayerRead.{PayerRead}
+use Rattle.itemline.specs.declared.PayerRead.the-variants as before
+
+-- no message and no name
+abbrev none : Span
+none = record { at = 0; len = 0 }
+
+abbrev pub noSpans : Spans
+noSpans = record { part1 = none; part2 = none; part3 = none; part4 = none; name = none; warnings = 0 }
+
+-- the item of these fields, its texts at their places in the line s
+abbrev pub itemAt : List ℕ → Fields → Item
+itemAt s f =
+    record {
+      payer = account (f .payerprefix) (f .payerbase);
+      payee = account (f .payeeprefix) (f .payeebase);
+      bank = f .bank;
+      amount = f .amount;
+      variable = f .variable;
+      specific = f .specific;
+      constant = f .constant;
+      priority = f .priority;
+      parts = partBytes (textsAt s (f .texts));
+      name = pieceAt s (f .texts .name) .bytes;
+    }
+
+-- an item, its warnings and the places of its texts; or the refusal's number and its offset in the line
+abbrev pub told : List ℕ → ItemRead → Said
+told s (answer.Item f) = got (item (itemAt s f)) (f .warnings) (places (textsAt s (f .texts)))
+told s (answer.Refused n at) = no n at
+
+-- its texts lie in the line, its amount has 14 digits at most, and each text and the priority warn once at most
+pub record Sound (s : List ℕ) (f : Fields) : Type 0 where
+  pub held : Held s (f .texts)
+  pub low : f .amount ≤ most14
+  pub few : f .warnings ≤ 6
+
+abbrev pub Kept : List ℕ → ItemRead → Type 0
+Kept s (answer.Item f) = Sound s f
+Kept s (answer.Refused n at) = Unit
+
+-- the reading goes on (k) with the payer and the line from its place on; or it is refused
+abbrev pub toldPayer : List ℕ → PayerRead → (Account → ℕ → List ℕ → Said) → Said
+toldPayer s (before.Payer prefix base at) k = k (account prefix base) at (drop at s)
+toldPayer s (before.Refused n at) k = no n at
+
+-- the payee begins in the line, or with its end
+abbrev pub InsidePayer : List ℕ → PayerRead → Type 0
+InsidePayer s (before.Payer prefix base at) = at ≤ length s
+InsidePayer s (before.Refused n at) = Unit
