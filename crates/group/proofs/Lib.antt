@@ -1,0 +1,4 @@
+pub mod Inside
+pub mod Steps
+pub mod Turns
+pub mod Going
