@@ -1,0 +1,22 @@
+-- Each way out is one case of the definition.
+use borrow.Author.Needs.{needs}
+use Rattle.base.proofs.Cases.{picks}
+use Rattle.itemrow.proofs.place_word.Statement.{statement}
+use Rattle.itemrow.proofs.place_word.Tie as tie
+use Rattle.itemrow.proofs.place_word.Reads as reads
+use Rattle.itemrow.proofs.place_word.Lts as lts
+
+-- src/lib.rt:21:9
+returns : tie.Need-returns
+returns c = search picks
+
+-- src/lib.rt:23:6
+add-result : tie.Need-add-result
+add-result c = search needs
+
+-- src/lib.rt:16:1
+returns-2 : tie.Need-returns-2
+returns-2 c = search picks
+
+pub place-word-spec : {M : Type 1} → statement M
+place-word-spec = tie.close (tie.spec returns add-result returns-2)
