@@ -1,0 +1,86 @@
+-- How long rows are, of any line whether or not it is accepted, and how rows of lines are put together. Assumes nothing.
+use mathlib.Core.Path.{_≡_, refl, sym, ap, _∙_}
+use mathlib.Core.Bool.{Bool}
+use mathlib.Core.List.{List, [], _∷_, _++_, append-assoc}
+use Prim.Native.Nat.{ℕ, _*_, _≤_}
+use native.Mathlib.Omega.{arith}
+use lib.ListN.{length, length-append, length-map}
+use Rattle.sheet.specs.declared.Sheet.{Sheet}
+use Rattle.paper.specs.Batch.{Item}
+use Rattle.paper.specs.Texts.{Piece}
+use Rattle.paper.specs.Lines.{Line}
+use Rattle.paper.specs.Entries.{head, file, group, item, closeGroup, closeFile, Said, got, no}
+use Rattle.paper.specs.Spells.{Context, forItem, readAs, readLine}
+use Rattle.paper.specs.Rows.{blanks, fileRow, groupRow, textsWords, itemRow, entryRow, lineRow, singleBehind, linesRows, rowsBytes, wordsBytes}
+use Rattle.exact.proofs.Told.{told-line, kind-item}
+use Rattle.rowlaws.specs.Sizes.{Long}
+use Rattle.rowlaws.proofs.Kept.{KeptItem, kept-item}
+use Rattle.rowlaws.proofs.Row.{words-of}
+
+-- ---- one row
+
+texts-long : (start : ℕ) (spots : List ℕ) (ts : List (List ℕ)) → length (textsWords start spots ts) ≡ 2 * length ts
+unfolding textsWords
+texts-long start spots [] = refl
+texts-long start [] (t ∷ ts) = rw (words-of start 0 t) (omega (arith, texts-long start [] ts))
+texts-long start (off ∷ spots) (t ∷ ts) = rw (words-of start off t) (omega (arith, texts-long start spots ts))
+
+pub item-long : (start : ℕ) (spots : List ℕ) (x : Item) → length (x .parts) ≡ 4 → length (itemRow start spots x) ≡ 24
+unfolding itemRow blanks
+item-long start spots x four =
+    let all = x .parts ++ (x .name ∷ []) in
+    omega (arith, length-append (textsWords start spots all) (0 ∷ 0 ∷ 0 ∷ []), texts-long start spots all, length-append (x .parts) (x .name ∷ []))
+
+-- an item that was read has four parts
+pub item-four : (w : List ℕ) (x : Item) (spots : List ℕ) → KeptItem w x spots → length (x .parts) ≡ 4
+item-four w x spots k = ap length (k .partsAre) ∙ length-map (k .texts .parts) (λ (p : Piece). p .bytes) ∙ k .placed .four
+
+-- ---- a line's row, if it has one
+
+module _ (sh : Sheet) (today : ℕ) (c : Context) (start : ℕ) (s : List ℕ) where
+  said-long : (r : Said) → readLine sh today c s ≡ r → Long (lineRow start r)
+  unfolding readLine readAs lineRow entryRow fileRow groupRow blanks
+  said-long (got (head h) v spots) q = tt
+  said-long (got (file k n) v spots) q = (refl, tt)
+  said-long (got (group p t d) v spots) q = (refl, tt)
+  said-long (got (item x) v spots) q =
+      let i = kind-item (told-line sh today c s _ q) in
+      (item-long start spots x (item-four s x spots (kept-item sh s v spots _ x (rw i at q))), tt)
+  said-long (got closeGroup v spots) q = tt
+  said-long (got closeFile v spots) q = tt
+  said-long (no n off) q = tt
+
+  pub line-long : Long (lineRow start (readLine sh today c s))
+  line-long = said-long (readLine sh today c s) refl
+
+  said-most : (r : Said) → length (lineRow start r) ≤ 1
+  unfolding lineRow entryRow
+  said-most (got (head h) v spots) = omega arith
+  said-most (got (file k n) v spots) = omega arith
+  said-most (got (group p t d) v spots) = omega arith
+  said-most (got (item x) v spots) = omega arith
+  said-most (got closeGroup v spots) = omega arith
+  said-most (got closeFile v spots) = omega arith
+  said-most (no n off) = omega arith
+
+  pub line-most : length (lineRow start (readLine sh today c s)) ≤ 1
+  line-most = said-most (readLine sh today c s)
+
+-- ---- the rows of lines
+
+pub long-append : (rs qs : List (List ℕ)) → Long rs → Long qs → Long (rs ++ qs)
+long-append [] qs l m = m
+long-append (r ∷ rs) qs (l, ls) m = (l, long-append rs qs ls m)
+
+pub lines-long : (sh : Sheet) (today : ℕ) (b : Bool) (ls : List Line) → Long (linesRows sh today b ls)
+unfolding linesRows
+lines-long sh today b [] = tt
+lines-long sh today b (t ∷ ls) =
+    let r = readLine sh today (forItem b) (t .bytes) in
+    long-append (lineRow (t .start) r) (linesRows sh today (singleBehind b r) ls)
+    (line-long sh today (forItem b) (t .start) (t .bytes)) (lines-long sh today (singleBehind b r) ls)
+
+pub bytes-append : (rs qs : List (List ℕ)) → rowsBytes (rs ++ qs) ≡ rowsBytes rs ++ rowsBytes qs
+unfolding rowsBytes
+bytes-append [] qs = refl
+bytes-append (r ∷ rs) qs = rw (bytes-append rs qs) (sym (append-assoc (wordsBytes r) (rowsBytes rs) (rowsBytes qs)))

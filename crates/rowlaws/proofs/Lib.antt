@@ -1,0 +1,12 @@
+pub mod Here
+pub mod Pieces
+pub mod Within
+pub mod Only
+pub mod Kept
+pub mod Row
+pub mod Filled
+pub mod Bytes
+pub mod Fitting
+pub mod Lengths
+pub mod Tree
+pub mod Main

@@ -1,0 +1,95 @@
+-- A line that is accepted says the same where any account file's number is allowed: so the second reading needs no header. Assumes nothing.
+use mathlib.Core.Path.{_≡_, refl}
+use mathlib.Core.Bool.{Bool, true}
+use mathlib.Core.List.{List, [], _∷_}
+use Prim.Native.Nat.{ℕ}
+use Rattle.base.specs.Pick.{pick}
+use Rattle.base.proofs.Cases.{either}
+use Rattle.sheet.specs.declared.Sheet.{Sheet}
+use Rattle.paper.specs.Read.{Field, value, fault, given}
+use Rattle.paper.specs.Bytes.{fieldOf}
+use Rattle.paper.specs.Batch.{Item, Header}
+use Rattle.paper.specs.Accounts.{Account}
+use Rattle.paper.specs.Entries.{Entry, head, file, group, item, closeGroup, closeFile, Said, got, no, onField, field, gap}
+use Rattle.paper.specs.FileLine.{readNumber, readFile}
+use Rattle.paper.specs.Spells.{Context, forItem, allowedIn, singleIn, readAs, readLine}
+use Rattle.exact.proofs.Told.{told-line, kind-head, kind-file, kind-group, kind-item, kind-group-end, kind-file-end}
+
+-- the first reading is refused, or the second is the same
+data Within : Said → Said → Type 0 where
+  same : {r : Said} → Within r r
+  refused : {n off : ℕ} {r : Said} → Within (no n off) r
+
+data WithinField {A : Type 0} : Field A → Field A → Type 0 where
+  alike : {r : Field A} → WithinField r r
+  fails : {n : ℕ} {r : Field A} → WithinField (fault n) r
+
+within-got : {e : Entry} {v : ℕ} {spots : List ℕ} {r : Said} → Within (got e v spots) r → r ≡ got e v spots
+within-got same = refl
+
+-- ---- through the ways of reading
+
+module _ {A : Type 0} where
+  within-on : (at : ℕ) {x y : Field A} {k l : A → Said} → WithinField x y → ((v : A) → Within (k v) (l v)) → Within (onField at x k) (onField at y l)
+  unfolding onField
+  within-on at (alike {r = value v}) h = h v
+  within-on at (alike {r = fault n}) h = same
+  within-on at fails h = refused
+
+  within-field : (read wide : List ℕ → Field A) (at : ℕ) (s : List ℕ) {k l : A → ℕ → List ℕ → Said}
+      → WithinField (read (fieldOf s)) (wide (fieldOf s)) → ((v : A) (a : ℕ) (r : List ℕ) → Within (k v a r) (l v a r)) → Within (field read at s k) (field wide at s l)
+  unfolding field
+  within-field read wide at s e h = within-on at e λ v. h v _ _
+
+within-gap : (at : ℕ) (s : List ℕ) {k l : ℕ → List ℕ → Said} → ((a : ℕ) (r : List ℕ) → Within (k a r) (l a r)) → Within (gap at s k) (gap at s l)
+unfolding gap
+within-gap at [] h = refused
+within-gap at (x ∷ s) h = h _ _
+
+-- ---- the line of an account file
+
+within-given : {A B : Type 0} (x : Field A) {k l : A → Field B} → ((v : A) → WithinField (k v) (l v)) → WithinField (given x k) (given x l)
+unfolding given
+within-given (value v) h = h v
+within-given (fault n) h = fails
+
+within-number : (allowed : ℕ → Bool) (s : List ℕ) → WithinField (readNumber allowed s) (readNumber (λ n. true) s)
+unfolding readNumber pick
+within-number allowed s = within-given _ λ n. either (λ r. WithinField r (value n)) (allowed n) (λ _. alike) (λ _. fails)
+
+within-file : (sh : Sheet) (allowed : ℕ → Bool) (s : List ℕ) → Within (readFile sh allowed s) (readFile sh (λ n. true) s)
+unfolding readFile
+within-file sh allowed s =
+    within-field _ _ _ _ alike λ kind a1 s1. within-gap a1 s1 λ a2 s2. within-field _ _ a2 s2 (within-number allowed _) λ number a3 s3. same
+
+-- what is accepted of an account file's line is so with any number allowed
+pub file-again : (sh : Sheet) (allowed : ℕ → Bool) (s : List ℕ) (e : Entry) (v : ℕ) (spots : List ℕ)
+    → readFile sh allowed s ≡ got e v spots → readFile sh (λ n. true) s ≡ got e v spots
+file-again sh allowed s e v spots q = within-got (rw q at (within-file sh allowed s))
+
+-- ---- any line, read in the context of an item
+
+module _ (sh : Sheet) (today : ℕ) (c : Context) (b : Bool) (s : List ℕ) (v : ℕ) (spots : List ℕ) where
+  pub head-again : (h : Header) → readLine sh today c s ≡ got (head h) v spots → readLine sh today (forItem b) s ≡ got (head h) v spots
+  unfolding readLine readAs
+  head-again h q = let k = kind-head (told-line sh today c s _ q) in rw k (rw k at q)
+
+  pub file-line-again : (k n : ℕ) → readLine sh today c s ≡ got (file k n) v spots → readLine sh today (forItem b) s ≡ got (file k n) v spots
+  unfolding readLine readAs allowedIn
+  file-line-again k n q = let i = kind-file (told-line sh today c s _ q) in rw i (file-again sh (allowedIn sh c) s (file k n) v spots (rw i at q))
+
+  pub group-again : (p : Account) (t d : ℕ) → readLine sh today c s ≡ got (group p t d) v spots → readLine sh today (forItem b) s ≡ got (group p t d) v spots
+  unfolding readLine readAs
+  group-again p t d q = let k = kind-group (told-line sh today c s _ q) in rw k (rw k at q)
+
+  pub item-again : (x : Item) → singleIn c ≡ b → readLine sh today c s ≡ got (item x) v spots → readLine sh today (forItem b) s ≡ got (item x) v spots
+  unfolding readLine readAs singleIn
+  item-again x e q = let k = kind-item (told-line sh today c s _ q) in rw k (rw (k, e) at q)
+
+  pub group-end-again : readLine sh today c s ≡ got closeGroup v spots → readLine sh today (forItem b) s ≡ got closeGroup v spots
+  unfolding readLine readAs
+  group-end-again q = let k = kind-group-end (told-line sh today c s _ q) in rw k (rw k at q)
+
+  pub file-end-again : readLine sh today c s ≡ got closeFile v spots → readLine sh today (forItem b) s ≡ got closeFile v spots
+  unfolding readLine readAs
+  file-end-again q = let k = kind-file-end (told-line sh today c s _ q) in rw k (rw k at q)
