@@ -1,0 +1,91 @@
+-- On a sheet without a header (C), none is looked at: what writing does is the same with any. Assumes nothing.
+use mathlib.Core.Path.{_≡_, refl, sym, ap, _∙_}
+use mathlib.Core.Bool.{Bool, true, false}
+use mathlib.Core.List.{List, [], _∷_, _++_}
+use Prim.Native.Nat.{ℕ, suc}
+use Rattle.base.proofs.Cases.{by-test, pick-true, pick-false}
+use Rattle.sheet.specs.declared.Sheet.{Sheet}
+use Rattle.paper.specs.Batch.{Item, Group, AccountFile, Batch, Header, noHeader, Thing, aFile, aGroup, anItem, strange}
+use Rattle.paper.specs.FileLine.{series}
+use Rattle.paper.specs.Entries.{item, closeGroup, closeFile}
+use Rattle.paper.specs.FirstLine.{spellFirst}
+use Rattle.paper.specs.Carried.{rowsCarried, batchCarried}
+use Rattle.paper.specs.Spells.{Due, itemDues, groupDues, fileDues, dues}
+use Rattle.paper.specs.Canonical.{spell, textOf, canon}
+use Rattle.lineback.specs.Apt.{Apt}
+use Rattle.lineback.proofs.Main.{number-any}
+use Rattle.whole.specs.Carries.{Passes, headRead}
+
+module _ (sh : Sheet) where
+  -- ---- the canonical file
+
+  abbrev line : List ℕ → List ℕ → List ℕ
+  line s t = s ++ (13 ∷ 10 ∷ t)
+
+  module _ (h h′ : Header) where
+    text-items : (single : Bool) (xs : List Item) (r r′ : List Due) → textOf sh r ≡ textOf sh r′ → textOf sh (itemDues single xs r) ≡ textOf sh (itemDues single xs r′)
+    unfolding itemDues textOf
+    text-items single [] r r′ e = ap (line (spell sh closeGroup)) e
+    text-items single (x ∷ xs) r r′ e = ap (line (spell sh (item x))) (text-items single xs r r′ e)
+
+    text-groups : (gs : List Group) (r r′ : List Due) → textOf sh r ≡ textOf sh r′ → textOf sh (groupDues gs r) ≡ textOf sh (groupDues gs r′)
+    unfolding groupDues textOf
+    text-groups [] r r′ e = ap (line (spell sh closeFile)) e
+    text-groups (g ∷ gs) r r′ e = ap (line (spell sh _)) (text-items _ (g .items) (groupDues gs r) (groupDues gs r′) (text-groups gs r r′ e))
+
+    text-files : (seen : List ℕ) (fs : List AccountFile) → textOf sh (fileDues h seen fs) ≡ textOf sh (fileDues h′ seen fs)
+    unfolding fileDues textOf
+    text-files seen [] = refl
+    text-files seen (f ∷ fs) = ap (line (spell sh _)) (text-groups (f .groups) _ _ (text-files (series (f .number) ∷ seen) fs))
+
+    first-same : sh .header ≡ false → spellFirst sh h ≡ spellFirst sh h′
+    unfolding spellFirst
+    first-same off = pick-false _ _ off ∙ sym (pick-false _ _ off)
+
+    pub canon-same : sh .header ≡ false → (b : Batch) → canon sh h b ≡ canon sh h′ b
+    unfolding canon dues textOf spell
+    canon-same off b = rw (first-same off) (ap (line (spellFirst sh h′)) (text-files [] b))
+
+  -- ---- the tests
+
+  module _ (q : Apt sh) (off : sh .header ≡ false) (today : ℕ) (h h′ : Header) where
+    rows-same : (k n : ℕ) (seen : List ℕ) (ts : List Thing) → rowsCarried sh today h k n seen ts ≡ rowsCarried sh today h′ k n seen ts
+    unfolding rowsCarried
+    rows-same k n seen [] = refl
+    rows-same k n seen (aFile kind number ∷ ts) =
+        rw (number-any sh q off h seen number, number-any sh q off h′ seen number, rows-same (suc k) n (series number ∷ seen) ts) refl
+    rows-same k n seen (aGroup date payer ∷ ts) = rw (rows-same (suc k) n seen ts) refl
+    rows-same k n seen (anItem x ∷ ts) = rw (rows-same (suc k) (suc n) seen ts) refl
+    rows-same k n seen (strange ∷ ts) = refl
+
+    passes-same : (ts : List Thing) → Passes sh today h ts → Passes sh today h′ ts
+    unfolding batchCarried
+    passes-same ts p =
+        record {
+          header-proper = pick-false _ _ off;
+          rows-proper = p .rows-proper;
+          header-carried = pick-false _ _ off;
+          rows-carried = sym (rows-same 1 0 [] ts) ∙ p .rows-carried;
+          four-parts = p .four-parts;
+        }
+
+  -- ---- the header that is read back
+
+  pub head-on : sh .header ≡ true → (h : Header) → headRead sh h ≡ h
+  unfolding headRead
+  head-on on h = pick-true _ _ on
+
+  pub head-off : sh .header ≡ false → (h : Header) → headRead sh h ≡ noHeader
+  unfolding headRead
+  head-off off h = pick-false _ _ off
+
+  pub canon-read : (h : Header) (b : Batch) → canon sh (headRead sh h) b ≡ canon sh h b
+  canon-read h b =
+      by-test (sh .header) (λ on. ap (λ (x : Header). canon sh x b) (head-on on h)) (λ off. canon-same (headRead sh h) h off b)
+
+  module _ (q : Apt sh) (today : ℕ) (h : Header) (ts : List Thing) where
+    pub passes-read : Passes sh today h ts → Passes sh today (headRead sh h) ts
+    passes-read p = by-test (sh .header) (λ on. rw (head-on on h) p) (λ off. passes-same q off today h (headRead sh h) ts p)
+
+    pub passes-written : Passes sh today (headRead sh h) ts → Passes sh today h ts
+    passes-written p = by-test (sh .header) (λ on. rw (head-on on h) at p) (λ off. passes-same q off today (headRead sh h) h ts p)

@@ -1,0 +1,10 @@
+pub mod Lines
+pub mod Good
+pub mod Only
+pub mod Also
+pub mod Trees
+pub mod Headers
+pub mod Warnings
+pub mod Whole
+pub mod Drafts
+pub mod Main
