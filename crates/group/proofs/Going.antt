@@ -121,8 +121,8 @@ module _ {sh : Sheet} {f : List ℕ} {from j : ℕ} {c₀ : Counts} {s₀ : Shel
         let stops : Turns sh (lineIn f at (cut .stop)) c s o (turn.Stop n byte) = rw e at turns in
         record {
           same = λ today h l.
-            sym (run-stop sh today (length f) (k + 1) (linesFrom f (cut .next)) (No n k byte))
-            ∙ (run-on sh today (length f) k f at cut cuts (inGroup h l c s o) (tStop (No n k byte)) (stops today k h l) ∙ going .same today h l);
+              sym (run-stop sh today (length f) (k + 1) (linesFrom f (cut .next)) (No n k byte))
+              ∙ (run-on sh today (length f) k f at cut cuts (inGroup h l c s o) (tStop (No n k byte)) (stops today k h l) ∙ going .same today h l);
           behind = tt;
         }
 
@@ -135,7 +135,7 @@ module _ {sh : Sheet} {f : List ℕ} {from j : ℕ} {c₀ : Counts} {s₀ : Shel
         rw q
         (record {
           same = λ today h l.
-            closed-same sh today f h l (cut .next) (k + 1) c s o
-            ∙ (run-on sh today (length f) k f at cut cuts (inGroup h l c s o) _ (closes today k h l) ∙ going .same today h l);
+              closed-same sh today f h l (cut .next) (k + 1) c s o
+              ∙ (run-on sh today (length f) k f at cut cuts (inGroup h l c s o) _ (closes today k h l) ∙ going .same today h l);
           behind = closed-behind sh f from (cut .next) (k + 1) c s o small (omega (arith, going .on, cuts .ahead)) (cuts .inside) (omega (arith, going .begun .lines, cuts .ahead));
         })

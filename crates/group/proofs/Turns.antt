@@ -137,6 +137,9 @@ pub end-fits : (c : Counts) (s : Shelf) (o : Open) (d : ℕ) → LowItem c s o �
 end-fits c s o d low e = omega (arith, item-limits _ _ _ low .warnings, differs-one (o .total) (o .sum))
 
 pub ruleset others = (step-head, step-file, step-group, step-file-end)
+
 pub ruleset items-turn = (turn-full-file, turn-full, turn-item, turn-refused)
+
 pub ruleset closings = (close-empty, close-closed, close-refused)
+
 pub ruleset ends = (end-broken, end-more)

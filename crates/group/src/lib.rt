@@ -81,7 +81,15 @@ pub fn total_differs(total: u64, sum: u64) -> u64
 }
 
 // An item's line, which is known as one. 15 comes before its fields.
-fn item_turn(f: &[u8], sh: Sheet, at: usize, stop: usize, counts: Counts, shelf: Shelf, opened: Open) -> Turn
+fn item_turn(
+    f: &[u8],
+    sh: Sheet,
+    at: usize,
+    stop: usize,
+    counts: Counts,
+    shelf: Shelf,
+    opened: Open,
+) -> Turn
     requires { ⌜ Sane sh ⌝ }
     requires { ⌜ (at ≤ stop) × (stop ≤ length (now f)) ⌝ }
     requires { ⌜ kindOf (take (stop - at) (drop at (now f))) ≡ itemLine ⌝ }
@@ -106,7 +114,15 @@ fn item_turn(f: &[u8], sh: Sheet, at: usize, stop: usize, counts: Counts, shelf:
 }
 
 // A line that closes the group, which is known as one.
-fn close_turn(f: &[u8], sh: Sheet, at: usize, stop: usize, counts: Counts, shelf: Shelf, opened: Open) -> Turn
+fn close_turn(
+    f: &[u8],
+    sh: Sheet,
+    at: usize,
+    stop: usize,
+    counts: Counts,
+    shelf: Shelf,
+    opened: Open,
+) -> Turn
     requires { ⌜ (at ≤ stop) × (stop ≤ length (now f)) ⌝ }
     requires { ⌜ kindOf (take (stop - at) (drop at (now f))) ≡ groupEnd ⌝ }
     ensures { λ r. ⌜ Turns sh (lineIn (now (f .entry)) at stop) counts shelf opened r ⌝ }
@@ -122,7 +138,15 @@ fn close_turn(f: &[u8], sh: Sheet, at: usize, stop: usize, counts: Counts, shelf
 }
 
 // One line of an open group: the bytes of the file from `at` to `stop`.
-fn item_step(f: &[u8], sh: Sheet, at: usize, stop: usize, counts: Counts, shelf: Shelf, opened: Open) -> Turn
+fn item_step(
+    f: &[u8],
+    sh: Sheet,
+    at: usize,
+    stop: usize,
+    counts: Counts,
+    shelf: Shelf,
+    opened: Open,
+) -> Turn
     requires { ⌜ Sane sh ⌝ }
     requires { ⌜ (at ≤ stop) × (stop ≤ length (now f)) ⌝ }
     ensures { λ r. ⌜ Turns sh (lineIn (now (f .entry)) at stop) counts shelf opened r ⌝ }
@@ -138,7 +162,14 @@ fn item_step(f: &[u8], sh: Sheet, at: usize, stop: usize, counts: Counts, shelf:
 }
 
 // The group's end: 10 at its total, or what stands behind it.
-fn close_group(strict: bool, at: usize, line: u64, counts: Counts, shelf: Shelf, opened: Open) -> GroupEnd
+fn close_group(
+    strict: bool,
+    at: usize,
+    line: u64,
+    counts: Counts,
+    shelf: Shelf,
+    opened: Open,
+) -> GroupEnd
     requires { ⌜ LowItem counts shelf opened ⌝ }
     ensures { λ r. ⌜ r ≡ closedAs strict at line counts shelf opened ⌝ }
 {
@@ -164,7 +195,15 @@ fn close_group(strict: bool, at: usize, line: u64, counts: Counts, shelf: Shelf,
 }
 
 // The lines of an open group, from `at` on, up to the one that closes it or is refused.
-pub fn group_items(f: &[u8], sh: Sheet, at: usize, line: u64, counts: Counts, shelf: Shelf, opened: Open) -> GroupEnd
+pub fn group_items(
+    f: &[u8],
+    sh: Sheet,
+    at: usize,
+    line: u64,
+    counts: Counts,
+    shelf: Shelf,
+    opened: Open,
+) -> GroupEnd
     requires { ⌜ Sane sh ⌝ }
     requires { ⌜ Begun (now f) at line counts shelf opened ⌝ }
     ensures { λ r. ⌜ Ended sh (now (f .entry)) at line counts shelf opened r ⌝ }

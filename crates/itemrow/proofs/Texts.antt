@@ -48,11 +48,18 @@ module _ (start : ℕ) (x : Fields) (a b c d n : ℕ) (ea : a ≡ placeWord star
   unfolding itemRow textsWords blanks
   item-words s h =
       let t = x .texts in
-      rw (span-words start s (t .part1 .at) (t .part1 .len) (h .first),
-      span-words start s (t .part2 .at) (t .part2 .len) (h .second),
-      span-words start s (t .part3 .at) (t .part3 .len) (h .third),
-      span-words start s (t .part4 .at) (t .part4 .len) (h .fourth),
-      span-words start s (t .name .at) (t .name .len) (h .named), ea, eb, ec, ed, en)
+      rw (
+        span-words start s (t .part1 .at) (t .part1 .len) (h .first),
+        span-words start s (t .part2 .at) (t .part2 .len) (h .second),
+        span-words start s (t .part3 .at) (t .part3 .len) (h .third),
+        span-words start s (t .part4 .at) (t .part4 .len) (h .fourth),
+        span-words start s (t .name .at) (t .name .len) (h .named),
+        ea,
+        eb,
+        ec,
+        ed,
+        en,
+      )
 
   pub item-row : (o o1 : List ℕ) (at p : ℕ) → Wrote o at (wordsBytes (rowWords x a b c d n)) o1 p
       → (s : List ℕ) → Held s (x .texts) → Wrote o at (wordsBytes (itemRow start (places (textsAt s (x .texts))) (itemAt s x))) o1 p

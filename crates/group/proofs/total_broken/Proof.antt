@@ -10,34 +10,42 @@ use Rattle.group.proofs.total_broken.Lts as lts
 returns : tie.Need-returns
 unfolding totalBroken pick
 returns c =
-    simp (lt-ltb _ _ (c .if1 .taken),
-    lt-leb _ _ (c .if1 .taken))
+    simp (
+      lt-ltb _ _ (c .if1 .taken),
+      lt-leb _ _ (c .if1 .taken),
+    )
 
 -- src/lib.rt:66:13
 returns-2 : tie.Need-returns-2
 unfolding totalBroken pick
 returns-2 c =
-    simp (le-leb _ _ (c .before .before .if1 .left),
-    le-ltb _ _ (c .before .before .if1 .left),
-    c .before .if2 .taken,
-    eq-eqb _ _ (c .if3 .taken))
+    simp (
+      le-leb _ _ (c .before .before .if1 .left),
+      le-ltb _ _ (c .before .before .if1 .left),
+      c .before .if2 .taken,
+      eq-eqb _ _ (c .if3 .taken),
+    )
 
 -- src/lib.rt:68:9
 returns-3 : tie.Need-returns-3
 unfolding totalBroken pick
 returns-3 c =
-    simp (le-leb _ _ (c .before .before .if1 .left),
-    le-ltb _ _ (c .before .before .if1 .left),
-    c .before .if2 .taken,
-    ne-eqb _ _ (c .if3 .left))
+    simp (
+      le-leb _ _ (c .before .before .if1 .left),
+      le-ltb _ _ (c .before .before .if1 .left),
+      c .before .if2 .taken,
+      ne-eqb _ _ (c .if3 .left),
+    )
 
 -- src/lib.rt:58:1
 returns-4 : tie.Need-returns-4
 unfolding totalBroken pick
 returns-4 c =
-    simp (le-leb _ _ (c .before .if1 .left),
-    le-ltb _ _ (c .before .if1 .left),
-    c .if2 .left)
+    simp (
+      le-leb _ _ (c .before .if1 .left),
+      le-ltb _ _ (c .before .if1 .left),
+      c .if2 .left,
+    )
 
 pub total-broken-spec : {M : Type 1} → statement M
 total-broken-spec = tie.close (tie.spec returns returns-2 returns-3 returns-4)
