@@ -1,0 +1,1 @@
+// What the answers of reading and writing say, together with the bytes that the calls leave. No code.
