@@ -1,0 +1,135 @@
+-- One line's row, put: what each way through `fill_line` leaves, and the room that it has. Assumes nothing.
+use mathlib.Core.Path.{_≡_, refl, sym, ap, _∙_}
+use mathlib.Core.Bool.{Bool}
+use mathlib.Core.List.{List, [], _∷_, _++_, append-nil}
+use Prim.Native.Nat.{ℕ, _+_, _≤_, _<_}
+use native.Mathlib.Omega.{arith}
+use lib.ListN.{length}
+use Rattle.base.specs.Put.{Wrote}
+use Rattle.sheet.specs.declared.Sheet.{Sheet}
+use Rattle.paper.specs.Accounts.{account, isNobody}
+use Rattle.paper.specs.Entries.{file, group, item, Said, got, no, kindOf}
+use Rattle.paper.specs.FileLine.{readFile}
+use Rattle.paper.specs.GroupLine.{readGroup}
+use Rattle.paper.specs.ItemLine.{places, readItem}
+use Rattle.paper.specs.Spells.{forItem, readLine}
+use Rattle.paper.specs.Rows.{blanks, fileRow, groupRow, itemRow, entryRow, lineRow, singleAfter, singleBehind, wordsBytes, rowsBytes}
+use Rattle.put.proofs.Room.{wrote-none}
+use Rattle.row.proofs.Words.{words-length}
+use Rattle.span.specs.Held.{textsAt, Held}
+use Rattle.kind.specs.declared.LineKind.{LineKind}
+use Rattle.kind.specs.declared.LineKind.the-variants as kind
+use Rattle.kind.specs.Told as kinds
+use Rattle.fileline.specs.declared.FileRead.{FileRead}
+use Rattle.fileline.specs.declared.FileRead.the-variants as files
+use Rattle.fileline.specs.Told as file-told
+use Rattle.fileline.specs.Free.{numberFree}
+use Rattle.groupline.specs.declared.GroupRead.{GroupRead}
+use Rattle.groupline.specs.declared.GroupRead.the-variants as groups
+use Rattle.groupline.specs.Told as group-told
+use Rattle.itemline.specs.declared.Fields.{Fields}
+use Rattle.itemline.specs.declared.ItemRead.{ItemRead}
+use Rattle.itemline.specs.declared.ItemRead.the-variants as items
+use Rattle.itemline.specs.Told as item-told
+use Rattle.itemrow.specs.Place.{Reached}
+use Rattle.itemrow.proofs.Texts.{item-length, reached}
+use Rattle.filling.specs.declared.Step.{Step}
+use Rattle.filling.specs.Stepped.{anyNumber, Stepped}
+use Rattle.filling.proofs.Said.{Quiet, quiet-no, said-file, said-group, said-item, head-quiet, group-end-quiet, file-end-quiet}
+
+abbrev step : ℕ → Bool → Step
+step n b = record { next = n; single = b }
+
+-- a row is put alone
+one-row : (o o1 : List ℕ) (next p : ℕ) (row : List ℕ) → Wrote o next (wordsBytes row) o1 p → Wrote o next (rowsBytes (row ∷ [])) o1 p
+unfolding rowsBytes
+one-row o o1 next p row w = rw (append-nil (wordsBytes row)) w
+
+-- it takes 192 bytes
+row-room : (row : List ℕ) (next m : ℕ) → length row ≡ 24 → next + length (rowsBytes (row ∷ [])) ≤ m → next + 192 ≤ m
+unfolding rowsBytes
+row-room row next m e h = let z : length (wordsBytes row ++ []) ≡ length (wordsBytes row) = ap length (append-nil (wordsBytes row)) in omega (arith, words-length row)
+
+module _ (o : List ℕ) (next at : ℕ) (single : Bool) where
+  -- a line that has no row
+  quiet-step : (r : Said) → next ≤ length o → Quiet at single r → Stepped o next single at r o (step next single)
+  unfolding rowsBytes
+  quiet-step r h q = record { wrote = rw (q .rows) (wrote-none o next h); after = sym (q .same) }
+
+module _ (sh : Sheet) (today : ℕ) (single : Bool) (s : List ℕ) (k : LineKind) (g : kinds.told k ≡ kindOf s) (o : List ℕ) (next at : ℕ)
+    (room : next + length (rowsBytes (lineRow at (readLine sh today (forItem single) s))) ≤ length o) where
+  pub step-head : k ≡ kind.Head → Stepped o next single at (readLine sh today (forItem single) s) o (step next single)
+  step-head e = quiet-step o next at single _ (omega arith) (head-quiet at single sh today s k g e)
+
+  pub step-group-end : k ≡ kind.GroupEnd → Stepped o next single at (readLine sh today (forItem single) s) o (step next single)
+  step-group-end e = quiet-step o next at single _ (omega arith) (group-end-quiet at single sh today s k g e)
+
+  pub step-file-end : k ≡ kind.FileEnd → Stepped o next single at (readLine sh today (forItem single) s) o (step next single)
+  step-file-end e = quiet-step o next at single _ (omega arith) (file-end-quiet at single sh today s k g e)
+
+  module _ (e : k ≡ kind.File) (any : Sheet) (a : any ≡ anyNumber sh) (words : List ℕ) (r : FileRead)
+      (f : file-told.told r ≡ readFile any (numberFree (any .interval) 0 0 words) s) where
+    says-file : file-told.told r ≡ readLine sh today (forItem single) s
+    says-file = (rw a at f) ∙ sym (said-file sh today single s k g e 0 0 words)
+
+    pub step-file-no : (n off : ℕ) → r ≡ files.Refused n off → Stepped o next single at (readLine sh today (forItem single) s) o (step next single)
+    step-file-no n off q = rw (← says-file, q) (quiet-step o next at single (no n off) (omega arith) (quiet-no at single n off))
+
+    module _ (kd nb : ℕ) (q : r ≡ files.File kd nb) where
+      file-says : readLine sh today (forItem single) s ≡ got (file kd nb) 0 []
+      file-says = sym says-file ∙ ap file-told.told q
+
+      pub room-file : next + 192 ≤ length o
+      unfolding lineRow entryRow fileRow blanks
+      room-file = row-room (fileRow kd nb) next (length o) refl (rw file-says at room)
+
+      pub step-file : (o1 : List ℕ) (p : ℕ) → Wrote o next (wordsBytes (fileRow kd nb)) o1 p → Stepped o next single at (readLine sh today (forItem single) s) o1 (step p single)
+      unfolding lineRow entryRow singleBehind singleAfter
+      step-file o1 p w = rw file-says (record { wrote = one-row o o1 next p (fileRow kd nb) w; after = refl })
+
+  module _ (e : k ≡ kind.Group) (r : GroupRead) (f : group-told.told r ≡ readGroup sh today s) where
+    says-group : group-told.told r ≡ readLine sh today (forItem single) s
+    says-group = f ∙ sym (said-group sh today single s k g e)
+
+    pub step-group-no : (n off : ℕ) → r ≡ groups.Refused n off → Stepped o next single at (readLine sh today (forItem single) s) o (step next single)
+    step-group-no n off q = rw (← says-group, q) (quiet-step o next at single (no n off) (omega arith) (quiet-no at single n off))
+
+    module _ (prefix base total date warnings spot : ℕ) (q : r ≡ groups.Group prefix base total date warnings spot) where
+      group-says : readLine sh today (forItem single) s ≡ got (group (account prefix base) total date) warnings (spot ∷ [])
+      group-says = sym says-group ∙ ap group-told.told q
+
+      pub room-group : next + 192 ≤ length o
+      unfolding lineRow entryRow groupRow blanks
+      room-group = row-room (groupRow date (account prefix base)) next (length o) refl (rw group-says at room)
+
+      pub step-group : (o1 : List ℕ) (p : ℕ) (b : Bool) → Wrote o next (wordsBytes (groupRow date (account prefix base))) o1 p → b ≡ isNobody (account prefix base)
+          → Stepped o next single at (readLine sh today (forItem single) s) o1 (step p b)
+      unfolding lineRow entryRow singleBehind singleAfter
+      step-group o1 p b w n = rw group-says (record { wrote = one-row o o1 next p (groupRow date (account prefix base)) w; after = n })
+
+  module _ (e : k ≡ kind.Item) (r : ItemRead) (f : item-told.told s r ≡ readItem sh single s) (t : item-told.Kept s r) where
+    says-item : item-told.told s r ≡ readLine sh today (forItem single) s
+    says-item = f ∙ sym (said-item sh today single s k g e)
+
+    pub step-item-no : (n off : ℕ) → r ≡ items.Refused n off → Stepped o next single at (readLine sh today (forItem single) s) o (step next single)
+    step-item-no n off q = rw (← says-item, q) (quiet-step o next at single (no n off) (omega arith) (quiet-no at single n off))
+
+    module _ (x : Fields) (q : r ≡ items.Item x) where
+      item-says : readLine sh today (forItem single) s ≡ got (item (item-told.itemAt s x)) (x .warnings) (places (textsAt s (x .texts)))
+      item-says = sym says-item ∙ ap (item-told.told s) q
+
+      item-held : Held s (x .texts)
+      item-held = (rw q at t) .held
+
+      pub room-item : next + 192 ≤ length o
+      unfolding lineRow entryRow
+      room-item = row-room (itemRow at (places (textsAt s (x .texts))) (item-told.itemAt s x)) next (length o) (item-length at x s item-held) (rw item-says at room)
+
+      pub reach-item : at + length s < 18446744073709551616 → Reached at (x .texts)
+      reach-item h = reached at s (x .texts) item-held h
+
+      pub step-item : (o1 : List ℕ) (p : ℕ)
+          → ((u : List ℕ) → Held u (x .texts) → Wrote o next (wordsBytes (itemRow at (places (textsAt u (x .texts))) (item-told.itemAt u x))) o1 p)
+          → Stepped o next single at (readLine sh today (forItem single) s) o1 (step p single)
+      unfolding lineRow entryRow singleBehind singleAfter
+      step-item o1 p w = rw item-says (record { wrote = one-row o o1 next p (itemRow at (places (textsAt s (x .texts))) (item-told.itemAt s x)) (w s item-held); after = refl })

@@ -1,0 +1,103 @@
+// The second pass of reading: the rows of a file's lines, put into lent bytes.
+use fileline::FileRead;
+use groupline::GroupRead;
+use itemline::ItemRead;
+use kind::LineKind;
+use seen::Seen;
+use sheet::Sheet;
+ghost use mathlib.Core.Path.{_≡_};
+ghost use mathlib.Core.Bool.{true, false};
+ghost use mathlib.Core.List.{_++_};
+ghost use Prim.Native.Nat.{_+_, _≤_, _<_};
+ghost use lib.ListN.{length, drop};
+ghost use Rattle.paper.specs.Batch.{most14};
+ghost use Rattle.paper.specs.Days.{realDay};
+ghost use Rattle.paper.specs.Lines.{linesOf};
+ghost use Rattle.paper.specs.Spells.{forItem, readLine};
+ghost use Rattle.paper.specs.Rows.{lineRow, linesRows, rowsBytes};
+ghost use Rattle.filling.specs.Stepped.{anyNumber, Stepped};
+
+// What a line leaves: where the next row goes, and whether the items that follow are those of a single group.
+pub struct Step {
+    pub next: usize,
+    pub single: bool,
+}
+
+// The sheet with any number allowed to an account file. Which numbers may come is judged before rows are put.
+fn any_number(sh: Sheet) -> Sheet
+    ensures { λ r. ⌜ r ≡ anyNumber sh ⌝ }
+{
+    let mut any = sh;
+    any.interval = false;
+    any
+}
+
+// Puts the row of the line s, which starts at `at` of the file, at `next`, if the line has one. A refused line has none, so the file need
+// not be an accepted one.
+fn fill_line(
+    s: &[u8],
+    at: usize,
+    sh: Sheet,
+    today: u64,
+    single: bool,
+    rows: &mut [u8],
+    next: usize,
+) -> Step
+    requires { ⌜ realDay today ≡ true ⌝ }
+    requires { ⌜ (sh .text .most ≤ 4) × (sh .itemdigits ≤ 19) × (sh .itemmax ≤ most14) ⌝ }
+    requires { ⌜ at + length (now s) < 18446744073709551616 ⌝ }
+    requires { ⌜ next + length (rowsBytes (lineRow at (readLine sh today (forItem single) (now s)))) ≤ length (now rows) ⌝ }
+    ensures { λ r. ⌜ Stepped (now (rows .entry)) next single at (readLine sh today (forItem single) (now (s .entry))) (now (rows .exit)) r ⌝ }
+{
+    match kind::kind_of(s) {
+        LineKind::Item => match itemline::item_line(s, sh, single) {
+            ItemRead::Item(x) => Step {
+                next: itemrow::put_item_row(rows, next, x, at),
+                single,
+            },
+            ItemRead::Refused(_, _) => Step { next, single },
+        },
+        LineKind::Group => match groupline::group_line(s, sh, today) {
+            GroupRead::Group {
+                prefix,
+                base,
+                date,
+                ..
+            } => Step {
+                next: row::put_group_row(rows, next, date, prefix, base),
+                single: account::is_nobody(prefix, base),
+            },
+            GroupRead::Refused(_, _) => Step { next, single },
+        },
+        LineKind::File => match fileline::file_line(s, any_number(sh), 0, 0, Seen::none()) {
+            FileRead::File { kind, number } => Step {
+                next: row::put_file_row(rows, next, kind, number),
+                single,
+            },
+            FileRead::Refused(_, _) => Step { next, single },
+        },
+        LineKind::Head => Step { next, single },
+        LineKind::GroupEnd => Step { next, single },
+        LineKind::FileEnd => Step { next, single },
+    }
+}
+
+// Puts the rows of the file's lines, in order, in front of the old bytes behind them.
+pub fn fill_rows(f: &[u8], sh: Sheet, today: u64, rows: &mut [u8])
+    requires { ⌜ realDay today ≡ true ⌝ }
+    requires { ⌜ (sh .text .most ≤ 4) × (sh .itemdigits ≤ 19) × (sh .itemmax ≤ most14) ⌝ }
+    requires { ⌜ length (rowsBytes (linesRows sh today false (linesOf 0 (now f)))) ≤ length (now rows) ⌝ }
+    ensures { λ _. ⌜ now (rows .exit) ≡ rowsBytes (linesRows sh today false (linesOf 0 (now (f .entry)))) ++ drop (length (rowsBytes (linesRows sh today false (linesOf 0 (now (f .entry)))))) (now (rows .entry)) ⌝ }
+{
+    let mut at = 0;
+    let mut next = 0;
+    let mut single = false;
+    while at < f.len() {
+        let cut = line::next_line(f, at);
+        let stop = cut.stop;
+        let step = fill_line(&f[at..stop], at, sh, today, single, rows, next);
+        next = step.next;
+        single = step.single;
+        at = cut.next;
+    }
+}

@@ -1,0 +1,1 @@
+// The canonical file row by row, and its length as it grows. No code.
