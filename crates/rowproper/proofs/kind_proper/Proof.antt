@@ -1,0 +1,20 @@
+-- `kind_proper` meets its contract: each way out is one case of the definition. Assumes nothing.
+use Rattle.base.proofs.Cases.{picks}
+use Rattle.paper.specs.Proper.{kindProper}
+use Rattle.rowproper.proofs.kind_proper.Statement.{statement}
+use Rattle.rowproper.proofs.kind_proper.Tie as tie
+use Rattle.rowproper.proofs.kind_proper.Reads as reads
+use Rattle.rowproper.proofs.kind_proper.Lts as lts
+
+-- src/lib.rt:62:9
+returns : tie.Need-returns
+unfolding kindProper
+returns c = search picks
+
+-- src/lib.rt:58:1
+returns-2 : tie.Need-returns-2
+unfolding kindProper
+returns-2 c = search picks
+
+pub kind-proper-spec : {M : Type 1} → statement M
+kind-proper-spec = tie.close (tie.spec returns returns-2)

@@ -1,0 +1,32 @@
+-- `payer_proper` meets its contract: each way out is one case of the definition. Assumes nothing.
+use borrow.Author.Needs.{needs}
+use Rattle.base.proofs.Cases.{picks}
+use Rattle.paper.specs.Proper.{payerProper}
+use Rattle.rowproper.proofs.payer_proper.Statement.{statement}
+use Rattle.rowproper.proofs.payer_proper.Tie as tie
+use Rattle.rowproper.proofs.payer_proper.Reads as reads
+use Rattle.rowproper.proofs.payer_proper.Lts as lts
+use Rattle.account.proofs.account_proper.Reads as account-proper-reads
+use Rattle.account.proofs.is_nobody.Reads as is-nobody-reads
+
+-- src/lib.rt:84:8
+is-nobody-requires : tie.Need-is-nobody-requires
+is-nobody-requires c κs = search needs
+
+-- src/lib.rt:85:9
+returns : tie.Need-returns
+unfolding payerProper
+returns c = search picks
+
+-- src/lib.rt:87:5
+account-proper-requires : tie.Need-account-proper-requires
+account-proper-requires c κs = search needs
+
+-- src/lib.rt:81:1
+returns-2 : tie.Need-returns-2
+unfolding payerProper
+returns-2 c = search picks
+
+pub payer-proper-spec : {M : Type 1} → statement M
+payer-proper-spec =
+    tie.close (tie.spec is-nobody-requires returns account-proper-requires returns-2)

@@ -1,0 +1,17 @@
+-- `lies` meets its contract: the sum is compared without being made. Assumes nothing.
+use Rattle.rowread.proofs.Laws.{lies-out, lies-apart}
+use Rattle.rowread.proofs.lies.Statement.{statement}
+use Rattle.rowread.proofs.lies.Tie as tie
+use Rattle.rowread.proofs.lies.Reads as reads
+use Rattle.rowread.proofs.lies.Lts as lts
+
+-- src/lib.rt:52:9
+returns : tie.Need-returns
+returns c = search lies-out
+
+-- src/lib.rt:46:1
+returns-2 : tie.Need-returns-2
+returns-2 c = search lies-apart
+
+pub lies-spec : {M : Type 1} → statement M
+lies-spec = tie.close (tie.spec returns returns-2)
