@@ -1,0 +1,245 @@
+-- The line of an account file, and the file's end: where reading stands behind it. Assumes nothing.
+use mathlib.Core.Path.{_≡_, refl, sym, ap, _∙_}
+use mathlib.Core.Bool.{Bool, true, false}
+use mathlib.Core.List.{List, [], _∷_}
+use Prim.Native.Nat.{ℕ, _+_, _-_, _/_, _≤_, _<_}
+use native.Mathlib.Omega.{arith}
+use lib.Dec.{eqb}
+use lib.ListN.{length, take, drop}
+use Rattle.base.specs.Pick.{pick}
+use Rattle.base.proofs.Cases.{by-test}
+use Rattle.sheet.specs.declared.Sheet.{Sheet}
+use Rattle.paper.specs.Read.{Field, value, fault}
+use Rattle.paper.specs.Numerals.{digits}
+use Rattle.paper.specs.Batch.{Header}
+use Rattle.paper.specs.Lines.{linesFrom}
+use Rattle.paper.specs.Entries.{file, Said, got, no, Kind, headLine, fileLine, groupLine, itemLine, groupEnd, fileEnd, kindOf, onField, field, gap, lineEnd}
+use Rattle.paper.specs.FileLine.{series, numberAllowed, readKind, readNumber, readCode, readFile}
+use Rattle.numeral.proofs.Sound.{digits-sound}
+use Rattle.given.proofs.Given.{given-value, value-same, value-fault}
+use Rattle.line.specs.declared.Cut.{Cut}
+use Rattle.line.specs.Cutting.{Cuts}
+use Rattle.line.proofs.Lines.{at-end}
+use Rattle.kind.specs.declared.LineKind.{LineKind}
+use Rattle.kind.specs.declared.LineKind.the-variants as line-kind
+use Rattle.kind.specs.Told as kinds
+use Rattle.seen.specs.Bits.{Holds}
+use Rattle.fileline.specs.declared.FileRead.{FileRead}
+use Rattle.fileline.specs.declared.FileRead.the-variants as reads
+use Rattle.fileline.specs.Free.{numberFree}
+use Rattle.fileline.specs.Told as files
+use Rattle.fileline.proofs.Set.{free-allowed}
+use Rattle.tally.specs.Tally.{No, tFile, tStop, isDue, endOf, step, run}
+use Rattle.tally.proofs.Small.{file-limits}
+use Rattle.group.specs.declared.Counts.{Counts}
+use Rattle.group.specs.Stands.{bookOf, lineIn}
+use Rattle.group.proofs.Inside.{file-inside, inside-off}
+use Rattle.group.proofs.Turns.{kind-long, within}
+use Rattle.group.proofs.Going.{run-stop, run-on}
+use Rattle.accountfile.specs.declared.Left.{Left}
+use Rattle.accountfile.specs.declared.Left.the-variants as left
+use Rattle.accountfile.specs.Resume.{resume, AtFile, fileMore, endAs, Moved, Stepped}
+use Rattle.accountfile.proofs.Steps.{file-other, file-full, file-got, file-no}
+
+-- a line's bytes in the file
+abbrev cut-of : List ℕ → ℕ → ℕ → List ℕ
+cut-of f at stop = take (stop - at) (drop at f)
+
+-- ---- a number has six digits
+
+passed : (t : Bool) (a v n : ℕ) → pick t (value a) (fault n) ≡ value v → a ≡ v
+unfolding pick
+passed true a v n e = value-same a v e
+passed false a v n e = value-fault v n (sym e)
+
+number-low : (allowed : ℕ → Bool) (s : List ℕ) (v : ℕ) → readNumber allowed s ≡ value v → v < 1000000
+unfolding readNumber
+number-low allowed s v e =
+    let g = given-value _ (digits 6 6 s) v e in
+    let m : g .0 ≡ v = passed (allowed (g .0)) (g .0) v 9 (g .2) in
+    omega (arith, digits-sound 6 6 s (g .0) (g .1))
+
+data Low : Said → Type 0 where
+  low : {kind number v : ℕ} {p : List ℕ} → number < 1000000 → Low (got (file kind number) v p)
+  none : {n off : ℕ} → Low (no n off)
+
+on-low : (at : ℕ) (x : Field ℕ) {k : ℕ → Said} → ((v : ℕ) → x ≡ value v → Low (k v)) → Low (onField at x k)
+unfolding onField
+on-low at (value v) f = f v refl
+on-low at (fault n) f = none
+
+field-low : (read : List ℕ → Field ℕ) (at : ℕ) (s : List ℕ) {k : ℕ → ℕ → List ℕ → Said}
+    → ((v a : ℕ) (r f : List ℕ) → read f ≡ value v → Low (k v a r)) → Low (field read at s k)
+unfolding field
+field-low read at s f = on-low at _ (λ v e. f v _ _ _ e)
+
+gap-low : (at : ℕ) (s : List ℕ) {k : ℕ → List ℕ → Said} → ((a : ℕ) (r : List ℕ) → Low (k a r)) → Low (gap at s k)
+unfolding gap
+gap-low at [] f = none
+gap-low at (x ∷ s) f = f _ _
+
+end-low : (at : ℕ) (s : List ℕ) {r : Said} → Low r → Low (lineEnd at s r)
+unfolding lineEnd
+end-low at [] l = l
+end-low at (x ∷ s) l = none
+
+line-low : (sh : Sheet) (allowed : ℕ → Bool) (s : List ℕ) → Low (readFile sh allowed s)
+unfolding readFile
+line-low sh allowed s =
+    field-low (readKind sh) 2 (drop 2 s) λ kind a1 s1 f1 e1.
+    gap-low a1 s1 λ a2 s2.
+    field-low (readNumber allowed) a2 s2 λ number a3 s3 f2 e2.
+    gap-low a3 s3 λ a4 s4.
+    field-low (readCode sh) a4 s4 λ bank a5 s5 f3 e3.
+    end-low a5 s5 (low (number-low allowed f2 number e2))
+
+low-of : {kind number v : ℕ} {p : List ℕ} → Low (got (file kind number) v p) → number < 1000000
+low-of (low h) = h
+
+-- the first three digits of a number that was read
+pub series-low : (sh : Sheet) (allowed : ℕ → Bool) (s : List ℕ) (r : FileRead) → files.told r ≡ readFile sh allowed s → (kind number : ℕ) → r ≡ reads.File kind number → number / 1000 < 1000
+series-low sh allowed s r t kind number e =
+    let u : got (file kind number) 0 [] ≡ readFile sh allowed s = rw e at t in
+    omega (arith, low-of (rw (← u) at (line-low sh allowed s)))
+
+-- a refusal's place
+item-is-no-file : itemLine ≡ fileLine → ⊥
+item-is-no-file e = let z : _≡_ {A = ℕ} 0 1 = cc in omega arith
+
+pub file-within : (sh : Sheet) (allowed : ℕ → Bool) (f : List ℕ) (at : ℕ) (cut : Cut) → Cuts f at cut → kindOf (cut-of f at (cut .stop)) ≡ fileLine
+    → (r : FileRead) → files.told r ≡ readFile sh allowed (cut-of f at (cut .stop)) → (n off : ℕ) → r ≡ reads.Refused n off → at + off ≤ cut .stop
+file-within sh allowed f at cut cuts e r t n off q =
+    let s = cut-of f at (cut .stop) in
+    let u : no n off ≡ readFile sh allowed s = rw q at t in
+    within f at (cut .stop) off (cuts .from) (omega (arith, cuts .to, cuts .inside))
+    (inside-off (rw (← u) at (file-inside sh allowed s (kind-long s fileLine e item-is-no-file))))
+
+-- the line has its first bytes
+pub file-long : (f : List ℕ) (at stop : ℕ) → kindOf (cut-of f at stop) ≡ fileLine → 2 ≤ length (cut-of f at stop)
+file-long f at stop e = kind-long (cut-of f at stop) fileLine e item-is-no-file
+
+-- r is the kind that was found
+pub is-file : (f : List ℕ) (at stop : ℕ) (r : LineKind) → kinds.told r ≡ kindOf (cut-of f at stop) → r ≡ line-kind.File → kindOf (cut-of f at stop) ≡ fileLine
+is-file f at stop r t e = sym (rw e at t)
+
+-- ---- where reading stands
+
+-- nothing happened to the words
+pub moved-stepped : (sh : Sheet) (today from to : ℕ) (f : List ℕ) (o r : Left) (words : List ℕ) → Moved sh today f o r → Stepped sh today from to f o words words r
+moved-stepped sh today from to f o r words m =
+    record { same = λ h p q l held. (l, held, m .same h l); good = m .good; less = m .less }
+
+-- the file ends
+module _ (sh : Sheet) (f : List ℕ) (at k : ℕ) (c : Counts) (good : AtFile f at k c) where
+  end-moved : length f ≤ at → (today : ℕ) → Moved sh today f (left.File at k c) (endAs at k c)
+  unfolding resume run endOf endAs pick
+  end-moved e today =
+      let z : at ≡ length f = omega (arith, good .inside) in
+      by-test (eqb (c .files) 0)
+      (λ t. simp t (record { same = λ h l. rw (at-end f at e) (simp (t, z)); good = tt; less = omega arith }))
+      (λ t.
+      let limits = file-limits _ (good .low) in
+      simp t (record { same = λ h l. rw (at-end f at e) (simp t); good = (limits .rows, limits .warnings); less = omega arith }))
+
+  pub file-ends : length f ≤ at → (r : Left) → r ≡ endAs at k c → (from to : ℕ) (words : List ℕ) (today : ℕ) → Stepped sh today from to f (left.File at k c) words words r
+  file-ends e r q from to words today = moved-stepped sh today from to f (left.File at k c) r words (rw q (end-moved e today))
+
+module _ (sh : Sheet) (f : List ℕ) (at k : ℕ) (c : Counts) (cut : Cut) (cuts : Cuts f at cut) where
+  -- a line that is refused
+  stop-same : (n byte today : ℕ) (h : Header) (l : List ℕ) → tStop (No n k byte) ≡ step sh today k (lineIn f at (cut .stop)) (tFile (bookOf h l c))
+      → resume sh today f h l (left.Refused n k byte) ≡ resume sh today f h l (left.File at k c)
+  unfolding resume
+  stop-same n byte today h l e =
+      sym (run-stop sh today (length f) (k + 1) (linesFrom f (cut .next)) (No n k byte))
+      ∙ run-on sh today (length f) k f at cut cuts (tFile (bookOf h l c)) (tStop (No n k byte)) e
+
+  -- 3: r is the kind that was found
+  module _ (from to : ℕ) (words : List ℕ) (r : LineKind) (t : kinds.told r ≡ kindOf (cut-of f at (cut .stop))) where
+    other : (kind : Kind) → ((h : Header) (l : List ℕ) → isDue (tFile (bookOf h l c)) kind ≡ false) → kindOf (cut-of f at (cut .stop)) ≡ kind
+        → (today : ℕ) → Stepped sh today from to f (left.File at k c) words words (left.Refused 3 k at)
+    other kind n e today =
+        record {
+          same = λ h p q l held. (l, held, stop-same 3 at today h l (file-other sh today k (lineIn f at (cut .stop)) (bookOf h l c) kind (n h l) e));
+          good = tt;
+          less = omega arith;
+        }
+
+    pub file-not-head : r ≡ line-kind.Head → (today : ℕ) → Stepped sh today from to f (left.File at k c) words words (left.Refused 3 k at)
+    unfolding isDue
+    file-not-head e = other headLine (λ h l. refl) (sym (rw e at t))
+
+    pub file-not-group : r ≡ line-kind.Group → (today : ℕ) → Stepped sh today from to f (left.File at k c) words words (left.Refused 3 k at)
+    unfolding isDue
+    file-not-group e = other groupLine (λ h l. refl) (sym (rw e at t))
+
+    pub file-not-item : r ≡ line-kind.Item → (today : ℕ) → Stepped sh today from to f (left.File at k c) words words (left.Refused 3 k at)
+    unfolding isDue
+    file-not-item e = other itemLine (λ h l. refl) (sym (rw e at t))
+
+    pub file-not-group-end : r ≡ line-kind.GroupEnd → (today : ℕ) → Stepped sh today from to f (left.File at k c) words words (left.Refused 3 k at)
+    unfolding isDue
+    file-not-group-end e = other groupEnd (λ h l. refl) (sym (rw e at t))
+
+    pub file-not-file-end : r ≡ line-kind.FileEnd → (today : ℕ) → Stepped sh today from to f (left.File at k c) words words (left.Refused 3 k at)
+    unfolding isDue
+    file-not-file-end e = other fileEnd (λ h l. refl) (sym (rw e at t))
+
+  -- the line of an account file
+  module _ (e : kindOf (cut-of f at (cut .stop)) ≡ fileLine) (from to : ℕ) (words : List ℕ) where
+    pub file-15 : 1000 ≤ c .files → (today : ℕ) → Stepped sh today from to f (left.File at k c) words words (left.Refused 15 k at)
+    file-15 full today =
+        record {
+          same = λ h p q l held. (l, held, stop-same 15 at today h l (file-full sh today k (lineIn f at (cut .stop)) (bookOf h l c) e full));
+          good = tt;
+          less = omega arith;
+        }
+
+    module _ (room : c .files < 1000) (r : FileRead) (t : files.told r ≡ readFile sh (numberFree (sh .interval) from to words) (cut-of f at (cut .stop))) where
+      -- which numbers are allowed
+      said : (h : Header) → h .from ≡ from → h .to ≡ to → (l : List ℕ) → Holds words l → files.told r ≡ readFile sh (numberAllowed (sh .interval) h l) (cut-of f at (cut .stop))
+      said h p q l held =
+          let free : numberFree (sh .interval) from to words ≡ numberAllowed (sh .interval) h l = rw (← p, ← q) (free-allowed (sh .interval) h words l held) in
+          t ∙ ap (λ (allowed : ℕ → Bool). readFile sh allowed (cut-of f at (cut .stop))) free
+
+      pub file-refused : (n off : ℕ) → r ≡ reads.Refused n off → (today : ℕ) → Stepped sh today from to f (left.File at k c) words words (left.Refused n k (at + off))
+      file-refused n off x today =
+          record {
+            same = λ h p q l held.
+                (l, held, stop-same n (at + off) today h l (file-no sh today k (lineIn f at (cut .stop)) (bookOf h l c) e room n off (rw x at (said h p q l held))));
+            good = tt;
+            less = omega arith;
+          }
+
+      -- the words have the number's first three digits besides
+      module _ (good : AtFile f at k c) (kind number : ℕ) (x : r ≡ reads.File kind number) (after : List ℕ) (marks : (l : List ℕ) → Holds words l → Holds after (series number ∷ l)) where
+        opened-same : (today : ℕ) (h : Header) → h .from ≡ from → h .to ≡ to → (l : List ℕ) → Holds words l
+            → resume sh today f h (series number ∷ l) (left.Group (cut .next) (k + 1) (fileMore c) (record { items = 0; groups = 0 }))
+            ≡ resume sh today f h l (left.File at k c)
+        unfolding resume
+        opened-same today h p q l held =
+            let z : c .warnings + 0 ≡ c .warnings = omega arith in
+            let g = file-got sh today k (lineIn f at (cut .stop)) (bookOf h l c) e room kind number [] (rw x at (said h p q l held)) in
+            run-on sh today (length f) k f at cut cuts (tFile (bookOf h l c)) _ (rw z at g)
+
+        pub file-opened : (more : Counts) → more ≡ fileMore c → (today : ℕ)
+            → Stepped sh today from to f (left.File at k c) words after (left.Group (cut .next) (k + 1) more (record { items = 0; groups = 0 }))
+        file-opened more y today =
+            rw y
+            (record {
+              same = λ h p q l held. (series number ∷ l, marks l held, opened-same today h p q l held);
+              good = record {
+                inside = cuts .inside;
+                lines = omega (arith, good .lines, cuts .ahead);
+                low = record {
+                  files = omega (arith, good .low .files);
+                  items = omega (arith, good .low .items);
+                  rows = omega (arith, good .low .rows);
+                  warnings = omega (arith, good .low .warnings);
+                  shelf = omega arith;
+                  groups = omega arith;
+                };
+              };
+              less = omega (arith, cuts .ahead, cuts .inside);
+            })
+
+pub ruleset file-others = (file-not-head, file-not-group, file-not-item, file-not-group-end, file-not-file-end)

@@ -1,0 +1,26 @@
+use borrow.Author.Needs.{needs}
+use Rattle.accountfile.proofs.Groups.{group-closed, group-stopped}
+use Rattle.accountfile.proofs.whole_group.Statement.{statement}
+use Rattle.accountfile.proofs.whole_group.Tie as tie
+use Rattle.accountfile.proofs.whole_group.Reads as reads
+use Rattle.accountfile.proofs.whole_group.Lts as lts
+use Rattle.group.proofs.group_items.Reads as group-items-reads
+
+group-items-requires : tie.Need-group-items-requires
+group-items-requires c κs = search needs
+
+enum-known-at : tie.Need-enum-known-at
+enum-known-at c = search needs
+
+enum-known-n : tie.Need-enum-known-n
+enum-known-n c = search needs
+
+returns : tie.Need-returns
+returns c = search (group-closed, group-stopped)
+
+returns-2 : tie.Need-returns-2
+returns-2 c = search (group-closed, group-stopped)
+
+pub whole-group-spec : {M : Type 1} → statement M
+whole-group-spec =
+    tie.close (tie.spec group-items-requires enum-known-at enum-known-n returns returns-2)

@@ -1,0 +1,261 @@
+// The account file's own lines: its first one, its last one, and the lines that begin a group, each with where reading stands behind it.
+use closing::CloseRead;
+use fileline::FileRead;
+use group::Counts;
+use group::GroupEnd;
+use group::Open;
+use group::Shelf;
+use groupline::GroupRead;
+use kind::LineKind;
+use line::Cut;
+use seen::Seen;
+use sheet::Sheet;
+ghost use mathlib.Core.Path.{_≡_};
+ghost use mathlib.Core.Bool.{true};
+ghost use Prim.Native.Nat.{ℕ, _-_, _≤_, _<_};
+ghost use lib.ListN.{take, drop};
+ghost use Rattle.sheet.proofs.Laws.{Sane};
+ghost use Rattle.paper.specs.Days.{realDay};
+ghost use Rattle.paper.specs.Entries.{fileLine, groupLine, fileEnd, kindOf};
+ghost use Rattle.line.specs.Cutting.{Cuts};
+ghost use Rattle.group.specs.Stands.{Begun};
+ghost use Rattle.accountfile.specs.Resume.{endAs, fileMore, Good, Grouped, Moved, Stepped};
+
+// Where reading stands: before an account file or its end, at a place with its line's number; before a group or the account file's end;
+// or at the answer.
+pub enum Left {
+    File(usize, u64, Counts),
+    Group(usize, u64, Counts, Shelf),
+    Refused(u64, u64, u64),
+    Accepted(u64, u64),
+}
+
+// ---- an account file
+
+// The file ends where an account file may begin.
+fn end_file(at: usize, line: u64, counts: Counts) -> Left
+    ensures { λ r. ⌜ r ≡ endAs at line counts ⌝ }
+{
+    let files = counts.files;
+    if files == 0 {
+        return Left::Refused(3, line, at as u64);
+    }
+    Left::Accepted(counts.rows, counts.warnings)
+}
+
+// The counts with an account file more.
+fn file_more(counts: Counts) -> Counts
+    requires { ⌜ (counts .files < 1000) × (counts .rows ≤ 200000000) ⌝ }
+    ensures { λ r. ⌜ r ≡ fileMore counts ⌝ }
+{
+    Counts {
+        files: counts.files + 1,
+        items: counts.items,
+        rows: counts.rows + 1,
+        warnings: counts.warnings,
+    }
+}
+
+// A line that begins an account file, which is known as one. 15 comes before its fields. Its number's first three digits are put to those seen.
+fn open_file(
+    f: &[u8],
+    sh: Sheet,
+    at: usize,
+    line: u64,
+    cut: Cut,
+    from: u64,
+    to: u64,
+    counts: Counts,
+    seen: &mut [u64; 16],
+) -> Left
+    requires { ⌜ Sane sh ⌝ }
+    requires { ⌜ Good (now f) (Left.File at line counts) ⌝ }
+    requires { ⌜ Cuts (now f) at cut ⌝ }
+    requires { ⌜ kindOf (take (cut .stop - at) (drop at (now f))) ≡ fileLine ⌝ }
+    ensures { λ r. ⌜ ((today : ℕ) → Stepped sh today from to (now (f .entry)) (Left.File at line counts) (now (seen .entry)) (now (seen .exit)) r) ⌝ }
+{
+    let files = counts.files;
+    if 1000 <= files {
+        return Left::Refused(15, line, at as u64);
+    }
+    let stop = cut.stop;
+    let words = *seen;
+    let set = Seen { words: words };
+    match fileline::file_line(&f[at..stop], sh, from, to, set) {
+        FileRead::File { kind: _, number } => {
+            let more = set.with(number / 1000);
+            let marked = more.words;
+            *seen = marked;
+            Left::Group(
+                cut.next,
+                line + 1,
+                file_more(counts),
+                Shelf {
+                    items: 0,
+                    groups: 0,
+                },
+            )
+        }
+        FileRead::Refused(n, off) => Left::Refused(n, line, (at + off) as u64),
+    }
+}
+
+// The line of an account file, or the end of the file.
+pub fn file_step(
+    f: &[u8],
+    sh: Sheet,
+    at: usize,
+    line: u64,
+    from: u64,
+    to: u64,
+    counts: Counts,
+    seen: &mut [u64; 16],
+) -> Left
+    requires { ⌜ Sane sh ⌝ }
+    requires { ⌜ Good (now f) (Left.File at line counts) ⌝ }
+    ensures { λ r. ⌜ ((today : ℕ) → Stepped sh today from to (now (f .entry)) (Left.File at line counts) (now (seen .entry)) (now (seen .exit)) r) ⌝ }
+{
+    if f.len() <= at {
+        return end_file(at, line, counts);
+    }
+    let cut = line::next_line(f, at);
+    let stop = cut.stop;
+    match kind::kind_of(&f[at..stop]) {
+        LineKind::File => open_file(f, sh, at, line, cut, from, to, counts, seen),
+        LineKind::Head => Left::Refused(3, line, at as u64),
+        LineKind::Group => Left::Refused(3, line, at as u64),
+        LineKind::Item => Left::Refused(3, line, at as u64),
+        LineKind::GroupEnd => Left::Refused(3, line, at as u64),
+        LineKind::FileEnd => Left::Refused(3, line, at as u64),
+    }
+}
+
+// ---- a group
+
+// The items of a group, and where reading stands behind it.
+fn whole_group(
+    f: &[u8],
+    sh: Sheet,
+    at: usize,
+    line: u64,
+    counts: Counts,
+    shelf: Shelf,
+    opened: Open,
+) -> Left
+    requires { ⌜ Sane sh ⌝ }
+    requires { ⌜ Begun (now f) at line counts shelf opened ⌝ }
+    ensures { λ r. ⌜ Grouped sh (now (f .entry)) at line counts shelf opened r ⌝ }
+{
+    match group::group_items(f, sh, at, line, counts, shelf, opened) {
+        GroupEnd::Closed {
+            at,
+            line,
+            counts,
+            shelf,
+        } => Left::Group(at, line, counts, shelf),
+        GroupEnd::Stop(n, line, byte) => Left::Refused(n, line, byte),
+    }
+}
+
+// A line that begins a group, which is known as one, and the whole group.
+fn open_group(
+    f: &[u8],
+    sh: Sheet,
+    today: u64,
+    at: usize,
+    line: u64,
+    cut: Cut,
+    counts: Counts,
+    shelf: Shelf,
+) -> Left
+    requires { ⌜ Sane sh × (realDay today ≡ true) ⌝ }
+    requires { ⌜ Good (now f) (Left.Group at line counts shelf) ⌝ }
+    requires { ⌜ Cuts (now f) at cut ⌝ }
+    requires { ⌜ kindOf (take (cut .stop - at) (drop at (now f))) ≡ groupLine ⌝ }
+    ensures { λ r. ⌜ Moved sh today (now (f .entry)) (Left.Group at line counts shelf) r ⌝ }
+{
+    let stop = cut.stop;
+    match groupline::group_line(&f[at..stop], sh, today) {
+        GroupRead::Group {
+            prefix,
+            base,
+            total,
+            date: _,
+            warnings,
+            spot,
+        } => {
+            let opened = Open {
+                single: account::is_nobody(prefix, base),
+                total,
+                line,
+                byte: (at + spot) as u64,
+                sum: 0,
+                count: 0,
+            };
+            let counted = Counts {
+                files: counts.files,
+                items: counts.items,
+                rows: counts.rows + 1,
+                warnings: counts.warnings + warnings,
+            };
+            whole_group(f, sh, cut.next, line + 1, counted, shelf, opened)
+        }
+        GroupRead::Refused(n, off) => Left::Refused(n, line, (at + off) as u64),
+    }
+}
+
+// A line that closes the account file, which is known as one.
+fn close_file(
+    f: &[u8],
+    sh: Sheet,
+    at: usize,
+    line: u64,
+    cut: Cut,
+    counts: Counts,
+    shelf: Shelf,
+) -> Left
+    requires { ⌜ Sane sh ⌝ }
+    requires { ⌜ Good (now f) (Left.Group at line counts shelf) ⌝ }
+    requires { ⌜ Cuts (now f) at cut ⌝ }
+    requires { ⌜ kindOf (take (cut .stop - at) (drop at (now f))) ≡ fileEnd ⌝ }
+    ensures { λ r. ⌜ ((today : ℕ) → Moved sh today (now (f .entry)) (Left.Group at line counts shelf) r) ⌝ }
+{
+    let groups = shelf.groups;
+    if groups == 0 {
+        return Left::Refused(3, line, at as u64);
+    }
+    let stop = cut.stop;
+    match closing::close_line(&f[at..stop], sh.near) {
+        CloseRead::Closed => Left::File(cut.next, line + 1, counts),
+        CloseRead::Refused(n, off) => Left::Refused(n, line, (at + off) as u64),
+    }
+}
+
+// A whole group, or the line that closes the account file.
+pub fn group_step(
+    f: &[u8],
+    sh: Sheet,
+    today: u64,
+    at: usize,
+    line: u64,
+    counts: Counts,
+    shelf: Shelf,
+) -> Left
+    requires { ⌜ Sane sh × (realDay today ≡ true) ⌝ }
+    requires { ⌜ Good (now f) (Left.Group at line counts shelf) ⌝ }
+    ensures { λ r. ⌜ Moved sh today (now (f .entry)) (Left.Group at line counts shelf) r ⌝ }
+{
+    if f.len() <= at {
+        return Left::Refused(3, line, at as u64);
+    }
+    let cut = line::next_line(f, at);
+    let stop = cut.stop;
+    match kind::kind_of(&f[at..stop]) {
+        LineKind::Group => open_group(f, sh, today, at, line, cut, counts, shelf),
+        LineKind::FileEnd => close_file(f, sh, at, line, cut, counts, shelf),
+        LineKind::Head => Left::Refused(3, line, at as u64),
+        LineKind::File => Left::Refused(3, line, at as u64),
+        LineKind::Item => Left::Refused(3, line, at as u64),
+        LineKind::GroupEnd => Left::Refused(3, line, at as u64),
+    }
+}

@@ -1,0 +1,131 @@
+-- The first line: the file's answer from behind it. Assumes nothing.
+use mathlib.Core.Path.{_≡_, refl, sym, ap, _∙_}
+use mathlib.Core.Bool.{true, false}
+use mathlib.Core.List.{List, [], _∷_}
+use Prim.Native.Nat.{ℕ, zero, suc, _+_, _-_, _≤_}
+use native.Mathlib.Nat.{sub-zero, suc-sub-suc, not-suc-le-zero, le-of-suc-le-suc}
+use native.Mathlib.Omega.{arith}
+use lib.ListN.{length, take, drop, length-take}
+use lib.Seq.{take-take, take-nil}
+use Rattle.base.specs.Pick.{pick}
+use Rattle.sheet.specs.declared.Sheet.{Sheet}
+use Rattle.paper.specs.Batch.{Header, noHeader}
+use Rattle.paper.specs.Lines.{linesOf, linesFrom}
+use Rattle.paper.specs.Entries.{no, Kind, headLine, fileLine, groupLine, itemLine, groupEnd, fileEnd, kindOf}
+use Rattle.paper.specs.FirstLine.{readFirst}
+use Rattle.line.specs.declared.Cut.{Cut}
+use Rattle.line.specs.Cutting.{Cuts}
+use Rattle.kind.specs.declared.LineKind.{LineKind}
+use Rattle.kind.specs.declared.LineKind.the-variants as line-kind
+use Rattle.kind.specs.Told as kinds
+use Rattle.firstline.specs.declared.FirstRead.{FirstRead}
+use Rattle.firstline.specs.declared.FirstRead.the-variants as reads
+use Rattle.firstline.specs.Stages.{nameIn}
+use Rattle.firstline.specs.Told as firsts
+use Rattle.tally.specs.Tally.{No, Tally, tFirst, tFile, tStop, newBook, isDue, endOf, step, run, tally}
+use Rattle.group.specs.Stands.{lineIn}
+use Rattle.group.proofs.Turns.{kind-long}
+use Rattle.group.proofs.Going.{run-stop, run-on}
+use Rattle.reading.specs.declared.Head.{Head}
+use Rattle.reading.specs.Answer.{fromFirst}
+use Rattle.accountfile.proofs.Steps.{head-other, head-got, head-no}
+
+-- a line's bytes in the file
+abbrev top : List ℕ → Cut → List ℕ
+top f cut = take (cut .stop - 0) (drop 0 f)
+
+-- an empty file has no line
+pub no-line : (sh : Sheet) (today : ℕ) (f : List ℕ) → length f ≡ 0 → No 3 1 0 ≡ tally sh today f
+unfolding tally linesOf run endOf
+no-line sh today [] e = refl
+no-line sh today (x ∷ f) e = absurd (omega arith)
+
+-- ---- the name
+
+drop-take : (j m : ℕ) (l : List ℕ) → j ≤ m → drop j (take m l) ≡ take (m - j) (drop j l)
+drop-take zero m l h = rw sub-zero
+drop-take (suc j) zero l h = absurd (not-suc-le-zero h)
+drop-take (suc j) (suc m) [] h = sym (take-nil (suc m - suc j))
+drop-take (suc j) (suc m) (x ∷ l) h = drop-take j m l (le-of-suc-le-suc h) ∙ ap (λ (n : ℕ). take n (drop j l)) (sym (suc-sub-suc m j))
+
+-- in the line, and in the file
+name-same : (f : List ℕ) (cut : Cut) → 46 ≤ length (top f cut) → nameIn (top f cut) ≡ take 20 (drop 10 f)
+name-same f cut h =
+    let n : 46 ≤ cut .stop - 0 = omega (arith, length-take (cut .stop - 0) f) in
+    ap (take 20) (drop-take 10 (cut .stop - 0) f (omega arith)) ∙ take-take 20 (cut .stop - 0 - 10) (drop 10 f) (omega arith)
+
+pub header-long : (s : List ℕ) (r : FirstRead) → firsts.Sound s r → (date client from to : ℕ) → r ≡ reads.Header date client from to → 46 ≤ length s
+header-long s r sound date client from to e = let x : firsts.Sound s (reads.Header date client from to) = rw e at sound in x .0
+
+pub name-inside : (f : List ℕ) (cut : Cut) → 46 ≤ length (top f cut) → 30 ≤ length f
+name-inside f cut h = omega (arith, length-take (cut .stop - 0) f)
+
+-- ---- the line
+
+item-is-no-head : itemLine ≡ headLine → ⊥
+item-is-no-head e = let z : _≡_ {A = ℕ} 0 1 = cc in omega arith
+
+module _ (sh : Sheet) (today : ℕ) (f : List ℕ) (cut : Cut) (cuts : Cuts f 0 cut) where
+  -- it leads to c
+  leads : (c : Tally) → c ≡ step sh today 1 (lineIn f 0 (cut .stop)) tFirst → run sh today (length f) 2 (linesFrom f (cut .next)) c ≡ tally sh today f
+  unfolding tally linesFrom
+  leads c e = run-on sh today (length f) 1 f 0 cut cuts tFirst c e
+
+  stops : (n byte : ℕ) → tStop (No n 1 byte) ≡ step sh today 1 (lineIn f 0 (cut .stop)) tFirst → No n 1 byte ≡ tally sh today f
+  stops n byte e = sym (run-stop sh today (length f) 2 (linesFrom f (cut .next)) (No n 1 byte)) ∙ leads (tStop (No n 1 byte)) e
+
+  -- 3: r is the kind that was found
+  module _ (r : LineKind) (t : kinds.told r ≡ kindOf (top f cut)) where
+    other : (kind : Kind) → isDue tFirst kind ≡ false → kindOf (top f cut) ≡ kind → No 3 1 0 ≡ tally sh today f
+    other kind n e = stops 3 0 (head-other sh today 1 (lineIn f 0 (cut .stop)) kind n e)
+
+    pub head-not-file : r ≡ line-kind.File → No 3 1 0 ≡ tally sh today f
+    unfolding isDue
+    head-not-file e = other fileLine refl (sym (rw e at t))
+
+    pub head-not-group : r ≡ line-kind.Group → No 3 1 0 ≡ tally sh today f
+    unfolding isDue
+    head-not-group e = other groupLine refl (sym (rw e at t))
+
+    pub head-not-item : r ≡ line-kind.Item → No 3 1 0 ≡ tally sh today f
+    unfolding isDue
+    head-not-item e = other itemLine refl (sym (rw e at t))
+
+    pub head-not-group-end : r ≡ line-kind.GroupEnd → No 3 1 0 ≡ tally sh today f
+    unfolding isDue
+    head-not-group-end e = other groupEnd refl (sym (rw e at t))
+
+    pub head-not-file-end : r ≡ line-kind.FileEnd → No 3 1 0 ≡ tally sh today f
+    unfolding isDue
+    head-not-file-end e = other fileEnd refl (sym (rw e at t))
+
+  -- the first line's fields
+  module _ (e : kindOf (top f cut) ≡ headLine) where
+    -- line 2 starts behind byte 1
+    pub head-long : 2 ≤ cut .next
+    head-long =
+        omega
+        (arith, kind-long (top f cut) headLine e item-is-no-head, length-take (cut .stop - 0) f, cuts .to)
+
+    module _ (r : FirstRead) (t : firsts.told (top f cut) r ≡ readFirst sh (top f cut)) where
+      pub head-refused : (n off : ℕ) → r ≡ reads.Refused n off → No n 1 off ≡ tally sh today f
+      head-refused n off q =
+          let z : 0 + off ≡ off = omega arith in
+          stops n off (rw z at (head-no sh today 1 (lineIn f 0 (cut .stop)) e n off (rw q at t)))
+
+      pub head-plain : r ≡ reads.Plain → fromFirst sh today f (cut .next) (record { date = 0; client = 0; from = 0; to = 0; named = false }) ≡ tally sh today f
+      unfolding fromFirst pick
+      head-plain q = leads (tFile (newBook noHeader 0)) (head-got sh today 1 (lineIn f 0 (cut .stop)) e noHeader [] (rw q at t))
+
+      pub head-fields : (date client from to : ℕ) → r ≡ reads.Header date client from to → 46 ≤ length (top f cut)
+          → fromFirst sh today f (cut .next) (record { date = date; client = client; from = from; to = to; named = true }) ≡ tally sh today f
+      unfolding fromFirst pick
+      head-fields date client from to q long =
+          rw (← (name-same f cut long))
+          (leads _ (head-got sh today 1 (lineIn f 0 (cut .stop)) e (record { date = date; name = nameIn (top f cut); client = client; from = from; to = to }) [] (rw q at t)))
+
+-- r is the kind that was found
+pub is-head : (f : List ℕ) (cut : Cut) (r : LineKind) → kinds.told r ≡ kindOf (top f cut) → r ≡ line-kind.Head → kindOf (top f cut) ≡ headLine
+is-head f cut r t e = sym (rw e at t)
+
+pub ruleset head-others = (head-not-file, head-not-group, head-not-item, head-not-group-end, head-not-file-end)

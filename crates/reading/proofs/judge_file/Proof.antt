@@ -1,0 +1,98 @@
+use borrow.Author.Needs.{needs}
+use Rattle.reading.proofs.Heads.{no-line, is-head, head-others}
+use Rattle.reading.proofs.judge_file.Statement.{statement}
+use Rattle.reading.proofs.judge_file.Tie as tie
+use Rattle.reading.proofs.judge_file.Reads as reads
+use Rattle.reading.proofs.judge_file.Lts as lts
+use Rattle.kind.proofs.kind_of.Reads as kind-of-reads
+use Rattle.line.proofs.next_line.Reads as next-line-reads
+use Rattle.reading.proofs.from_first.Reads as from-first-reads
+
+returns : tie.Need-returns
+returns c =
+    let a = c .before .before .args in
+    (no-line (a .sh) (a .today) (a .f .now) (c .if1 .taken), tt)
+
+next-line-requires : tie.Need-next-line-requires
+next-line-requires c κs = search needs
+
+sub-kind-of : tie.Need-sub-kind-of
+sub-kind-of c = search needs
+
+part-kind-of-start : tie.Need-part-kind-of-start
+part-kind-of-start c = search needs
+
+part-kind-of-end : tie.Need-part-kind-of-end
+part-kind-of-end c = search needs
+
+kind-of-requires : tie.Need-kind-of-requires
+kind-of-requires c κs = search needs
+
+enum-told : tie.Need-enum-told
+enum-told c = search needs
+
+from-first-requires : tie.Need-from-first-requires
+from-first-requires c κs =
+    (c .before .before .before .before .before .before .before .pre, (c .before .before .before .before .next-line .ensures, search is-head))
+
+enum-told-2 : tie.Need-enum-told-2
+enum-told-2 c = search needs
+
+enum-told-3 : tie.Need-enum-told-3
+enum-told-3 c = search needs
+
+enum-told-4 : tie.Need-enum-told-4
+enum-told-4 c = search needs
+
+enum-told-5 : tie.Need-enum-told-5
+enum-told-5 c = search needs
+
+enum-told-6 : tie.Need-enum-told-6
+enum-told-6 c = search needs
+
+returns-2 : tie.Need-returns-2
+returns-2 c = search needs
+
+returns-3 : tie.Need-returns-3
+returns-3 c =
+    (search head-others, tt)
+
+returns-4 : tie.Need-returns-4
+returns-4 c =
+    (search head-others, tt)
+
+returns-5 : tie.Need-returns-5
+returns-5 c =
+    (search head-others, tt)
+
+returns-6 : tie.Need-returns-6
+returns-6 c =
+    (search head-others, tt)
+
+returns-7 : tie.Need-returns-7
+returns-7 c =
+    (search head-others, tt)
+
+pub judge-file-spec : {M : Type 1} → statement M
+judge-file-spec =
+    tie.close
+    (tie.spec
+    returns
+    next-line-requires
+    sub-kind-of
+    part-kind-of-start
+    part-kind-of-end
+    kind-of-requires
+    enum-told
+    from-first-requires
+    enum-told-2
+    enum-told-3
+    enum-told-4
+    enum-told-5
+    enum-told-6
+    returns-2
+    returns-3
+    returns-4
+    returns-5
+    returns-6
+    returns-7)
