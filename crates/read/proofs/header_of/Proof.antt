@@ -1,0 +1,18 @@
+-- `header_of` gives the header as it was read.
+use borrow.Author.Needs.{needs}
+use Rattle.read.proofs.header_of.Statement.{statement}
+use Rattle.read.proofs.header_of.Tie as tie
+use Rattle.read.proofs.header_of.Reads as reads
+use Rattle.read.proofs.header_of.Lts as lts
+use Rattle.read.proofs.name_or_spaces.Reads as name-or-spaces-reads
+
+-- src/lib.rt:123:15
+name-or-spaces-requires : tie.Need-name-or-spaces-requires
+name-or-spaces-requires c κs = search needs
+
+-- src/lib.rt:114:1
+returns : tie.Need-returns
+returns c = rw (c .name-or-spaces .ensures)
+
+pub header-of-spec : {M : Type 1} → statement M
+header-of-spec = tie.close (tie.spec name-or-spaces-requires returns)

@@ -1,0 +1,15 @@
+-- `refusal` names its number, line and byte, and nothing else.
+use mathlib.Core.Path.{refl}
+use Rattle.paper.specs.Reading.{refusedAt}
+use Rattle.read.proofs.refusal.Statement.{statement}
+use Rattle.read.proofs.refusal.Tie as tie
+use Rattle.read.proofs.refusal.Reads as reads
+use Rattle.read.proofs.refusal.Lts as lts
+
+-- src/lib.rt:50:1
+returns : tie.Need-returns
+unfolding refusedAt
+returns c = refl
+
+pub refusal-spec : {M : Type 1} → statement M
+refusal-spec = tie.close (tie.spec returns)
