@@ -1,0 +1,1 @@
+// The rows that are left from a place of the lent bytes on, one at a time. No code.

@@ -1,0 +1,5 @@
+pub mod Whole
+pub mod Texts
+pub mod Kept
+pub mod Lines
+pub mod Main

@@ -1,0 +1,45 @@
+-- A text is read alike where nothing is cut, unless it would be cut: then it is refused. Assumes nothing.
+use mathlib.Core.Bool.{Bool, true, false}
+use mathlib.Core.List.{List, map}
+use Prim.Native.Nat.{ℕ, _+_, _≤_}
+use native.Mathlib.Omega.{arith}
+use lib.Dec.{eqb}
+use borrow.Author.Tests.{eqb-false}
+use Rattle.base.specs.Pick.{pick}
+use Rattle.base.proofs.Cases.{by-test}
+use Rattle.sheet.specs.declared.Style.{Style}
+use Rattle.paper.specs.Read.{Field, value, fault}
+use Rattle.paper.specs.Texts.{Piece, Texts, cut, over, overs, pad, finish, messageEnd, message, marked, readText}
+use Rattle.uncut.specs.Severe.{uncutting}
+use Rattle.uncut.proofs.Whole.{either-way}
+
+-- the second reading is the first, or refuses what the first one warns of
+pub data Alike : Field Texts → Field Texts → Type 0 where
+  same-text : {x : Field Texts} → Alike x x
+  would-cut : {t : Texts} {n : ℕ} → 1 ≤ t .warnings → Alike (value t) (fault n)
+
+too-long : (cuts : Bool) (t : Texts)
+    → Alike (pick (pick cuts true (eqb (t .warnings) 0)) (value t) (fault 14)) (pick (pick false true (eqb (t .warnings) 0)) (value t) (fault 14))
+unfolding pick
+too-long false t = same-text
+too-long true t = by-test (eqb (t .warnings) 0) (λ e. rw e same-text) (λ e. rw e (would-cut {t = t} (omega (arith, eqb-false (t .warnings) 0 e))))
+
+module _ (y : Style) where
+  finish-alike : (ps : List Piece) (n : Piece) → Alike (finish y ps n) (finish (uncutting y) ps n)
+  unfolding finish
+  finish-alike ps n =
+      either-way Alike _ same-text (too-long (y .cuts) (record { parts = pad 4 (map cut ps); name = cut n; warnings = overs ps + over n }))
+
+  message-alike : (at : ℕ) (m : List ℕ) → Alike (message y at m) (message (uncutting y) at m)
+  unfolding message messageEnd
+  message-alike at m = finish-alike _ _
+
+  marked-alike : (at : ℕ) (t : List ℕ) → Alike (marked y at t) (marked (uncutting y) at t)
+  unfolding marked
+  marked-alike at t =
+      either-way Alike _ (finish-alike _ _) (either-way Alike _ (message-alike _ _) (either-way Alike _ (message-alike at t) same-text))
+
+  pub text-alike : (at : ℕ) (t : List ℕ) → Alike (readText y at t) (readText (uncutting y) at t)
+  unfolding readText
+  text-alike at t =
+      either-way Alike _ (either-way Alike _ (either-way Alike _ (marked-alike at t) same-text) (message-alike at t)) same-text

@@ -1,0 +1,2 @@
+pub mod Severe
+pub mod Found

@@ -1,0 +1,1 @@
+// What is accepted without a warning: nothing in it was cut, and its totals are the exact sums. No code.
