@@ -1,0 +1,25 @@
+/*
+ * Batches lent for writing: valid on a sheet, wrong in a field or in some, or
+ * garbage.  A seed gives the same batch on every machine.
+ */
+#ifndef HOST_DRAFT_H
+#define HOST_DRAFT_H
+
+#include "text.h"
+
+enum { ROW_BYTES = 192, ROW_WORDS = 24, NAME_ROOM = 24 };
+
+struct draft {
+    struct text rows, texts;
+    uint8_t name[NAME_ROOM];
+    size_t name_len;
+    uint64_t date, client, from, to;
+    uint64_t sheet, today;
+};
+
+/* Makes a batch of its own for each seed. */
+void draw_draft(struct draft *draft, uint64_t seed);
+
+void free_draft(struct draft *draft);
+
+#endif

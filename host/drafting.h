@@ -1,0 +1,64 @@
+/* What the parts of the batch generator share. */
+#ifndef HOST_DRAFTING_H
+#define HOST_DRAFTING_H
+
+#include "dice.h"
+#include "draft.h"
+#include "draft_texts.h"
+
+/* What can be wrong. */
+enum part {
+    AT_DATE_MADE, AT_DAY_MADE, AT_NAME_MADE, AT_CLIENT, AT_FROM, AT_TO,
+    AT_ORDER, AT_ROW, AT_KIND, AT_NUMBER, AT_DUE, AT_GROUP_PAYER,
+    AT_PAYER, AT_PAYEE, AT_BANK, AT_AMOUNT, AT_VARIABLE, AT_SPECIFIC,
+    AT_CONSTANT, AT_PRIORITY, AT_TEXT, AT_LENGTH,
+    ALL_PARTS
+};
+
+struct drafting {
+    struct dice dice;
+    struct draft *draft;
+    struct pool pool;
+    unsigned sheet;
+    size_t today;
+    unsigned rate;    /* one part in so many is wrong; 0: none */
+    enum part aim;    /* or this one, once; ALL_PARTS: none */
+    unsigned skip;
+    bool dirty;       /* words that a row does not use hold something */
+};
+
+/* Shall the part in hand be wrong? */
+static inline bool spoils(struct drafting *p, enum part part)
+{
+    if (p->rate != 0)
+        return one_in(&p->dice, p->rate);
+    if (p->aim != part)
+        return false;
+    if (p->skip > 0) {
+        p->skip--;
+        return false;
+    }
+    p->aim = ALL_PARTS;
+    return true;
+}
+
+/* A number that should lie between two, or one near these limits or far off. */
+static inline uint64_t limited(struct drafting *p, enum part part,
+                               uint64_t value, uint64_t least, uint64_t most)
+{
+    const uint64_t near[] = {
+        least - 1, least, most, most + 1, most + 1, 0, UINT64_MAX,
+        value + (UINT64_C(1) << 32), UINT64_C(1) << 63, UINT64_MAX - 1,
+    };
+    if (!spoils(p, part))
+        return value;
+    return one_in(&p->dice, 4) ? roll_bits(&p->dice) : PICK(&p->dice, near);
+}
+
+/* Rows of an account file (its place counts from 0), a group and an item. */
+void put_account_file(struct drafting *p, unsigned place);
+/* Gives back whether the group is single. */
+bool put_group_row(struct drafting *p);
+void put_item_row(struct drafting *p, bool single, uint64_t amount);
+
+#endif

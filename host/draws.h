@@ -1,0 +1,38 @@
+/* What the generators of files and of batches draw alike. */
+#ifndef HOST_DRAWS_H
+#define HOST_DRAWS_H
+
+#include <stddef.h>
+
+#include "dice.h"
+
+enum { MOST_DRAWN = 320 }; /* items of one group */
+
+/* How many account files, groups in each and items in each of these. */
+struct shape {
+    unsigned files, groups, items;
+};
+
+struct shape draw_shape(struct dice *d);
+
+/* Draws the amounts of a group's items and gives back their sum.  It is seldom
+   past the limit, and then by little.  The count may be changed to reach it. */
+uint64_t draw_amounts(struct dice *d, unsigned sheet, uint64_t *amounts,
+                      unsigned *count);
+
+/* An interval with a number for each account file on K, any on the others. */
+void draw_interval(struct dice *d, unsigned sheet, unsigned files,
+                   unsigned *from, unsigned *to);
+
+/* A place in the list of days. */
+size_t draw_today(struct dice *d);
+
+/* A day just inside or outside of those that may be due. */
+size_t draw_near_day(struct dice *d, unsigned sheet, size_t today);
+
+/* The arguments of a call: mostly these, at times another sheet, or a number
+   that is no sheet or day at all. */
+void draw_arguments(struct dice *d, unsigned sheet, size_t today,
+                    uint64_t *sheet_out, uint64_t *today_out);
+
+#endif

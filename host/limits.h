@@ -1,0 +1,37 @@
+/* What the sheets take, as far as the generators have to know it to stay on
+   the right side or to step just over. */
+#ifndef HOST_LIMITS_H
+#define HOST_LIMITS_H
+
+#include <stddef.h>
+#include <stdint.h>
+
+#include "days.h"
+
+enum { K = 1, S = 2, C = 3, E = 4 };
+
+/* The most that a group's sum may be, and an item on S and E. */
+#define MOST_SUM UINT64_C(99999999999999)
+#define MOST_SMALL UINT64_C(999999999999)
+
+static inline uint64_t most_of_item(unsigned sheet)
+{
+    return sheet == S || sheet == E ? MOST_SMALL : MOST_SUM;
+}
+
+/* The kinds are 1501 and so many in all. */
+static inline unsigned kinds_of(unsigned sheet)
+{
+    return sheet == C ? 4 : sheet == S ? 2 : 1;
+}
+
+/* First and last day that may be due; days are places in the list of days. */
+static inline void due_days(unsigned sheet, size_t today, size_t *first,
+                            size_t *last)
+{
+    size_t ahead = sheet == K ? 364 : sheet == C ? 365 : DAYS;
+    *first = sheet == K || sheet == S ? today : 0;
+    *last = today + ahead < DAYS ? today + ahead : DAYS - 1;
+}
+
+#endif
