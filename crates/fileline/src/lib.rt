@@ -49,7 +49,7 @@ fn code_at(s: &[u8], at: usize, sh: Sheet) -> NumAt
 }
 
 // May the account file have the number n? On K (`interval`) its first three digits lie in the interval and came in no earlier number.
-fn allowed(interval: bool, from: u64, to: u64, seen: Seen, n: u64) -> bool
+pub fn number_free(interval: bool, from: u64, to: u64, seen: Seen, n: u64) -> bool
     requires { ⌜ n < 1000000 ⌝ }
     ensures { λ r. ⌜ r ≡ numberFree interval from to (seen .words) n ⌝ }
 {
@@ -75,7 +75,7 @@ fn serial_at(s: &[u8], at: usize, interval: bool, from: u64, to: u64, seen: Seen
     ensures { λ r. ⌜ number.told r ≡ fieldAt (readNumber (numberFree interval from to (seen .words))) (now (s .entry)) at ⌝ }
 {
     match field::number_at(s, at, 6, 6) {
-        NumAt::Value(n, end) => if allowed(interval, from, to, seen, n) {
+        NumAt::Value(n, end) => if number_free(interval, from, to, seen, n) {
             NumAt::Value(n, end)
         } else {
             NumAt::Refused(9)

@@ -17,31 +17,9 @@ ghost use Rattle.paper.specs.FileLine.{numberAllowed};
 ghost use Rattle.paper.specs.Proper.{Verdict, check};
 ghost use Rattle.paper.specs.Carried.{partsCarriedFrom, itemCarried};
 ghost use Rattle.seen.specs.Bits.{Holds};
-ghost use Rattle.fileline.specs.Free.{numberFree};
 ghost use Rattle.rowread.specs.Told.{textOfSpan, itemOf};
 ghost use Rattle.rowread.specs.Sized.{Within, Inside, Sized};
 ghost use Rattle.rowread.specs.After.{after};
-
-// May an account file have the number n? On K (`interval`) its first three digits lie in the interval and came in no earlier number.
-fn number_free(interval: bool, from: u64, to: u64, seen: Seen, n: u64) -> bool
-    requires { ⌜ n < 1000000 ⌝ }
-    ensures { λ r. ⌜ r ≡ numberFree interval from to (seen .words) n ⌝ }
-{
-    if interval {
-        let first = n / 1000;
-        if first < from {
-            return false;
-        }
-        if to < first {
-            return false;
-        }
-        if seen.has(first) {
-            return false;
-        }
-        return true;
-    }
-    true
-}
 
 // An account file: its kind is one of the sheet's, and its number is free.
 pub fn file_carried(sh: Sheet, from: u64, to: u64, seen: Seen, kind: u64, number: u64) -> Check
@@ -53,7 +31,7 @@ pub fn file_carried(sh: Sheet, from: u64, to: u64, seen: Seen, kind: u64, number
     if !known {
         return Check::Wrong(1);
     }
-    let free = number_free(sh.interval, from, to, seen, number);
+    let free = fileline::number_free(sh.interval, from, to, seen, number);
     if !free {
         return Check::Wrong(2);
     }

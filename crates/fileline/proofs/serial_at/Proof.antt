@@ -7,7 +7,7 @@ use Rattle.fileline.proofs.serial_at.Tie as tie
 use Rattle.fileline.proofs.serial_at.Reads as reads
 use Rattle.fileline.proofs.serial_at.Lts as lts
 use Rattle.field.proofs.number_at.Reads as number-at-reads
-use Rattle.fileline.proofs.allowed.Reads as allowed-reads
+use Rattle.fileline.proofs.number_free.Reads as number-free-reads
 
 -- src/lib.rt:76:11
 number-at-requires : tie.Need-number-at-requires
@@ -18,8 +18,8 @@ enum-known-n : tie.Need-enum-known-n
 enum-known-n c = search needs
 
 -- src/lib.rt:77:36
-allowed-requires : tie.Need-allowed-requires
-allowed-requires c κs = search (serial-below, needs)
+number-free-requires : tie.Need-number-free-requires
+number-free-requires c κs = search (serial-below, needs)
 
 -- src/lib.rt:82:24
 enum-known-c : tie.Need-enum-known-c
@@ -43,7 +43,7 @@ serial-at-spec =
     (tie.spec
     number-at-requires
     enum-known-n
-    allowed-requires
+    number-free-requires
     enum-known-c
     returns
     returns-2

@@ -1,11 +1,11 @@
--- `allowed` meets its contract: the tests in their order. Assumes nothing.
+-- `number_free` meets its contract: the tests in their order. Assumes nothing.
 use borrow.Author.Needs.{needs}
 use Rattle.base.proofs.Cases.{picks}
 use Rattle.fileline.specs.Free.{numberFree}
-use Rattle.fileline.proofs.allowed.Statement.{statement}
-use Rattle.fileline.proofs.allowed.Tie as tie
-use Rattle.fileline.proofs.allowed.Reads as reads
-use Rattle.fileline.proofs.allowed.Lts as lts
+use Rattle.fileline.proofs.number_free.Statement.{statement}
+use Rattle.fileline.proofs.number_free.Tie as tie
+use Rattle.fileline.proofs.number_free.Reads as reads
+use Rattle.fileline.proofs.number_free.Lts as lts
 use Rattle.seen.proofs.Seen.has.Reads as has-reads
 
 -- src/lib.rt:58:13
@@ -37,5 +37,5 @@ returns-5 : tie.Need-returns-5
 unfolding numberFree
 returns-5 c = search picks depth 8
 
-pub allowed-spec : {M : Type 1} → statement M
-allowed-spec = tie.close (tie.spec returns returns-2 has-requires returns-3 returns-4 returns-5)
+pub number-free-spec : {M : Type 1} → statement M
+number-free-spec = tie.close (tie.spec returns returns-2 has-requires returns-3 returns-4 returns-5)
