@@ -1,0 +1,7 @@
+pub mod Sum
+pub mod Sized
+pub mod Passing
+pub mod Lines
+pub mod Ends
+pub mod Row
+pub mod Going

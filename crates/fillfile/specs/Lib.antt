@@ -1,0 +1,3 @@
+pub mod Sum
+pub mod Passing
+pub mod Lines
