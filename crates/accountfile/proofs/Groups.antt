@@ -161,10 +161,11 @@ module _ (sh : Sheet) (f : List ℕ) (at k : ℕ) (c : Counts) (s : Shelf) (cut 
       group-opens h l =
           rw y (group-got sh today k (lineIn f at (cut .stop)) (bookOf h l c) (shelfOf s) e (account prefix base) total date warnings spot [] (rw q at t))
 
-      pub group-moved : (g : Left) → Grouped sh f (cut .next) (k + 1) (groupMore c warnings) s (groupOpen single total k (at + spot)) g
+      pub group-moved : (more : Counts) → more ≡ groupMore c warnings → (g : Left) → Grouped sh f (cut .next) (k + 1) more s (groupOpen single total k (at + spot)) g
           → Moved sh today f (left.Group at k c s) g
       unfolding resume
-      group-moved g x =
+      group-moved more m g behind =
+          let x : Grouped sh f (cut .next) (k + 1) (groupMore c warnings) s (groupOpen single total k (at + spot)) g = rw m at behind in
           record {
             same = λ h l. x .same today h l ∙ run-on sh today (length f) k f at cut cuts (inFile h l c s) _ (group-opens h l);
             good = x .good;
@@ -172,10 +173,11 @@ module _ (sh : Sheet) (f : List ℕ) (at k : ℕ) (c : Counts) (s : Shelf) (cut 
           }
 
   -- the lines behind a group's line may be read
-  pub group-begun : AtGroup f at k c s → (warnings : ℕ) → warnings ≤ 1 → (single : Bool) (total byte : ℕ)
-      → Begun f (cut .next) (k + 1) (groupMore c warnings) s (groupOpen single total k byte)
-  group-begun good warnings one single total byte =
-      record {
+  pub group-begun : AtGroup f at k c s → (warnings : ℕ) → warnings ≤ 1 → (more : Counts) → more ≡ groupMore c warnings → (single : Bool) (total byte : ℕ)
+      → Begun f (cut .next) (k + 1) more s (groupOpen single total k byte)
+  group-begun good warnings one more m single total byte =
+      rw m
+      (record {
         inside = cuts .inside;
         lines = omega (arith, good .lines, cuts .ahead);
         low = record {
@@ -187,7 +189,7 @@ module _ (sh : Sheet) (f : List ℕ) (at k : ℕ) (c : Counts) (s : Shelf) (cut 
           groups = omega (arith, good .low .groups);
           sum = omega arith;
         };
-      }
+      })
 
   -- the account file's end
   module _ (e : kindOf (cut-of f at (cut .stop)) ≡ fileEnd) where

@@ -19,7 +19,7 @@ ghost use Rattle.paper.specs.Days.{realDay};
 ghost use Rattle.paper.specs.Entries.{fileLine, groupLine, fileEnd, kindOf};
 ghost use Rattle.line.specs.Cutting.{Cuts};
 ghost use Rattle.group.specs.Stands.{Begun};
-ghost use Rattle.accountfile.specs.Resume.{endAs, fileMore, Good, Grouped, Moved, Stepped};
+ghost use Rattle.accountfile.specs.Resume.{endAs, fileMore, groupMore, Good, Grouped, Moved, Stepped};
 
 // Where reading stands: before an account file or its end, at a place with its line's number; before a group or the account file's end;
 // or at the answer.
@@ -31,6 +31,12 @@ pub enum Left {
 }
 
 // ---- an account file
+
+// It has nothing yet.
+const EMPTY: Shelf = Shelf {
+    items: 0,
+    groups: 0,
+};
 
 // The file ends where an account file may begin.
 fn end_file(at: usize, line: u64, counts: Counts) -> Left
@@ -86,15 +92,7 @@ fn open_file(
             let more = set.with(number / 1000);
             let marked = more.words;
             *seen = marked;
-            Left::Group(
-                cut.next,
-                line + 1,
-                file_more(counts),
-                Shelf {
-                    items: 0,
-                    groups: 0,
-                },
-            )
+            Left::Group(cut.next, line + 1, file_more(counts), EMPTY)
         }
         FileRead::Refused(n, off) => Left::Refused(n, line, (at + off) as u64),
     }
@@ -131,6 +129,19 @@ pub fn file_step(
 }
 
 // ---- a group
+
+// The counts with a group more, and its line's warnings.
+fn group_more(counts: Counts, warnings: u64) -> Counts
+    requires { ⌜ (counts .rows ≤ 200000000) × (counts .warnings ≤ 800000000) × (warnings ≤ 1) ⌝ }
+    ensures { λ r. ⌜ r ≡ groupMore counts warnings ⌝ }
+{
+    Counts {
+        files: counts.files,
+        items: counts.items,
+        rows: counts.rows + 1,
+        warnings: counts.warnings + warnings,
+    }
+}
 
 // The items of a group, and where reading stands behind it.
 fn whole_group(
@@ -192,13 +203,8 @@ fn open_group(
                 sum: 0,
                 count: 0,
             };
-            let counted = Counts {
-                files: counts.files,
-                items: counts.items,
-                rows: counts.rows + 1,
-                warnings: counts.warnings + warnings,
-            };
-            whole_group(f, sh, cut.next, line + 1, counted, shelf, opened)
+            let more = group_more(counts, warnings);
+            whole_group(f, sh, cut.next, line + 1, more, shelf, opened)
         }
         GroupRead::Refused(n, off) => Left::Refused(n, line, (at + off) as u64),
     }

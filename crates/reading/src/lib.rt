@@ -37,35 +37,54 @@ pub enum Judged {
     },
 }
 
+// What holds for the whole file: the sheet, today, and the interval of the header.
+struct Terms {
+    sheet: Sheet,
+    today: u64,
+    from: u64,
+    to: u64,
+}
+
+// The header where the sheet reads none.
+const PLAIN: Head = Head {
+    date: 0,
+    client: 0,
+    from: 0,
+    to: 0,
+    named: false,
+};
+
+// No account file yet.
+const NOTHING: Counts = Counts {
+    files: 0,
+    items: 0,
+    rows: 0,
+    warnings: 0,
+};
+
 // ---- the two readers, which call each other; each call has one less of the budget, so that the stack stays small
 
 // Account files, from the place `at` on.
 fn account_files(
     f: &[u8],
-    sh: Sheet,
-    today: u64,
-    from: u64,
-    to: u64,
+    terms: Terms,
     at: usize,
     line: u64,
     counts: Counts,
     seen: &mut [u64; 16],
     budget: u64,
 ) -> Left
-    requires { ⌜ Sane sh × (realDay today ≡ true) ⌝ }
+    requires { ⌜ Sane (terms .sheet) × (realDay (terms .today) ≡ true) ⌝ }
     requires { ⌜ Good (now f) (Left.File at line counts) ⌝ }
-    ensures { λ r. ⌜ Went sh today from to (now (f .entry)) (Left.File at line counts) budget (now (seen .entry)) (now (seen .exit)) r ⌝ }
+    ensures { λ r. ⌜ Went (terms .sheet) (terms .today) (terms .from) (terms .to) (now (f .entry)) (Left.File at line counts) budget (now (seen .entry)) (now (seen .exit)) r ⌝ }
 {
     if budget == 0 {
         return Left::File(at, line, counts);
     }
-    match accountfile::file_step(f, sh, at, line, from, to, counts, seen) {
+    match accountfile::file_step(f, terms.sheet, at, line, terms.from, terms.to, counts, seen) {
         Left::Group(next, number, opened, shelf) => groups(
             f,
-            sh,
-            today,
-            from,
-            to,
+            terms,
             next,
             number,
             opened,
@@ -82,10 +101,7 @@ fn account_files(
 // The groups of an account file, from the place `at` on.
 fn groups(
     f: &[u8],
-    sh: Sheet,
-    today: u64,
-    from: u64,
-    to: u64,
+    terms: Terms,
     at: usize,
     line: u64,
     counts: Counts,
@@ -93,20 +109,17 @@ fn groups(
     seen: &mut [u64; 16],
     budget: u64,
 ) -> Left
-    requires { ⌜ Sane sh × (realDay today ≡ true) ⌝ }
+    requires { ⌜ Sane (terms .sheet) × (realDay (terms .today) ≡ true) ⌝ }
     requires { ⌜ Good (now f) (Left.Group at line counts shelf) ⌝ }
-    ensures { λ r. ⌜ Went sh today from to (now (f .entry)) (Left.Group at line counts shelf) budget (now (seen .entry)) (now (seen .exit)) r ⌝ }
+    ensures { λ r. ⌜ Went (terms .sheet) (terms .today) (terms .from) (terms .to) (now (f .entry)) (Left.Group at line counts shelf) budget (now (seen .entry)) (now (seen .exit)) r ⌝ }
 {
     if budget == 0 {
         return Left::Group(at, line, counts, shelf);
     }
-    match accountfile::group_step(f, sh, today, at, line, counts, shelf) {
+    match accountfile::group_step(f, terms.sheet, terms.today, at, line, counts, shelf) {
         Left::Group(next, number, more, held) => groups(
             f,
-            sh,
-            today,
-            from,
-            to,
+            terms,
             next,
             number,
             more,
@@ -116,10 +129,7 @@ fn groups(
         ),
         Left::File(next, number, more) => account_files(
             f,
-            sh,
-            today,
-            from,
-            to,
+            terms,
             next,
             number,
             more,
@@ -141,38 +151,21 @@ fn behind_first(f: &[u8], sh: Sheet, today: u64, at: usize, head: Head) -> Judge
     ensures { λ r. ⌜ told (now (f .entry)) r ≡ fromFirst sh today (now (f .entry)) at head ⌝ }
     ensures { λ r. ⌜ Kept (now (f .entry)) r ⌝ }
 {
-    let from = head.from;
-    let to = head.to;
+    let terms = Terms {
+        sheet: sh,
+        today,
+        from: head.from,
+        to: head.to,
+    };
     let mut seen = [0u64; 16];
-    let mut left = Left::File(
-        at,
-        2,
-        Counts {
-            files: 0,
-            items: 0,
-            rows: 0,
-            warnings: 0,
-        },
-    );
+    let mut left = Left::File(at, 2, NOTHING);
     loop {
         match left {
             Left::File(at, line, counts) => {
-                left = account_files(f, sh, today, from, to, at, line, counts, &mut seen, 16);
+                left = account_files(f, terms, at, line, counts, &mut seen, 16);
             }
             Left::Group(at, line, counts, shelf) => {
-                left = groups(
-                    f,
-                    sh,
-                    today,
-                    from,
-                    to,
-                    at,
-                    line,
-                    counts,
-                    shelf,
-                    &mut seen,
-                    16,
-                );
+                left = groups(f, terms, at, line, counts, shelf, &mut seen, 16);
             }
             Left::Refused(n, line, byte) => {
                 return Judged::Refused(n, line, byte);
@@ -216,19 +209,7 @@ fn from_first(f: &[u8], sh: Sheet, today: u64, cut: Cut) -> Judged
                 named: true,
             },
         ),
-        FirstRead::Plain => behind_first(
-            f,
-            sh,
-            today,
-            cut.next,
-            Head {
-                date: 0,
-                client: 0,
-                from: 0,
-                to: 0,
-                named: false,
-            },
-        ),
+        FirstRead::Plain => behind_first(f, sh, today, cut.next, PLAIN),
         FirstRead::Refused(n, off) => Judged::Refused(n, 1, off as u64),
     }
 }

@@ -6,6 +6,7 @@ use Rattle.accountfile.proofs.open_group.Tie as tie
 use Rattle.accountfile.proofs.open_group.Reads as reads
 use Rattle.accountfile.proofs.open_group.Lts as lts
 use Rattle.account.proofs.is_nobody.Reads as is-nobody-reads
+use Rattle.accountfile.proofs.group_more.Reads as group-more-reads
 use Rattle.accountfile.proofs.whole_group.Reads as whole-group-reads
 use Rattle.groupline.proofs.group_line.Reads as group-line-reads
 
@@ -34,30 +35,28 @@ add-whole-group c =
     omega
     (arith, total-within (a .f .now) (a .at) (a .cut) (start .pre .1 .1 .0) (a .sh) (a .today) (start .pre .1 .1 .1) _ (c .before .before .before .before .group-line .ensures .0) _ _ _ _ _ _ (c .before .before .prefix .given .1), start .pre .1 .1 .0 .to, start .pre .1 .1 .0 .inside)
 
+group-more-requires : tie.Need-group-more-requires
+group-more-requires c κs =
+    let start = c .before .before .before .before .before .before .before in
+    let low = rw (c .before .before .prefix .given .1) at (c .before .before .before .before .group-line .ensures .1) in
+    let small = start .pre .1 .0 .low in
+    (omega (arith, small .rows), omega (arith, small .warnings), low .1)
+
 add-whole-group-2 : tie.Need-add-whole-group-2
 add-whole-group-2 c = search needs
 
-add-t28 : tie.Need-add-t28
-add-t28 c =
-    let start = c .before .before .before .before .before .before .before .before .before in
-    let low = rw (c .before .before .before .before .prefix .given .1) at (c .before .before .before .before .before .before .group-line .ensures .1) in
-    omega (arith, low .1, start .pre .1 .0 .low .warnings)
-
-add-whole-group-3 : tie.Need-add-whole-group-3
-add-whole-group-3 c = search needs
-
 whole-group-requires : tie.Need-whole-group-requires
 whole-group-requires c κs =
-    let start = c .before .before .before .before .before .before .before .before .before in
+    let start = c .before .before .before .before .before .before .before .before in
     let a = start .args in
-    let low = rw (c .before .before .before .before .prefix .given .1) at (c .before .before .before .before .before .before .group-line .ensures .1) in
-    (start .pre .0 .0, group-begun (a .sh) (a .f .now) (a .at) (a .line) (a .counts) (a .shelf) (a .cut) (start .pre .1 .1 .0) (start .pre .1 .0) _ (low .1) _ _ _)
+    let low = rw (c .before .before .before .prefix .given .1) at (c .before .before .before .before .before .group-line .ensures .1) in
+    (start .pre .0 .0, group-begun (a .sh) (a .f .now) (a .at) (a .line) (a .counts) (a .shelf) (a .cut) (start .pre .1 .1 .0) (start .pre .1 .0) _ (low .1) _ (c .group-more .ensures) _ _ _)
 
 enum-known-n : tie.Need-enum-known-n
 enum-known-n c = search needs
 
-add-t29 : tie.Need-add-t29
-add-t29 c =
+add-t28 : tie.Need-add-t28
+add-t28 c =
     let start = c .before .before .before .before .before .before in
     let a = start .args in
     omega
@@ -80,11 +79,10 @@ open-group-spec =
     enum-known-prefix
     is-nobody-requires
     add-whole-group
+    group-more-requires
     add-whole-group-2
-    add-t28
-    add-whole-group-3
     whole-group-requires
     enum-known-n
-    add-t29
+    add-t28
     returns
     returns-2)

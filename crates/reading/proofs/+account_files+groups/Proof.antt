@@ -17,10 +17,10 @@ use Rattle.reading.proofs.+account_files+groups.{statement}
 use Rattle.reading.proofs.+account_files+groups.Tie.{close}
 
 abbrev μ-account-files : Measures 2 account-files-kinds.ps ℕ
-μ-account-files κs a = length (a .0 .now) - a .1 .1 .1 .1 .1 .0
+μ-account-files κs a = length (a .0 .now) - a .1 .1 .0
 
 abbrev μ-groups : Measures 2 groups-kinds.ps ℕ
-μ-groups κs a = length (a .0 .now) - a .1 .1 .1 .1 .1 .0
+μ-groups κs a = length (a .0 .now) - a .1 .1 .0
 
 abbrev account-files-at : ℕ → In 2 account-files-kinds.ps
 account-files-at t =
@@ -61,7 +61,7 @@ account-files-sub-groups t c = search needs
 
 account-files-groups-requires : (t : ℕ) → account-files-lts.Need-groups-requires (account-files-calls t) (account-files-at t) account-files.Post
 account-files-groups-requires t c κs =
-    let p = stepped-as (c .before .before .before .before .file-step .ensures (c .before .before .before .before .before .before .before .before .args .today)) (c .before .before .next .given .1) in
+    let p = stepped-as (c .before .before .before .before .file-step .ensures (c .before .before .before .before .before .before .before .before .args .terms .today)) (c .before .before .next .given .1) in
     (omega (arith, p .less), (c .before .before .before .before .before .before .before .before .pre .1 .0, p .good))
 
 account-files-enum-known-next-2 : (t : ℕ) → account-files-lts.Need-enum-known-next-2 (account-files-calls t) (account-files-at t) account-files.Post

@@ -10,10 +10,10 @@ use Rattle.reading.proofs.account_files.Reads as account-files-reads
 use Rattle.reading.proofs.groups.Reads as groups-reads
 
 abbrev Inv-loop : tie.InvT-loop
-Inv-loop f sh today at head from to seen₀ left₀ seen left = Stand sh today f at head seen left
+Inv-loop f today at head terms seen₀ left₀ seen left = Stand (terms .sheet) today f at head seen left
 
 abbrev μ-loop : tie.MeasureT-loop
-μ-loop f sh today at head from to seen₀ left₀ seen left = toGo f left
+μ-loop f today at head terms seen₀ left₀ seen left = toGo f left
 
 loop-holds : tie.Need-loop-holds Inv-loop μ-loop
 loop-holds c =
