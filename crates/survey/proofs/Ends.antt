@@ -1,0 +1,40 @@
+-- The outcome behind the last row. Assumes nothing.
+use mathlib.Core.Path.{_≡_}
+use mathlib.Core.List.{List, []}
+use Prim.Native.Nat.{ℕ, _+_}
+use Rattle.base.specs.Pick.{pick}
+use Rattle.sheet.specs.declared.Sheet.{Sheet}
+use Rattle.paper.specs.Batch.{Header}
+use Rattle.paper.specs.Proper.{check, mayStop, rowsProper}
+use Rattle.paper.specs.Carried.{rowsCarried}
+use Rattle.flat.specs.Count.{fileClosing, count}
+use Rattle.surveying.specs.declared.Stage.the-variants as stage
+use Rattle.surveying.specs.declared.Found.the-variants as found
+use Rattle.surveying.specs.declared.State.{State}
+use Rattle.surveying.specs.Stands.{stageOf, improper, unfit, fits, surveyOf, resume}
+
+module _ (sh : Sheet) (today : ℕ) (h : Header) (l : List ℕ) (k : ℕ) (st : State) where
+  -- 20: a row is missing
+  pub end-no-file : st .stage ≡ stage.NeedFile → improper k 0 ≡ resume sh today h k l st []
+  unfolding resume surveyOf rowsProper mayStop check pick
+  end-no-file e = rw e
+
+  pub end-no-group : st .stage ≡ stage.NeedGroup → improper k 0 ≡ resume sh today h k l st []
+  unfolding resume surveyOf rowsProper mayStop check pick
+  end-no-group e = rw e
+
+  pub end-no-item : st .stage ≡ stage.NeedItem → improper k 0 ≡ resume sh today h k l st []
+  unfolding resume surveyOf rowsProper mayStop check pick
+  end-no-item e = rw e
+
+  module _ (e : st .stage ≡ stage.Any) where
+    pub end-unfit : (row field : ℕ) → st .found ≡ found.At row field → unfit row field ≡ resume sh today h k l st []
+    unfolding resume surveyOf rowsProper mayStop check pick
+    end-unfit row field f = rw (e, f)
+
+    -- a are the bytes of the open group's total and of the lines that close
+    pub end-fits : st .found ≡ found.Nothing → (a : ℕ) → a ≡ fileClosing (stageOf stage.Any) (st .sum) → fits (st .bytes + a) ≡ resume sh today h k l st []
+    unfolding resume surveyOf rowsProper rowsCarried count mayStop check pick
+    end-fits f a c = rw (e, f, c)
+
+pub ruleset ends = (end-no-file, end-no-group, end-no-item, end-unfit, end-fits)

@@ -1,0 +1,3 @@
+pub mod Ends
+pub mod Going
+pub mod Answers

@@ -1,0 +1,68 @@
+-- `finish` meets its contract: by the stage, and by what was found. Assumes nothing.
+use borrow.Author.Needs.{needs}
+use native.Mathlib.Omega.{arith}
+use Rattle.surveying.proofs.Bounds.{limits}
+use Rattle.survey.proofs.Ends.{ends}
+use Rattle.survey.proofs.finish.Statement.{statement}
+use Rattle.survey.proofs.finish.Tie as tie
+
+enum-told : tie.Need-enum-told
+enum-told c = search needs
+
+enum-told-2 : tie.Need-enum-told-2
+enum-told-2 c = search needs
+
+enum-told-3 : tie.Need-enum-told-3
+enum-told-3 c = search needs
+
+enum-told-4 : tie.Need-enum-told-4
+enum-told-4 c = search needs
+
+enum-known-found : tie.Need-enum-known-found
+enum-known-found c = search needs
+
+enum-told-5 : tie.Need-enum-told-5
+enum-told-5 c = search needs
+
+file-closing-requires : tie.Need-file-closing-requires
+file-closing-requires c κs = search needs
+
+add-t11 : tie.Need-add-t11
+add-t11 c =
+    let start = c .before .before .before .before .before .before in
+    omega (arith, limits (start .args .k) (start .args .st) (start .pre) .bytes)
+
+returns : tie.Need-returns
+returns c = (λ sh today h l. search ends, tt)
+
+returns-2 : tie.Need-returns-2
+returns-2 c = (λ sh today h l. search ends, tt)
+
+returns-3 : tie.Need-returns-3
+returns-3 c = (λ sh today h l. search ends, tt)
+
+returns-4 : tie.Need-returns-4
+returns-4 c = (λ sh today h l. search ends, tt)
+
+returns-5 : tie.Need-returns-5
+returns-5 c =
+    let start = c .before .before .before .before .before .before in
+    (λ sh today h l. search ends, omega (arith, limits (start .args .k) (start .args .st) (start .pre) .bytes, c .before .file-closing .ensures .1))
+
+pub finish-spec : {M : Type 1} → statement M
+finish-spec =
+    tie.close
+    (tie.spec
+    enum-told
+    enum-told-2
+    enum-told-3
+    enum-told-4
+    enum-known-found
+    enum-told-5
+    file-closing-requires
+    add-t11
+    returns
+    returns-2
+    returns-3
+    returns-4
+    returns-5)

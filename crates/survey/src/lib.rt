@@ -1,0 +1,80 @@
+// The judging pass of writing: 20, 21 and the length of the file, in one pass over the lent rows.
+use seen::Seen;
+use sheet::Sheet;
+use surveying::Found;
+use surveying::Stage;
+use surveying::State;
+use surveying::Step;
+ghost use mathlib.Core.Path.{_≡_};
+ghost use mathlib.Core.Bool.{true};
+ghost use mathlib.Core.List.{List, []};
+ghost use Prim.Native.Nat.{ℕ};
+ghost use Rattle.sheet.specs.declared.Sheet as sheets;
+ghost use Rattle.paper.specs.Days.{realDay};
+ghost use Rattle.paper.specs.Batch.{Header};
+ghost use Rattle.paper.specs.Rows.{rowsIn, thingsIn};
+ghost use Rattle.surveying.specs.Stands.{resume};
+ghost use Rattle.surveying.specs.Low.{Low};
+ghost use Rattle.survey.specs.Told.{told, judged, Small};
+
+// What judging ends in: 20 or 21, at a row and a field; or the bytes of all lines behind the first.
+pub enum Surveyed {
+    Improper(u64, u64),
+    Unfit(u64, u64),
+    Fits(u64),
+}
+
+// Behind the last row, where row k would stand.
+fn finish(k: u64, st: State) -> Surveyed
+    requires { ⌜ Low k st ⌝ }
+    ensures { λ r. ⌜ ((sh : sheets.Sheet) (today : ℕ) (h : Header) (l : List ℕ) → told r ≡ resume sh today h k l st []) ⌝ }
+    ensures { λ r. ⌜ Small r ⌝ }
+{
+    let stage = st.stage;
+    let found = st.found;
+    match stage {
+        Stage::NeedFile => Surveyed::Improper(k, 0),
+        Stage::NeedGroup => Surveyed::Improper(k, 0),
+        Stage::NeedItem => Surveyed::Improper(k, 0),
+        Stage::Any => match found {
+            Found::At(row, field) => Surveyed::Unfit(row, field),
+            Found::Nothing => Surveyed::Fits(
+                st.bytes + surveying::file_closing(Stage::Any, st.sum),
+            ),
+        },
+    }
+}
+
+// The lent rows, on a sheet and a day; the header's interval goes from `from` to `to`.
+pub fn survey(rows: &[u8], texts: &[u8], sh: Sheet, today: u64, from: u64, to: u64) -> Surveyed
+    requires { ⌜ realDay today ≡ true ⌝ }
+    ensures { λ r. ⌜ ((h : Header) → h .from ≡ from → h .to ≡ to → told r ≡ judged sh today h (thingsIn (now (texts .entry)) (rowsIn (now (rows .entry))))) ⌝ }
+    ensures { λ r. ⌜ Small r ⌝ }
+{
+    let mut at: usize = 0;
+    let mut k: u64 = 1;
+    let mut seen = Seen::none();
+    let mut st = surveying::start();
+    while 192 <= rows.len() - at {
+        match rowstep::row_step(rows, at, texts, sh, today, from, to, seen, k, st) {
+            Step::On(next) => {
+                st = next;
+                at = at + 192;
+                k = k + 1;
+            }
+            Step::File(next, first) => {
+                st = next;
+                seen = seen.with(first);
+                at = at + 192;
+                k = k + 1;
+            }
+            Step::Wrong(field) => {
+                return Surveyed::Improper(k, field);
+            }
+        }
+    }
+    if at < rows.len() {
+        return Surveyed::Improper(k, 0);
+    }
+    finish(k, st)
+}
