@@ -1,0 +1,27 @@
+-- `file_len` adds the first line and its CR LF.
+use borrow.Author.Needs.{needs}
+use Rattle.write.proofs.Exits.{whole-length}
+use Rattle.write.proofs.file_len.Statement.{statement}
+use Rattle.write.proofs.file_len.Tie as tie
+use Rattle.write.proofs.file_len.Reads as reads
+use Rattle.write.proofs.file_len.Lts as lts
+use Rattle.linelen.proofs.first_len.Reads as first-len-reads
+
+-- src/lib.rt:96:5
+first-len-requires : tie.Need-first-len-requires
+first-len-requires c κs = search needs
+
+-- src/lib.rt:96:5
+add-result : tie.Need-add-result
+add-result c = search needs
+
+-- src/lib.rt:96:5
+add-result-2 : tie.Need-add-result-2
+add-result-2 c = search needs
+
+-- src/lib.rt:92:1
+returns : tie.Need-returns
+returns c = search whole-length
+
+pub file-len-spec : {M : Type 1} → statement M
+file-len-spec = tie.close (tie.spec first-len-requires add-result add-result-2 returns)

@@ -1,0 +1,28 @@
+-- `fill` puts the first line and the rows' lines, which are the file.
+use borrow.Author.Needs.{needs}
+use Rattle.write.proofs.Exits.{putting}
+use Rattle.write.proofs.fill.Statement.{statement}
+use Rattle.write.proofs.fill.Tie as tie
+use Rattle.write.proofs.fill.Reads as reads
+use Rattle.write.proofs.fill.Lts as lts
+use Rattle.putlines.proofs.put_first.Reads as put-first-reads
+use Rattle.fillfile.proofs.fill_file.Reads as fill-file-reads
+
+-- src/lib.rt:144:9
+put-first-requires : tie.Need-put-first-requires
+put-first-requires c κs = search (putting, needs)
+
+-- src/lib.rt:145:5
+fill-file-requires : tie.Need-fill-file-requires
+fill-file-requires c κs = search (putting, needs)
+
+-- src/lib.rt:129:1
+same-length : tie.Need-same-length
+same-length c = search needs
+
+-- src/lib.rt:129:1
+returns : tie.Need-returns
+returns c = search putting
+
+pub fill-spec : {M : Type 1} → statement M
+fill-spec = tie.close (tie.spec put-first-requires fill-file-requires same-length returns)

@@ -1,0 +1,23 @@
+-- `header_proper` tests the header where the sheet has one.
+use borrow.Author.Needs.{needs}
+use Rattle.base.proofs.Cases.{picks}
+use Rattle.write.proofs.header_proper.Statement.{statement}
+use Rattle.write.proofs.header_proper.Tie as tie
+use Rattle.write.proofs.header_proper.Reads as reads
+use Rattle.write.proofs.header_proper.Lts as lts
+use Rattle.rowproper.proofs.header_check.Reads as header-check-reads
+
+-- src/lib.rt:61:9
+header-check-requires : tie.Need-header-check-requires
+header-check-requires c κs = search needs
+
+-- src/lib.rt:61:9
+returns : tie.Need-returns
+returns c = search picks
+
+-- src/lib.rt:57:1
+returns-2 : tie.Need-returns-2
+returns-2 c = search picks
+
+pub header-proper-spec : {M : Type 1} → statement M
+header-proper-spec = tie.close (tie.spec header-check-requires returns returns-2)

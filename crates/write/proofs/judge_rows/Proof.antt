@@ -1,0 +1,68 @@
+-- `judge_rows` tells 20 of the rows, 21 of the header, 21 of the rows, or the length.
+use borrow.Author.Needs.{needs}
+use Rattle.write.proofs.Exits.{judging, rows-fit}
+use Rattle.write.proofs.judge_rows.Statement.{statement}
+use Rattle.write.proofs.judge_rows.Tie as tie
+use Rattle.write.proofs.judge_rows.Reads as reads
+use Rattle.write.proofs.judge_rows.Lts as lts
+use Rattle.write.proofs.carry.Reads as carry-reads
+use Rattle.write.proofs.file_len.Reads as file-len-reads
+use Rattle.survey.proofs.survey.Reads as survey-reads
+
+-- src/lib.rt:104:11
+survey-requires : tie.Need-survey-requires
+survey-requires c κs = search needs
+
+-- src/lib.rt:105:28
+enum-known-row : tie.Need-enum-known-row
+enum-known-row c = search needs
+
+-- src/lib.rt:106:25
+enum-known-row-2 : tie.Need-enum-known-row-2
+enum-known-row-2 c = search needs
+
+-- src/lib.rt:106:40
+carry-requires : tie.Need-carry-requires
+carry-requires c κs = search needs
+
+-- src/lib.rt:107:24
+enum-known-rest : tie.Need-enum-known-rest
+enum-known-rest c = search needs
+
+-- src/lib.rt:107:67
+file-len-requires : tie.Need-file-len-requires
+file-len-requires c κs = search (judging, needs)
+
+-- src/lib.rt:107:33
+carry-requires-2 : tie.Need-carry-requires-2
+carry-requires-2 c κs = search needs
+
+-- src/lib.rt:100:1
+returns : tie.Need-returns
+returns c = search judging
+
+-- src/lib.rt:100:1
+returns-2 : tie.Need-returns-2
+returns-2 c = search judging
+
+-- src/lib.rt:100:1
+returns-3 : tie.Need-returns-3
+returns-3 c =
+    let survey = c .before .before .before .before .before .survey .ensures in
+    let fits = c .before .before .before .rest .given in
+    rows-fit _ _ _ _ _ _ (survey .0) _ (fits .1) _ (c .before .file-len .ensures) _ (c .carry2 .ensures)
+
+pub judge-rows-spec : {M : Type 1} → statement M
+judge-rows-spec =
+    tie.close
+    (tie.spec
+    survey-requires
+    enum-known-row
+    enum-known-row-2
+    carry-requires
+    enum-known-rest
+    file-len-requires
+    carry-requires-2
+    returns
+    returns-2
+    returns-3)
