@@ -1,15 +1,51 @@
 // The calls for a C program, on numbers and byte slices; each slice is a pointer and a count of bytes. Each is the call of the same contract in a
 // crate of its own.
+use explain::AboText;
 use read::AboAnswer;
+use write::AboWritten;
 ghost use mathlib.Core.Path.{_≡_};
+ghost use lib.ListN.{length};
 ghost use Rattle.paper.specs.Reading.{readAnswer, rowsAfter};
-ghost use Rattle.read.specs.Told.{told};
+ghost use Rattle.paper.specs.Writing.{draft, writtenIn, outputAfter};
+ghost use Rattle.paper.specs.Explaining.{explanation};
+ghost use Rattle.read.specs.Told.{told as toldRead};
+ghost use Rattle.write.specs.Told.{told as toldWritten, headerOf};
+ghost use Rattle.explain.specs.Told.{told as toldText, textAnswer};
 
 // Reads a file on a sheet (1 K, 2 S, 3 C, 4 E) with today's date, YYYYMMDD, into lent rows. A refusal leaves the rows as they were.
 #[no_mangle]
 pub extern "C" fn abo_read(file: &[u8], sheet: u64, today: u64, rows: &mut [u8]) -> AboAnswer
-    ensures { λ r. ⌜ told r ≡ readAnswer sheet today (now (file .entry)) (now (rows .entry)) ⌝ }
+    ensures { λ r. ⌜ toldRead r ≡ readAnswer sheet today (now (file .entry)) (now (rows .entry)) ⌝ }
     ensures { λ _. ⌜ now (rows .exit) ≡ rowsAfter sheet today (now (file .entry)) (now (rows .entry)) ⌝ }
 {
     read::read_file(file, sheet, today, rows)
+}
+
+// Writes the batch that lent rows hold, their texts in lent bytes, with a header, into a lent output. A refusal leaves the output as it was.
+#[no_mangle]
+pub extern "C" fn abo_write(
+    rows: &[u8],
+    texts: &[u8],
+    date: u64,
+    name: &[u8],
+    client: u64,
+    from: u64,
+    to: u64,
+    sheet: u64,
+    today: u64,
+    out: &mut [u8],
+) -> AboWritten
+    ensures { λ r. ⌜ toldWritten r ≡ writtenIn (length (now (out .entry))) (draft sheet today (headerOf date (now (name .entry)) client from to) (now (rows .entry)) (now (texts .entry))) ⌝ }
+    ensures { λ _. ⌜ now (out .exit) ≡ outputAfter (now (out .entry)) (draft sheet today (headerOf date (now (name .entry)) client from to) (now (rows .entry)) (now (texts .entry))) ⌝ }
+{
+    write::write_file(rows, texts, date, name, client, from, to, sheet, today, out)
+}
+
+// Says in a line of text what reading a file would answer: the refusal with its place, or the counts.
+#[no_mangle]
+pub extern "C" fn abo_explain(file: &[u8], sheet: u64, today: u64, out: &mut [u8]) -> AboText
+    ensures { λ r. ⌜ toldText r ≡ textAnswer (writtenIn (length (now (out .entry))) (explanation sheet today (now (file .entry)))) ⌝ }
+    ensures { λ _. ⌜ now (out .exit) ≡ outputAfter (now (out .entry)) (explanation sheet today (now (file .entry))) ⌝ }
+{
+    explain::explain_file(file, sheet, today, out)
 }

@@ -1,0 +1,49 @@
+-- `put_accepted` writes an accepted file's line, part by part.
+use borrow.Author.Needs.{needs}
+use Rattle.explain.proofs.Wording.{acceptances}
+use Rattle.explain.proofs.put_accepted.Statement.{statement}
+use Rattle.explain.proofs.put_accepted.Tie as tie
+use Rattle.explain.proofs.put_accepted.Reads as reads
+use Rattle.explain.proofs.put_accepted.Lts as lts
+use Rattle.explain.proofs.put_said.Reads as put-said-reads
+use Rattle.put.proofs.put_byte.Reads as put-byte-reads
+
+-- src/lib.rt:118:31
+slice-aggregate-put-said : tie.Need-slice-aggregate-put-said
+slice-aggregate-put-said c = search needs
+
+-- src/lib.rt:118:9
+put-said-requires : tie.Need-put-said-requires
+put-said-requires c κs = search (acceptances, needs)
+
+-- src/lib.rt:119:30
+slice-aggregate-put-said-2 : tie.Need-slice-aggregate-put-said-2
+slice-aggregate-put-said-2 c = search needs
+
+-- src/lib.rt:119:9
+put-said-requires-2 : tie.Need-put-said-requires-2
+put-said-requires-2 c κs = search (acceptances, needs)
+
+-- src/lib.rt:120:5
+put-byte-requires : tie.Need-put-byte-requires
+put-byte-requires c κs = search (acceptances, needs)
+
+-- src/lib.rt:114:1
+same-length : tie.Need-same-length
+same-length c = search needs
+
+-- src/lib.rt:114:1
+returns : tie.Need-returns
+returns c = search acceptances
+
+pub put-accepted-spec : {M : Type 1} → statement M
+put-accepted-spec =
+    tie.close
+    (tie.spec
+    slice-aggregate-put-said
+    put-said-requires
+    slice-aggregate-put-said-2
+    put-said-requires-2
+    put-byte-requires
+    same-length
+    returns)

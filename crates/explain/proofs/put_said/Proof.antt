@@ -1,0 +1,28 @@
+-- `put_said` writes a word and a number behind it.
+use borrow.Author.Needs.{needs}
+use Rattle.put.proofs.Room.{rooms}
+use Rattle.explain.proofs.put_said.Statement.{statement}
+use Rattle.explain.proofs.put_said.Tie as tie
+use Rattle.explain.proofs.put_said.Reads as reads
+use Rattle.explain.proofs.put_said.Lts as lts
+use Rattle.numeral.proofs.put_number.Reads as put-number-reads
+use Rattle.put.proofs.put_bytes.Reads as put-bytes-reads
+
+-- src/lib.rt:98:9
+put-bytes-requires : tie.Need-put-bytes-requires
+put-bytes-requires c κs = search (rooms, needs)
+
+-- src/lib.rt:99:5
+put-number-requires : tie.Need-put-number-requires
+put-number-requires c κs = search (rooms, needs)
+
+-- src/lib.rt:94:1
+same-length : tie.Need-same-length
+same-length c = search needs
+
+-- src/lib.rt:94:1
+returns : tie.Need-returns
+returns c = search rooms
+
+pub put-said-spec : {M : Type 1} → statement M
+put-said-spec = tie.close (tie.spec put-bytes-requires put-number-requires same-length returns)

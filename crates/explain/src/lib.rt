@@ -1,0 +1,179 @@
+// A judged file in a line of text. Which answer it is (`Verdict`) is known apart from how it is worded (`line_len`, `put_line`).
+use reading::Judged;
+use sheet::Known;
+use sheet::Sheet;
+ghost use mathlib.Core.Path.{_≡_};
+ghost use mathlib.Core.List.{_++_};
+ghost use Prim.Native.Nat.{_+_, _≤_};
+ghost use lib.ListN.{length};
+ghost use Rattle.base.specs.Put.{Wrote};
+ghost use Rattle.sheet.specs.declared.Known.the-variants as known;
+ghost use Rattle.sheet.specs.Sheets.{sheetOf};
+ghost use Rattle.sheet.proofs.Laws.{Sane};
+ghost use Rattle.paper.specs.Numerals.{decimal};
+ghost use Rattle.paper.specs.Reading.{readWith};
+ghost use Rattle.paper.specs.Writing.{writtenIn, outputAfter};
+ghost use Rattle.paper.specs.Explaining.{refusedLine, acceptedLine, explanation};
+ghost use Rattle.explain.specs.Told.{textAnswer, told};
+ghost use Rattle.explain.specs.Wording.{verdictOf, lineOf};
+
+// The whole answer: number 0 and the bytes written, or 16 and the bytes needed.
+#[repr(C)]
+pub struct AboText {
+    pub number: u64,
+    pub bytes: u64,
+}
+
+// What is to be said of a file: a refusal's number, line and byte; or number 0, and the counts of rows and warnings.
+pub struct Verdict {
+    pub number: u64,
+    pub line: u64,
+    pub byte: u64,
+    pub rows: u64,
+    pub warnings: u64,
+}
+
+// ---- which answer it is
+
+// The verdict on the sheet sh: 2, or what the file is judged to be.
+fn verdict_on(file: &[u8], sh: Sheet, today: u64) -> Verdict
+    requires { ⌜ Sane sh ⌝ }
+    ensures { λ r. ⌜ r ≡ verdictOf (readWith (known.Sheet sh) today (now (file .entry)) (length (now (file .entry)))) ⌝ }
+{
+    if calendar::real_day(today) {
+        match reading::judge_file(file, sh, today) {
+            Judged::Refused(n, line, byte) => Verdict {
+                number: n,
+                line,
+                byte,
+                rows: 0,
+                warnings: 0,
+            },
+            Judged::Accepted {
+                head: _,
+                rows,
+                warnings,
+            } => Verdict {
+                number: 0,
+                line: 0,
+                byte: 0,
+                rows,
+                warnings,
+            },
+        }
+    } else {
+        Verdict {
+            number: 2,
+            line: 0,
+            byte: 0,
+            rows: 0,
+            warnings: 0,
+        }
+    }
+}
+
+// The verdict on the sheet of that number.
+pub fn verdict_for(file: &[u8], sheet: u64, today: u64) -> Verdict
+    ensures { λ r. ⌜ r ≡ verdictOf (readWith (sheetOf sheet) today (now (file .entry)) (length (now (file .entry)))) ⌝ }
+{
+    match sheet::sheet_of(sheet) {
+        Known::Sheet(sh) => verdict_on(file, sh, today),
+        Known::Nothing => Verdict {
+            number: 1,
+            line: 0,
+            byte: 0,
+            rows: 0,
+            warnings: 0,
+        },
+    }
+}
+
+// ---- how it is worded
+
+// How many bytes the line of a refusal has.
+pub fn refused_len(number: u64, line: u64, byte: u64) -> usize
+    ensures { λ r. ⌜ (r ≡ length (refusedLine number line byte)) × (r ≤ 81) ⌝ }
+{
+    21 + numeral::width(number) + numeral::width(line) + numeral::width(byte)
+}
+
+// How many bytes the line of an accepted file has.
+pub fn accepted_len(rows: u64, warnings: u64) -> usize
+    ensures { λ r. ⌜ (r ≡ length (acceptedLine rows warnings)) × (r ≤ 65) ⌝ }
+{
+    25 + numeral::width(rows) + numeral::width(warnings)
+}
+
+// How many bytes the line has.
+pub fn line_len(v: Verdict) -> usize
+    ensures { λ r. ⌜ (r ≡ length (lineOf v)) × (r ≤ 81) ⌝ }
+{
+    if v.number == 0 {
+        return accepted_len(v.rows, v.warnings);
+    }
+    refused_len(v.number, v.line, v.byte)
+}
+
+// Writes a word and a number behind it.
+fn put_said(out: &mut [u8], at: usize, word: &[u8], n: u64) -> usize
+    requires { ⌜ at + length (now word ++ decimal n) ≤ length (now out) ⌝ }
+    ensures { λ r. ⌜ Wrote (now (out .entry)) at (now (word .entry) ++ decimal n) (now (out .exit)) r ⌝ }
+{
+    let e = put::put_bytes(out, at, word);
+    numeral::put_number(out, e, n)
+}
+
+// Writes the line of a refusal.
+pub fn put_refused(out: &mut [u8], at: usize, number: u64, line: u64, byte: u64) -> usize
+    requires { ⌜ at + length (refusedLine number line byte) ≤ length (now out) ⌝ }
+    ensures { λ r. ⌜ Wrote (now (out .entry)) at (refusedLine number line byte) (now (out .exit)) r ⌝ }
+{
+    let e = put_said(out, at, b"refused ", number);
+    let f = put_said(out, e, b" line ", line);
+    let g = put_said(out, f, b" byte ", byte);
+    put::put_byte(out, g, 10)
+}
+
+// Writes the line of an accepted file.
+pub fn put_accepted(out: &mut [u8], at: usize, rows: u64, warnings: u64) -> usize
+    requires { ⌜ at + length (acceptedLine rows warnings) ≤ length (now out) ⌝ }
+    ensures { λ r. ⌜ Wrote (now (out .entry)) at (acceptedLine rows warnings) (now (out .exit)) r ⌝ }
+{
+    let e = put_said(out, at, b"accepted rows ", rows);
+    let f = put_said(out, e, b" warnings ", warnings);
+    put::put_byte(out, f, 10)
+}
+
+// Writes the line.
+pub fn put_line(out: &mut [u8], at: usize, v: Verdict) -> usize
+    requires { ⌜ at + length (lineOf v) ≤ length (now out) ⌝ }
+    ensures { λ r. ⌜ Wrote (now (out .entry)) at (lineOf v) (now (out .exit)) r ⌝ }
+{
+    if v.number == 0 {
+        return put_accepted(out, at, v.rows, v.warnings);
+    }
+    put_refused(out, at, v.number, v.line, v.byte)
+}
+
+// ---- both
+
+// Judges a file on the sheet of that number, and puts the line that tells of it at the front of the output; where it has no room, the output is
+// left as it was.
+pub fn explain_file(file: &[u8], sheet: u64, today: u64, out: &mut [u8]) -> AboText
+    ensures { λ r. ⌜ told r ≡ textAnswer (writtenIn (length (now (out .entry))) (explanation sheet today (now (file .entry)))) ⌝ }
+    ensures { λ _. ⌜ now (out .exit) ≡ outputAfter (now (out .entry)) (explanation sheet today (now (file .entry))) ⌝ }
+{
+    let v = verdict_for(file, sheet, today);
+    let n = line_len(v);
+    if out.len() < n {
+        return AboText {
+            number: 16,
+            bytes: n as u64,
+        };
+    }
+    put_line(out, 0, v);
+    AboText {
+        number: 0,
+        bytes: n as u64,
+    }
+}
