@@ -1,0 +1,1 @@
+// The three demands on the library, as theorems. No code.
