@@ -1,9 +1,10 @@
 #!/bin/sh
-# What reading costs: instructions a byte of the library and of the second program, on files of two sizes of each sheet and
-# kind, and their ratio. Counts are exact and the same in each run; they are not times. The only thing tested is that both
+# What reading and writing cost: instructions a byte of the library and of the second program, on files of two sizes of each sheet
+# and kind, and their ratio. Counts are exact and the same in each run; they are not times. The only thing tested is that both
 # grow with the file and no faster: at the two sizes they lie within 10 % of each other. The last line is 'N passed, M failed'.
 #
 #   host/cost.sh                                 all sheets and kinds, about 100 KB and 10 MB
+#   CALLS=write host/cost.sh                     writing alone (read write); a byte is one of the file read, or written
 #   SHEETS='K C' KINDS=wages host/cost.sh        some of them (kinds: wages invoices shortest longest)
 #   SIZES='100000 1000000' host/cost.sh          other sizes
 #   BY=1 host/cost.sh                            and by function, below each line of the larger size
@@ -24,13 +25,13 @@ if [ -z "${COUNTER:-}" ]; then
     if command -v qemu-x86_64 >/dev/null && qemu-x86_64 -h | grep -q -- -plugin; then COUNTER=qemu; fi
 fi
 
-refused() { # WHO SHEET KIND BYTES: a file that is not accepted, or no count
+refused() { # CALL WHO SHEET KIND BYTES: a file that is not accepted, or no count
     cat "$build/cost.out" "$build/cost.err" >&2
     echo "cost $*: failed" >&2
     exit 1
 }
 
-instructions() { # WHO SHEET KIND BYTES: instructions in all; the program's line goes to $build/cost.out
+instructions() { # CALL WHO SHEET KIND BYTES: instructions in all; the program's line goes to $build/cost.out
     if [ "$COUNTER" = qemu ]; then
         tools/count.sh "$build/cost" "$@" >"$build/cost.out" 2>"$build/cost.err" || refused "$@"
         sed -n 's/^count: *\([0-9]*\)  in all$/\1/p' "$build/cost.err"
@@ -61,43 +62,45 @@ linear() { # WHAT SMALL LARGE: a tenth apart at most
     fi
 }
 
-printf 'sheet kind          bytes'
+printf 'call  sheet kind          bytes'
 for w in $who; do printf ' %9s' "$w/byte"; done
 if [ "$who" = 'abo peer' ]; then printf '   ratio'; fi
 echo
+for call in ${CALLS:-read write}; do
 for letter in ${SHEETS:-K S C E}; do
     for kind in ${KINDS:-wages invoices shortest longest}; do
         before=
         for size in $sizes; do
             number=1
             case $letter in S) number=2 size=$((size / 10)) ;; C) number=3 ;; E) number=4 ;; esac
-            none=$(instructions none $number "$kind" "$size")
+            none=$(instructions $call none $number "$kind" "$size")
             now=
             by=
             for w in $who; do
-                all=$(instructions "$w" $number "$kind" "$size")
-                bytes=$(sed -n 's/^bytes \([0-9]*\) number 0 .*/\1/p' "$build/cost.out")
+                all=$(instructions $call "$w" $number "$kind" "$size")
+                bytes=$(sed -n 's/^bytes \([0-9]*\) number 0$/\1/p' "$build/cost.out")
                 now="$now $(awk -v a="$all" -v n="$none" -v b="$bytes" 'BEGIN { printf "%.2f", (a - n) / b }')"
                 if [ -n "${BY:-}" ] && [ -n "$before" ]; then by="$by$(by_function)
 "; fi
             done
-            echo "$letter $kind $bytes$now" | awk '{
-                printf "%-5s %-9s %9d", $1, $2, $3
-                for (i = 4; i <= NF; i++) printf " %9.2f", $i
-                if (NF == 5) printf " %7.2f", $4 / $5
+            echo "$call $letter $kind $bytes$now" | awk '{
+                printf "%-5s %-5s %-9s %9d", $1, $2, $3, $4
+                for (i = 5; i <= NF; i++) printf " %9.2f", $i
+                if (NF == 6) printf " %7.2f", $5 / $6
                 print "" }'
             printf '%s' "$by"
             if [ -n "$before" ]; then
                 i=0
                 for w in $who; do
                     i=$((i + 1))
-                    linear "$w on $letter, $kind" "$(echo "$before" | awk -v i=$i '{ print $i }')" \
+                    linear "$call by $w on $letter, $kind" "$(echo "$before" | awk -v i=$i '{ print $i }')" \
                         "$(echo "$now" | awk -v i=$i '{ print $i }')"
                 done
             fi
             before=$now
         done
     done
+done
 done
 echo "$passed passed, $failed failed"
 [ "$failed" -eq 0 ]

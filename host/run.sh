@@ -2,7 +2,7 @@
 # The library against the second program, from C: builds and runs the tests of this folder, on x86-64 and on Arm. The last
 # line is 'N passed, M failed', and the exit status is 0 only if nothing failed.
 #
-#   host/run.sh                  READ=1 WRITE=0 EXPLAIN=0 say which calls the library has: abo_read, abo_write, abo_explain
+#   host/run.sh                  READ=1 WRITE=1 EXPLAIN=1 say which calls are tested: abo_read, abo_write, abo_explain
 #   FILES=1000000 host/run.sh    how many files and batches are generated (default 200000); SEED is the first one's seed
 #   COST=1 host/run.sh           host/cost.sh as well
 #
@@ -50,8 +50,8 @@ if [ "${READ:-1}" = 1 ]; then
     test_call 'compare_read ask_read' "$files" "$seed"
     test_call stack
 fi
-if [ "${WRITE:-0}" = 1 ]; then test_call 'compare_write ask_write round_trip' "$files" "$seed"; fi
-if [ "${EXPLAIN:-0}" = 1 ]; then test_call compare_explain "$((files / 2))" "$seed"; fi
+if [ "${WRITE:-1}" = 1 ]; then test_call 'compare_write ask_write round_trip' "$files" "$seed"; fi
+if [ "${EXPLAIN:-1}" = 1 ]; then test_call compare_explain "$((files / 2))" "$seed"; fi
 if [ "${COST:-0}" = 1 ]; then
     LIB=$lib sh host/cost.sh >"$build/cost.log" 2>&1
     status=$?
