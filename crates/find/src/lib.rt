@@ -1,4 +1,5 @@
 // Where a byte stands in a text.
+use block::skip_other;
 ghost use mathlib.Core.Path.{_≡_};
 ghost use mathlib.Core.List.{[], _∷_};
 ghost use Prim.Native.Nat.{_+_, _≤_};
@@ -10,7 +11,7 @@ pub fn find_byte(s: &[u8], from: usize, b: u8) -> usize
     requires { ⌜ from ≤ length (now s) ⌝ }
     ensures { λ r. ⌜ r ≡ from + seek (b ∷ []) (drop from (now (s .entry))) ⌝ }
 {
-    let mut i = from;
+    let mut i = skip_other(s, from, b);
     while i < s.len() {
         if s[i] == b {
             return i;

@@ -7,14 +7,16 @@ use native.Mathlib.Numerals.{add-one}
 use native.Mathlib.Omega.{arith}
 use lib.ListN.{length, getD, take, drop, drop-of-length-le, take-append-drop, length-drop}
 use lib.Seq.{drop-cons, drop-drop, getD-drop, take-suc, take-all, length-take-le}
-use borrow.Author.Tests.{eqb-true, ne-eqb}
+use borrow.Author.Tests.{eqb-true, leb-true, ne-eqb}
 use Rattle.base.specs.Pick.{pick}
 use Rattle.base.specs.Seek.{all}
 use Rattle.base.proofs.Cases.{by-test, by-lt}
 use Rattle.base.proofs.Seek.{never, all-cons, all-append}
 use Rattle.paper.specs.Lines.{line, startsLF, ended, behind, linesOf, linesFrom}
+use Rattle.block.specs.Blocks.{isHigh, Skips}
 use Rattle.line.specs.declared.Cut.{Cut}
 use Rattle.line.specs.Cutting.{isPlain, Cuts}
+use Rattle.line.proofs.Plain.{high-plain, all-weaker}
 use Rattle.line.proofs.Lines.{line-joined, line-last, at-end}
 
 abbrev cutAt : ℕ → ℕ → Cut
@@ -80,9 +82,13 @@ ends-cr f i l e = by-test (startsLF (drop (i + 1) f)) (λ t. simp t (two t)) (λ
 abbrev pub Passed : List ℕ → ℕ → ℕ → Type 0
 Passed f at i = (at ≤ i) × (i ≤ length f) × (all isPlain (take (i - at) (drop at f)) ≡ true)
 
-pub passed-none : (f : List ℕ) (at : ℕ) → at < length f → Passed f at at
-unfolding all
-passed-none f at h = let z : at - at ≡ 0 = omega arith in (omega arith, omega arith, rw z)
+-- bytes above 13 are
+pub passed-high : (f : List ℕ) (at i : ℕ) → Skips isHigh f at i → Passed f at i
+passed-high f at i k = (
+  k .from,
+  k .inside,
+  all-weaker isHigh isPlain (λ b h. high-plain b (omega (arith, leb-true 14 b h))) (take (i - at) (drop at f)) (k .between),
+)
 
 pub passed-more : (f : List ℕ) (at i : ℕ) → Passed f at i → i < length f → isPlain (getD f i 0) ≡ true → Passed f at (i + 1)
 unfolding all

@@ -1,4 +1,5 @@
 // The lines of a lent file one after the other, and the fields of a line.
+use block::skip_high;
 ghost use mathlib.Core.Path.{_≡_};
 ghost use Prim.Native.Nat.{_+_, _<_, _≤_};
 ghost use lib.ListN.{length, drop};
@@ -20,7 +21,7 @@ pub fn next_line(f: &[u8], at: usize) -> Cut
     requires { ⌜ at < length (now f) ⌝ }
     ensures { λ r. ⌜ Cuts (now (f .entry)) at r ⌝ }
 {
-    let mut i = at;
+    let mut i = skip_high(f, at);
     while i < f.len() {
         let b = f[i];
         // nearly every byte passes this one test

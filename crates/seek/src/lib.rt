@@ -1,4 +1,5 @@
 // Looking for a pattern in a text, and telling text bytes from others.
+use block::skip_text;
 ghost use mathlib.Core.Path.{_≡_};
 ghost use Prim.Native.Nat.{_+_, _≤_};
 ghost use lib.ListN.{length, drop};
@@ -24,7 +25,7 @@ pub fn all_text(s: &[u8], from: usize) -> bool
     requires { ⌜ from ≤ length (now s) ⌝ }
     ensures { λ r. ⌜ r ≡ all isText (drop from (now (s .entry))) ⌝ }
 {
-    let mut i = from;
+    let mut i = skip_text(s, from);
     while i < s.len() {
         if is_text(s[i]) {
             i += 1;

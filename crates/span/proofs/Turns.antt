@@ -1,17 +1,16 @@
 -- The turns and the ways out of the functions that find parts by their places. Assumes nothing.
-use mathlib.Core.Path.{_≡_, sym, _∙_}
-use mathlib.Core.List.{List}
-use Prim.Native.Nat.{ℕ, _+_, _-_, _≤_, _<_}
-use native.Mathlib.Nat.{add-zero}
-use native.Mathlib.Numerals.{add-one}
+use mathlib.Core.Path.{_≡_, refl, ap, _∙_}
+use mathlib.Core.Bool.{true, false}
+use mathlib.Core.List.{List, [], _∷_}
+use Prim.Native.Nat.{ℕ, suc, _+_, _-_, _≤_, _<_}
 use native.Mathlib.Omega.{arith}
-use lib.Dec.{ltb}
-use lib.ListN.{length, getD, drop, drop-of-length-le}
-use lib.Seq.{drop-cons}
-use borrow.Author.Tests.{ltb-true, eq-eqb, ne-eqb, lt-ltb, le-ltb}
+use lib.Dec.{ltb, eqb}
+use lib.ListN.{length, drop, length-drop}
+use lib.Seq.{drop-drop}
+use borrow.Author.Tests.{ltb-true, lt-ltb, le-ltb}
 use Rattle.base.specs.Pick.{pick}
-use Rattle.base.specs.Seek.{seek}
-use Rattle.base.proofs.Cases.{either}
+use Rattle.base.specs.Seek.{starts, seek}
+use Rattle.base.proofs.Cases.{by-test, either}
 use Rattle.base.proofs.Seek.{seek-within}
 use Rattle.paper.specs.Bytes.{bar}
 use Rattle.paper.specs.Texts.{others}
@@ -20,22 +19,47 @@ use Rattle.span.specs.declared.Span.{Span}
 use Rattle.span.specs.declared.Part.{Part}
 use Rattle.span.specs.declared.Spans.{Spans}
 
--- bars
-module _ (s : List ℕ) (from i n : ℕ) (inv : length (others from (drop from s)) ≡ n + length (others i (drop i s))) where
-  module _ (h : i < length s) where
-    pub bars-hit : getD s i 0 ≡ 124 → length (others from (drop from s)) ≡ n + 1 + length (others (i + 1) (drop (i + 1) s))
-    unfolding others pick
-    bars-hit e = inv ∙ rw (drop-cons s i 0 h, eq-eqb _ _ e, add-one i) (omega arith)
+-- bars: how many `|` stand from `from` on, when n stand before i
+abbrev pub Counted : List ℕ → ℕ → ℕ → ℕ → Type 0
+Counted s from n i = length (others from (drop from s)) ≡ n + length (others i (drop i s))
 
-    pub bars-miss : (getD s i 0 ≡ 124 → ⊥) → length (others from (drop from s)) ≡ n + length (others (i + 1) (drop (i + 1) s))
-    unfolding others pick
-    bars-miss e = inv ∙ rw (drop-cons s i 0 h, ne-eqb _ _ e, add-one i)
+-- what is known at the next one, or at the text's end
+abbrev pub Bars : List ℕ → ℕ → ℕ → ℕ → Type 0
+Bars s from n i = (i < length s → Counted s from (n + 1) (i + 1)) × (length s ≤ i → n ≡ length (others from (drop from s)))
 
-  pub bars-past : length s ≤ i → n ≡ length (others from (drop from s))
-  unfolding others
-  bars-past h = sym (inv ∙ rw (drop-of-length-le s h) (add-zero n))
+-- none stands before the first; where that is behind the text's end, none stands in it
+others-none : (at : ℕ) (s : List ℕ) → length s ≤ seek bar s → length (others at s) ≡ 0
+unfolding others seek starts pick
+others-none at [] h = refl
+others-none at (x ∷ s) h =
+    by-test (eqb x 124) (λ e. absurd (omega (arith, simp e at h))) (λ e. simp e (others-none (at + 1) s (omega (arith, simp e at h))))
 
-pub ruleset counts = (bars-hit, bars-miss, bars-past)
+others-some : (at : ℕ) (s : List ℕ) → seek bar s < length s → length (others at s) ≡ 1 + length (others (at + seek bar s + 1) (drop (seek bar s + 1) s))
+unfolding others seek starts pick
+others-some at [] h = absurd (omega arith)
+others-some at (x ∷ s) h =
+    by-test (eqb x 124) (λ e. let z : at + 0 + 1 ≡ at + 1 = omega arith in simp e (rw z (omega arith)))
+    (λ e.
+    let l : seek bar s < length s = omega (arith, simp e at h) in
+    let z : at + suc (seek bar s) + 1 ≡ at + 1 + seek bar s + 1 = omega arith in
+    let w : suc (seek bar s) + 1 ≡ suc (seek bar s + 1) = omega arith in
+    simp e (rw (z, w) (others-some (at + 1) s l)))
+
+module _ (s : List ℕ) (from n k r : ℕ) (c : Counted s from n k) (g : r ≡ k + seek bar (drop k s)) where
+  -- r is the place of the next one
+  pub bars-some : k ≤ length s → r < length s → Counted s from (n + 1) (r + 1)
+  bars-some h l =
+      let e = others-some k (drop k s) (omega (arith, length-drop k s)) in
+      let d : drop (seek bar (drop k s) + 1) (drop k s) ≡ drop (r + 1) s = let j : k + (seek bar (drop k s) + 1) ≡ r + 1 = omega arith in drop-drop (seek bar (drop k s) + 1) k s ∙ ap (λ (i : ℕ). drop i s) j in
+      let f : length (others (k + seek bar (drop k s) + 1) (drop (seek bar (drop k s) + 1) (drop k s))) ≡ length (others (r + 1) (drop (r + 1) s)) = rw (d, ← g) in
+      omega arith
+
+  pub bars-none : k ≤ length s → length s ≤ r → n ≡ length (others from (drop from s))
+  bars-none h l = omega (arith, others-none k (drop k s) (omega (arith, length-drop k s)))
+
+  -- what the loop knows at r
+  pub bars-at : k ≤ length s → Bars s from n r
+  bars-at h = (bars-some h, bars-none h)
 
 -- part_at
 module _ (m : List ℕ) (a e : ℕ) (g : e ≡ a + seek bar (drop a m)) where

@@ -1,5 +1,5 @@
 // Four parts of a message and a name, by their places: found one after another, and cut.
-use seek::find;
+use find::find_byte;
 ghost use mathlib.Core.Path.{_≡_};
 ghost use Prim.Native.Nat.{_≤_};
 ghost use lib.ListN.{length, drop};
@@ -35,14 +35,10 @@ pub fn bars(m: &[u8], from: usize) -> usize
     ensures { λ r. ⌜ r ≡ length (others from (drop from (now (m .entry)))) ⌝ }
 {
     let mut n = 0;
-    let mut i = from;
+    let mut i = find_byte(m, from, 124);
     while i < m.len() {
-        if m[i] == 124 {
-            n += 1;
-            i += 1;
-        } else {
-            i += 1;
-        }
+        n += 1;
+        i = find_byte(m, i + 1, 124);
     }
     n
 }
@@ -52,7 +48,7 @@ fn part_at(m: &[u8], from: usize) -> Part
     requires { ⌜ from ≤ length (now m) ⌝ }
     ensures { λ r. ⌜ r ≡ partAt (now (m .entry)) from ⌝ }
 {
-    let end = find(m, from, b"|");
+    let end = find_byte(m, from, 124);
     if end < m.len() {
         return Part {
             at: from,

@@ -1,6 +1,6 @@
 // The text of an item: where the parts of its message and its name stand in the line.
+use find::find_byte;
 use seek::all_text;
-use seek::find;
 use seek::starts_at;
 use sheet::Style;
 use span::Spans;
@@ -11,8 +11,8 @@ ghost use mathlib.Core.Bool.{false};
 ghost use Prim.Native.Nat.{_+_, _≤_};
 ghost use lib.ListN.{length, drop};
 ghost use Rattle.base.specs.Pick.{pick};
-ghost use Rattle.base.specs.Seek.{starts};
-ghost use Rattle.paper.specs.Bytes.{np};
+ghost use Rattle.base.specs.Seek.{starts, seek};
+ghost use Rattle.paper.specs.Bytes.{np, mark};
 ghost use Rattle.paper.specs.Texts.{opens, messageEnd, message, marked, readText};
 ghost use Rattle.text.specs.Told.{told, Inside, Tells};
 ghost use Rattle.text.specs.Finish.{judged, finishAt};
@@ -50,6 +50,25 @@ fn finish_at(y: Style, m: &[u8], from: usize, at: usize, len: usize) -> TextRead
     judge(y, four_from(m, from, at, len))
 }
 
+// The first ` NP:` of s at or after `from`, or s's length where there is none. It is looked for by its last byte, which is rare in a text.
+fn find_mark(s: &[u8], from: usize) -> usize
+    requires { ⌜ from ≤ length (now s) ⌝ }
+    ensures { λ r. ⌜ r ≡ from + seek mark (drop from (now (s .entry))) ⌝ }
+{
+    let mut i = from;
+    while 3 < s.len() - i {
+        let colon = find_byte(s, i + 3, 58);
+        if colon == s.len() {
+            return colon;
+        }
+        if starts_at(s, colon - 3, b" NP:") {
+            return colon - 3;
+        }
+        i = colon - 2;
+    }
+    s.len()
+}
+
 // Where the message that begins at `from` ends: before its first ` NP:`, where names are.
 fn message_end(y: Style, s: &[u8], from: usize) -> usize
     requires { ⌜ from ≤ length (now s) ⌝ }
@@ -57,7 +76,7 @@ fn message_end(y: Style, s: &[u8], from: usize) -> usize
 {
     let names = y.names;
     if names {
-        return find(s, from, b" NP:");
+        return find_mark(s, from);
     }
     s.len()
 }

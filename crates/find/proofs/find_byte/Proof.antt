@@ -1,11 +1,12 @@
 -- `find_byte` meets its contract: what is sought from the index on is what is sought from the start. Assumes nothing.
 use Prim.Native.Nat.{_+_, _-_, _≤_}
-use mathlib.Core.Path.{_≡_, refl}
+use mathlib.Core.Path.{_≡_}
 use mathlib.Core.List.{[], _∷_}
 use native.Mathlib.Omega.{arith}
 use borrow.Author.Needs.{needs}
 use lib.ListN.{length, drop}
 use Rattle.base.specs.Seek.{seek}
+use Rattle.block.proofs.Passing.{seek-skipped}
 use Rattle.find.proofs.Turns.{turns}
 use Rattle.find.proofs.find_byte.Statement.{statement}
 use Rattle.find.proofs.find_byte.Tie as tie
@@ -16,8 +17,11 @@ Inv-loop s from b i₀ i = (i ≤ length s) × (from + seek (b ∷ []) (drop fro
 abbrev μ-loop : tie.MeasureT-loop
 μ-loop s from b i₀ i = length s - i
 
+skip-other-requires : tie.Need-skip-other-requires Inv-loop μ-loop
+skip-other-requires c κs = search needs
+
 loop-holds : tie.Need-loop-holds Inv-loop μ-loop
-loop-holds c = (c .pre, refl)
+loop-holds c = (c .skip-other .ensures .inside, search seek-skipped)
 
 shared-slice-read-if1 : tie.Need-shared-slice-read-if1 Inv-loop μ-loop
 shared-slice-read-if1 c = omega arith
@@ -39,4 +43,4 @@ returns-2 c = search turns
 
 pub find-byte-spec : {M : Type 1} → statement M
 find-byte-spec =
-    tie.close (tie.spec Inv-loop μ-loop loop-holds shared-slice-read-if1 returns add-i loop-less loop-again returns-2)
+    tie.close (tie.spec Inv-loop μ-loop skip-other-requires loop-holds shared-slice-read-if1 returns add-i loop-less loop-again returns-2)

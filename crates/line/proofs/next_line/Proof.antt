@@ -4,7 +4,7 @@ use lib.ListN.{length}
 use mathlib.Core.Logic.{⊎-elim}
 use native.Mathlib.Omega.{arith}
 use Rattle.line.proofs.Plain.{is-plain, high-plain}
-use Rattle.line.proofs.Cutting.{Passed, passed-none, passed-more, cuts}
+use Rattle.line.proofs.Cutting.{Passed, passed-high, passed-more, cuts}
 use borrow.Author.Needs.{needs}
 use Rattle.line.proofs.next_line.Statement.{statement}
 use Rattle.line.proofs.next_line.Tie as tie
@@ -18,8 +18,11 @@ Inv-loop f at i₀ i = Passed f at i
 abbrev μ-loop : tie.MeasureT-loop
 μ-loop f at i₀ i = length f - i
 
+skip-high-requires : tie.Need-skip-high-requires Inv-loop μ-loop
+skip-high-requires c κs = search needs
+
 loop-holds : tie.Need-loop-holds Inv-loop μ-loop
-loop-holds c = search passed-none
+loop-holds c = search passed-high
 
 shared-slice-read-b : tie.Need-shared-slice-read-b Inv-loop μ-loop
 shared-slice-read-b c = search needs
@@ -56,6 +59,7 @@ next-line-spec =
     (tie.spec
     Inv-loop
     μ-loop
+    skip-high-requires
     loop-holds
     shared-slice-read-b
     add-t10

@@ -1,8 +1,9 @@
 -- `seek::all_text` meets its contract. Assumes nothing.
 use borrow.Author.Needs.{needs}
 use Prim.Native.Nat.{_-_, _≤_}
-use mathlib.Core.Path.{_≡_, refl}
+use mathlib.Core.Path.{_≡_}
 use lib.ListN.{length, drop}
+use Rattle.block.proofs.Passing.{all-skipped}
 use Rattle.seek.proofs.Turns.{alls}
 use Rattle.base.specs.Seek.{all}
 use Rattle.paper.specs.Bytes.{isText}
@@ -15,8 +16,11 @@ Inv-loop s from i₀ i = (i ≤ length s) × (all isText (drop from s) ≡ all i
 abbrev μ-loop : tie.MeasureT-loop
 μ-loop s from i₀ i = length s - i
 
+skip-text-requires : tie.Need-skip-text-requires Inv-loop μ-loop
+skip-text-requires c κs = search needs
+
 loop-holds : tie.Need-loop-holds Inv-loop μ-loop
-loop-holds c = (search needs, refl)
+loop-holds c = (c .skip-text .ensures .inside, search all-skipped)
 
 shared-slice-read-is-text : tie.Need-shared-slice-read-is-text Inv-loop μ-loop
 shared-slice-read-is-text c = search (alls, needs)
@@ -45,6 +49,7 @@ all-text-spec =
     (tie.spec
     Inv-loop
     μ-loop
+    skip-text-requires
     loop-holds
     shared-slice-read-is-text
     is-text-requires

@@ -1,48 +1,41 @@
--- `span::bars` meets its contract. Assumes nothing.
+-- `span::bars` meets its contract: those before the place are counted, and the place is the next one's. Assumes nothing.
+use Prim.Native.Nat.{_-_, _≤_}
+use native.Mathlib.Omega.{arith}
 use borrow.Author.Needs.{needs}
-use Prim.Native.Nat.{_+_, _-_, _≤_}
-use mathlib.Core.Path.{_≡_}
-use lib.ListN.{length, drop}
-use Rattle.span.proofs.Turns.{counts}
-use Rattle.paper.specs.Texts.{others}
+use lib.ListN.{length}
+use Rattle.span.proofs.Turns.{Bars, bars-at}
 use Rattle.span.proofs.bars.Statement.{statement}
 use Rattle.span.proofs.bars.Tie as tie
 
 abbrev Inv-loop : tie.InvT-loop
-Inv-loop m from n₀ i₀ n i = (i ≤ length m) × (n ≤ i) × (length (others from (drop from m)) ≡ n + length (others i (drop i m)))
+Inv-loop m from n₀ i₀ n i = (n ≤ i) × Bars m from n i
 
 abbrev μ-loop : tie.MeasureT-loop
 μ-loop m from n₀ i₀ n i = length m - i
 
-loop-holds : tie.Need-loop-holds Inv-loop μ-loop
-loop-holds c = search (counts, needs)
+find-byte-requires : tie.Need-find-byte-requires Inv-loop μ-loop
+find-byte-requires c κs = search needs
 
-shared-slice-read-if1 : tie.Need-shared-slice-read-if1 Inv-loop μ-loop
-shared-slice-read-if1 c = search (counts, needs)
+loop-holds : tie.Need-loop-holds Inv-loop μ-loop
+loop-holds c = (omega arith, bars-at _ _ 0 _ _ (omega arith) (c .find-byte .ensures) (omega arith))
 
 add-n : tie.Need-add-n Inv-loop μ-loop
-add-n c = search (counts, needs)
+add-n c = search needs
 
-add-i : tie.Need-add-i Inv-loop μ-loop
-add-i c = search (counts, needs)
+add-find-byte : tie.Need-add-find-byte Inv-loop μ-loop
+add-find-byte c = search needs
+
+find-byte-requires-2 : tie.Need-find-byte-requires-2 Inv-loop μ-loop
+find-byte-requires-2 c κs = search needs
 
 loop-less : tie.Need-loop-less Inv-loop μ-loop
-loop-less c = search (counts, needs)
+loop-less c = search needs
 
 loop-again : tie.Need-loop-again Inv-loop μ-loop
-loop-again c = search (counts, needs)
-
-add-i-2 : tie.Need-add-i-2 Inv-loop μ-loop
-add-i-2 c = search (counts, needs)
-
-loop-less-2 : tie.Need-loop-less-2 Inv-loop μ-loop
-loop-less-2 c = search (counts, needs)
-
-loop-again-2 : tie.Need-loop-again-2 Inv-loop μ-loop
-loop-again-2 c = search (counts, needs)
+loop-again c = (omega arith, bars-at _ _ _ _ _ (c .before .before .loop .inv .1 .0 (c .before .loop-test .taken)) (c .find-byte2 .ensures) (omega arith))
 
 returns : tie.Need-returns Inv-loop μ-loop
-returns c = search (counts)
+returns c = c .before .loop .inv .1 .1 (omega arith)
 
 pub bars-spec : {M : Type 1} → statement M
 bars-spec =
@@ -50,13 +43,11 @@ bars-spec =
     (tie.spec
     Inv-loop
     μ-loop
+    find-byte-requires
     loop-holds
-    shared-slice-read-if1
     add-n
-    add-i
+    add-find-byte
+    find-byte-requires-2
     loop-less
     loop-again
-    add-i-2
-    loop-less-2
-    loop-again-2
     returns)

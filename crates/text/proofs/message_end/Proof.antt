@@ -4,17 +4,14 @@ use Rattle.text.proofs.Turns.{ends}
 use Rattle.text.proofs.message_end.Statement.{statement}
 use Rattle.text.proofs.message_end.Tie as tie
 
-slice-aggregate-find : tie.Need-slice-aggregate-find
-slice-aggregate-find c = search needs
-
-find-requires : tie.Need-find-requires
-find-requires c κs = search needs
+find-mark-requires : tie.Need-find-mark-requires
+find-mark-requires c κs = search needs
 
 returns : tie.Need-returns
-returns c = search (ends)
+returns c = search ends
 
 returns-2 : tie.Need-returns-2
-returns-2 c = search (ends)
+returns-2 c = search ends
 
 pub message-end-spec : {M : Type 1} → statement M
-message-end-spec = tie.close (tie.spec slice-aggregate-find find-requires returns returns-2)
+message-end-spec = tie.close (tie.spec find-mark-requires returns returns-2)

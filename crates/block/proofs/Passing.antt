@@ -1,0 +1,71 @@
+-- What is sought, counted or tested from a place on is the same from a later one, if nothing of it stands between. Assumes nothing.
+use mathlib.Core.Path.{_≡_, refl, sym, ap, _∙_}
+use mathlib.Core.Bool.{Bool, true, false}
+use mathlib.Core.List.{List, [], _∷_}
+use Prim.Native.Nat.{ℕ, zero, suc, _+_, _-_, _≤_, _<_}
+use native.Mathlib.Nat.{add-zero}
+use native.Mathlib.Numerals.{add-one}
+use native.Mathlib.Omega.{arith}
+use lib.Dec.{eqb}
+use lib.ListN.{length, take, drop, length-drop}
+use lib.Seq.{drop-drop}
+use borrow.Author.Tests.{not-true}
+use Rattle.base.specs.Pick.{pick}
+use Rattle.base.specs.Seek.{all, starts, seek}
+use Rattle.base.proofs.Seek.{all-head, all-tail}
+use Rattle.paper.specs.Texts.{others}
+use Rattle.block.specs.Blocks.{isOther, Skips}
+
+-- ---- over the first k bytes of a text
+
+all-behind : (p : ℕ → Bool) (k : ℕ) (s : List ℕ) → all p (take k s) ≡ true → all p s ≡ all p (drop k s)
+unfolding all pick
+all-behind p zero s h = refl
+all-behind p (suc k) [] h = refl
+all-behind p (suc k) (x ∷ s) h = simp (all-head p x (take k s) h) (all-behind p k s (all-tail p x (take k s) h))
+
+seek-behind : (b k : ℕ) (s : List ℕ) → k ≤ length s → all (isOther b) (take k s) ≡ true → seek (b ∷ []) s ≡ k + seek (b ∷ []) (drop k s)
+unfolding seek starts pick
+seek-behind b zero s l h = omega arith
+seek-behind b (suc k) [] l h = absurd (omega arith)
+seek-behind b (suc k) (x ∷ s) l h =
+    let n : eqb x b ≡ false = not-true (eqb x b) (all-head (isOther b) x (take k s) h) in
+    let r = seek-behind b k s (omega arith) (all-tail (isOther b) x (take k s) h) in
+    simp n (omega arith)
+
+others-behind : (at k : ℕ) (s : List ℕ) → all (isOther 124) (take k s) ≡ true → length (others at s) ≡ length (others (at + k) (drop k s))
+unfolding others pick
+others-behind at zero s h = rw add-zero
+others-behind at (suc k) [] h = refl
+others-behind at (suc k) (x ∷ s) h =
+    let n : eqb x 124 ≡ false = not-true (eqb x 124) (all-head (isOther 124) x (take k s) h) in
+    let z : at + suc k ≡ at + 1 + k = omega arith in
+    rw (z, n) (others-behind (at + 1) k s (all-tail (isOther 124) x (take k s) h))
+
+-- ---- from a place of a text on
+
+module _ (s : List ℕ) (at r : ℕ) where
+  drops : at ≤ r → drop (r - at) (drop at s) ≡ drop r s
+  drops h = let j : at + (r - at) ≡ r = omega arith in drop-drop (r - at) at s ∙ ap (λ (k : ℕ). drop k s) j
+
+  -- tested
+  pub all-skipped : (p : ℕ → Bool) → Skips p s at r → all p (drop at s) ≡ all p (drop r s)
+  all-skipped p k = all-behind p (r - at) (drop at s) (k .between) ∙ ap (all p) (drops (k .from))
+
+  -- sought
+  pub seek-skipped : (b : ℕ) → Skips (isOther b) s at r → at + seek (b ∷ []) (drop at s) ≡ r + seek (b ∷ []) (drop r s)
+  seek-skipped b k =
+      let f = k .from in
+      let l = k .inside in
+      let e = seek-behind b (r - at) (drop at s) (omega (arith, length-drop at s)) (k .between) in
+      let g = ap (seek (b ∷ [])) (drops (k .from)) in
+      omega arith
+
+  -- counted
+  pub others-skipped : Skips (isOther 124) s at r → length (others at (drop at s)) ≡ length (others r (drop r s))
+  others-skipped k =
+      let f = k .from in
+      let j : at + (r - at) ≡ r = omega arith in
+      others-behind at (r - at) (drop at s) (k .between) ∙ rw (drops (k .from), j)
+
+pub ruleset skippeds = (all-skipped, seek-skipped, others-skipped)
