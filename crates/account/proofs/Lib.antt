@@ -7,3 +7,4 @@ pub mod Proper
 pub mod Plain
 pub mod Sound
 pub mod Back
+pub mod Doubled

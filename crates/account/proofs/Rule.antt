@@ -1,69 +1,19 @@
--- One digit more of the weighted sum, and what a sum that divides by 11 says of the digits. Assumes nothing.
-use mathlib.Core.Path.{_≡_, refl, sym, _∙_}
+-- The rule of an account's digits by its weights, and by weights that double: what a sum that divides by 11 says of the digits. Assumes
+-- nothing.
+use mathlib.Core.Path.{_≡_, refl, sym, ap, _∙_}
 use mathlib.Core.List.{List, [], _∷_}
 use mathlib.Core.Bool.{Bool, true, false, not, _&&_}
 use Prim.Native.Nat.{ℕ, zero, suc, _+_, _*_, _/_, _%_, _≤_, _<_}
-use native.Mathlib.Nat.{mul-zero, mul-le-mul}
-use native.Mathlib.Numerals.{add-one}
+use native.Mathlib.Nat.{mul-zero}
 use native.Mathlib.Omega.{arith}
-use mir.Val.{Fits}
-use mir.Syntax.{w64}
-use lib.Dec.{T, eqb, ltb, leb}
-use lib.ListN.{length, getD, drop, drop-of-length-le}
-use lib.Seq.{drop-cons}
-use borrow.Author.Tests.{eq-eqb, ne-eqb, eqb-false, leb-true, not-true, le-leb, lt-ltb}
+use lib.Dec.{eqb, ltb, leb}
+use lib.ListN.{length}
+use borrow.Author.Tests.{eq-eqb, ne-eqb, eqb-false, not-true, le-leb, lt-ltb}
 use Rattle.base.specs.Pick.{pick}
-use Rattle.base.proofs.Cases.{by-test, by-eq, both, pick-false}
+use Rattle.base.proofs.Cases.{by-eq, both, pick-true, pick-false}
 use Rattle.paper.specs.Accounts.{weights, weighted, nonZero, accountOk}
-
-abbrev pub allLe : ℕ → List ℕ → Bool
-allLe b [] = true
-allLe b (x ∷ s) = leb x b && allLe b s
-
-getD-le : (b : ℕ) (s : List ℕ) → T (allLe b s) → (i : ℕ) → getD s i 0 ≤ b
-getD-le b [] t i = omega arith
-getD-le b (x ∷ s) t zero = by-test (leb x b) (λ e. leb-true x b e) (λ e. absurd (rw e at t))
-getD-le b (x ∷ s) t (suc i) = by-test (leb x b) (λ e. getD-le b s (rw e at t) i) (λ e. absurd (rw e at t))
-
--- an entry of a table of weights times a digit, and the sum of so many
-module _ (ws : List ℕ) (t : T (allLe 10 ws)) (i m : ℕ) where
-  pub product : getD ws i 0 * (m % 10) ≤ 90
-  product = let d : m % 10 ≤ 9 = omega arith in mul-le-mul (getD-le 10 ws t i) d
-
-  pub fits-product : Fits w64 (getD ws i 0 * (m % 10))
-  fits-product = omega (arith, product)
-
-  pub fits-sum : (sum : ℕ) → sum ≤ 90 * i → i ≤ 10 → Fits w64 (sum + getD ws i 0 * (m % 10))
-  fits-sum sum h k = omega (arith, product)
-
-  pub sum-bound : (sum : ℕ) → sum ≤ 90 * i → sum + getD ws i 0 * (m % 10) ≤ 90 * (i + 1)
-  sum-bound sum h = omega (arith, product)
-
--- no digits are left
-none-left : (ws : List ℕ) → weighted ws 0 ≡ 0
-unfolding weighted
-none-left [] = refl
-none-left (w ∷ ws) = omega (arith, mul-zero w, none-left ws)
-
--- the loop of `weighted_sum`: the first i digits of n from the right make `sum`, and m is what is left of n
-module _ (n m sum i : ℕ) (inv : weighted weights n ≡ sum + weighted (drop i weights) m) where
-  pub sum-next : i < 10 → weighted weights n ≡ sum + getD weights i 0 * (m % 10) + weighted (drop (i + 1) weights) (m / 10)
-  unfolding weighted
-  sum-next h =
-      let e : weighted (drop i weights) m ≡ getD weights i 0 * (m % 10) + weighted (drop (i + 1) weights) (m / 10) = rw (add-one, drop-cons weights i 0 h) in
-      omega arith
-
-  pub sum-full : 10 ≤ i → sum ≡ weighted weights n
-  unfolding weighted
-  sum-full h = let e : weighted (drop i weights) m ≡ 0 = rw (drop-of-length-le weights h) in omega arith
-
-  pub sum-done : m ≤ 0 → sum ≡ weighted weights n
-  sum-done h =
-      let z : m ≡ 0 = omega arith in
-      let e : weighted (drop i weights) m ≡ 0 = rw z (none-left (drop i weights)) in
-      omega arith
-
-pub ruleset sums = (fits-product, fits-sum, sum-bound, sum-next, sum-full, sum-done)
+use Rattle.account.specs.Doubled.{doubled, sumsOk}
+use Rattle.account.proofs.Doubled.{doubled-enough}
 
 -- no digit from 1 to k times the weight w divides by 11
 abbrev prime : ℕ → ℕ → Bool
@@ -110,27 +60,57 @@ lone (w ∷ ws) p n h g =
     (λ e. prime-at w 9 (n % 10) (both (prime w 9) (primes ws) p .0) e (omega arith) (let z : weighted ws (n / 10) ≡ 0 = none ws (n / 10) (omega (arith, simp (ne-eqb (n % 10) 0 e) at h)) in omega arith))
 
 -- so a sum that divides by 11 and is not 0 has two digits or more that are not 0
-pub counted : (b : ℕ) → weighted weights b % 11 ≡ 0 → ltb 0 (weighted weights b) ≡ leb 2 (nonZero 10 b)
-counted b h =
-    by-eq (nonZero 10 b) 0
-    (λ e. rw (none weights b e, e))
-    (λ n. by-eq (nonZero 10 b) 1
-    (λ e. absurd (lone weights refl b e h))
-    (λ m. lt-ltb 0 (weighted weights b) (by-eq (weighted weights b) 0 (λ z. absurd (n (zeroes weights refl b z))) (λ z. omega arith)) ∙ sym (le-leb 2 (nonZero 10 b) (omega arith))))
+counted : (ws : List ℕ) → primes ws ≡ true → (b : ℕ) → weighted ws b % 11 ≡ 0 → ltb 0 (weighted ws b) ≡ leb 2 (nonZero (length ws) b)
+counted ws p b h =
+    by-eq (nonZero (length ws) b) 0
+    (λ e. rw (none ws b e, e))
+    (λ n. by-eq (nonZero (length ws) b) 1
+    (λ e. absurd (lone ws p b e h))
+    (λ m. lt-ltb 0 (weighted ws b) (by-eq (weighted ws b) 0 (λ z. absurd (n (zeroes ws p b z))) (λ z. omega arith)) ∙ sym (le-leb 2 (nonZero (length ws) b) (omega arith))))
 
--- the three answers of `account_ok`
-module _ (p b r : ℕ) (e : r ≡ weighted weights p) where
-  pub bad-prefix : (r % 11 ≡ 0 → ⊥) → false ≡ accountOk p b
-  unfolding accountOk
-  bad-prefix n = rw (← e) (sym (pick-false _ _ (ne-eqb _ _ n)))
+-- ---- the powers of 2
 
-  module _ (g : r % 11 ≡ 0) (q : ℕ) (f : q ≡ weighted weights b) where
-    pub bad-base : (q % 11 ≡ 0 → ⊥) → false ≡ accountOk p b
-    unfolding accountOk pick
-    bad-base n = rw (← e, ← f) (simp (eq-eqb _ _ g, ne-eqb _ _ n))
+abbrev powers : List ℕ
+powers = 1 ∷ 2 ∷ 4 ∷ 8 ∷ 16 ∷ 32 ∷ 64 ∷ 128 ∷ 256 ∷ 512 ∷ []
 
-    pub good-sums : q % 11 ≡ 0 → ltb 0 q ≡ accountOk p b
-    unfolding accountOk pick
-    good-sums n = rw (← e, ← counted b (rw f at n), ← f) (simp (eq-eqb _ _ g, eq-eqb _ _ n))
+module _ (a b c d e f g h i j : ℕ) where
+  -- ten digits doubled on, and each times its power
+  expand : a + 2 * (b + 2 * (c + 2 * (d + 2 * (e + 2 * (f + 2 * (g + 2 * (h + 2 * (i + 2 * (j + 2 * 0))))))))) ≡ 1 * a + (2 * b + (4 * c + (8 * d + (16 * e + (32 * f + (64 * g + (128 * h + (256 * i + (512 * j + 0)))))))))
+  expand = omega arith
 
-pub ruleset oks = (bad-prefix, bad-base, good-sums)
+  -- each weight is its power without elevens
+  elevens : (1 * a + (2 * b + (4 * c + (8 * d + (16 * e + (32 * f + (64 * g + (128 * h + (256 * i + (512 * j + 0)))))))))) % 11 ≡ (1 * a + (2 * b + (4 * c + (8 * d + (5 * e + (10 * f + (9 * g + (7 * h + (3 * i + (6 * j + 0)))))))))) % 11
+  elevens =
+      let z : 1 * a + (2 * b + (4 * c + (8 * d + (16 * e + (32 * f + (64 * g + (128 * h + (256 * i + (512 * j + 0))))))))) ≡ 1 * a + (2 * b + (4 * c + (8 * d + (5 * e + (10 * f + (9 * g + (7 * h + (3 * i + (6 * j + 0))))))))) + 11 * (e + 2 * f + 5 * g + 11 * h + 23 * i + 46 * j) = omega arith in
+      rw z (over (1 * a + (2 * b + (4 * c + (8 * d + (5 * e + (10 * f + (9 * g + (7 * h + (3 * i + (6 * j + 0)))))))))) (e + 2 * f + 5 * g + 11 * h + 23 * i + 46 * j))
+    where
+      over : (x y : ℕ) → (x + 11 * y) % 11 ≡ x % 11
+      over x y = omega arith
+
+doubled-is : (n : ℕ) → doubled 10 n ≡ weighted powers n
+unfolding doubled weighted
+doubled-is n = expand (n % 10) (n / 10 % 10) (n / 10 / 10 % 10) (n / 10 / 10 / 10 % 10) (n / 10 / 10 / 10 / 10 % 10) (n / 10 / 10 / 10 / 10 / 10 % 10) (n / 10 / 10 / 10 / 10 / 10 / 10 % 10) (n / 10 / 10 / 10 / 10 / 10 / 10 / 10 % 10) (n / 10 / 10 / 10 / 10 / 10 / 10 / 10 / 10 % 10) (n / 10 / 10 / 10 / 10 / 10 / 10 / 10 / 10 / 10 % 10)
+
+powers-rest : (n : ℕ) → weighted powers n % 11 ≡ weighted weights n % 11
+unfolding weighted
+powers-rest n = elevens (n % 10) (n / 10 % 10) (n / 10 / 10 % 10) (n / 10 / 10 / 10 % 10) (n / 10 / 10 / 10 / 10 % 10) (n / 10 / 10 / 10 / 10 / 10 % 10) (n / 10 / 10 / 10 / 10 / 10 / 10 % 10) (n / 10 / 10 / 10 / 10 / 10 / 10 / 10 % 10) (n / 10 / 10 / 10 / 10 / 10 / 10 / 10 / 10 % 10) (n / 10 / 10 / 10 / 10 / 10 / 10 / 10 / 10 / 10 % 10)
+
+rest : (n : ℕ) → doubled 10 n % 11 ≡ weighted weights n % 11
+rest n = ap (λ x. x % 11) (doubled-is n) ∙ powers-rest n
+
+-- the rule by these sums
+pub sums-are : (p b : ℕ) → sumsOk (doubled 10 p) (doubled 10 b) ≡ accountOk p b
+unfolding sumsOk accountOk
+sums-are p b =
+    rw (rest p, rest b)
+    (ap (λ x. pick (eqb (weighted weights p % 11) 0) x false)
+    (by-eq (weighted weights b % 11) 0
+    (λ e. pick-true _ _ (eq-eqb _ _ e) ∙ rw (doubled-is b) (counted powers refl b (powers-rest b ∙ e)) ∙ sym (pick-true _ _ (eq-eqb _ _ e)))
+    (λ n. pick-false _ _ (ne-eqb _ _ n) ∙ sym (pick-false _ _ (ne-eqb _ _ n)))))
+
+pub sums-rule : (p b x y : ℕ) (r : Bool) → x ≡ doubled 10 p → y ≡ doubled 10 b → r ≡ sumsOk x y → r ≡ accountOk p b
+sums-rule p b x y r e f g = g ∙ rw (e, f) (sums-are p b)
+
+-- of numbers with no more than ten digits, whose sums are those of all their digits
+pub sums-of : (p b : ℕ) → p < 10000000000 → b < 10000000000 → sumsOk (doubled 19 p) (doubled 19 b) ≡ accountOk p b
+sums-of p b h k = rw (doubled-enough 10 19 p h (omega arith), doubled-enough 10 19 b k (omega arith)) (sums-are p b)

@@ -8,8 +8,9 @@ ghost use Rattle.base.specs.Pick.{pick};
 ghost use Rattle.base.specs.Put.{Wrote};
 ghost use Rattle.base.specs.Seek.{all};
 ghost use Rattle.paper.specs.Bytes.{null};
-ghost use Rattle.paper.specs.Accounts.{account, weights, weighted, accountOk, ruled, twoParts, readAccount, accountProper, isNobody, spellAccount, zeros, onlyZeros, readPayer};
+ghost use Rattle.paper.specs.Accounts.{account, accountOk, ruled, twoParts, readAccount, accountProper, isNobody, spellAccount, zeros, onlyZeros, readPayer};
 ghost use Rattle.account.specs.Bytes.{isZero};
+ghost use Rattle.account.specs.Doubled.{doubled, sumsOk};
 ghost use Rattle.account.specs.Told.{told, withBase};
 
 // What a field says: an account's prefix and base, or the refusal's number. Nobody is prefix 0 and base 0.
@@ -18,39 +19,48 @@ pub enum Acct {
     Refused(u64),
 }
 
-const WEIGHTS: [u64; 10] = [1, 2, 4, 8, 5, 10, 9, 7, 3, 6];
-
-// The weighted sum of the last ten digits of n. Most prefixes are 0, so it ends with the digits that are left.
+// The last ten digits of n, each weighted twice as much as the digit on its right. Most prefixes are 0, so it ends with the digits that
+// are left.
 fn weighted_sum(n: u64) -> u64
-    ensures { λ r. ⌜ r ≡ weighted weights n ⌝ }
+    ensures { λ r. ⌜ r ≡ doubled 10 n ⌝ }
 {
     let mut m = n;
     let mut sum: u64 = 0;
+    let mut weight: u64 = 1;
     let mut i: usize = 0;
     while 0 < m {
         if 10 <= i {
             return sum;
         }
-        sum += WEIGHTS[i] * (m % 10);
+        sum += weight * (m % 10);
+        weight = weight * 2;
         m = m / 10;
         i += 1;
     }
     sum
 }
 
-// Do prefix and base keep the rule? One digit times its weight never divides by 11, so a base whose sum does, and is not 0, has two
-// digits or more that are not zero: they need not be counted.
+// Do the sums of a prefix and a base keep the rule? One digit times its weight never divides by 11, so a base whose sum does, and is not
+// 0, has two digits or more that are not zero: they need not be counted.
+pub fn sums_ok(p: u64, b: u64) -> bool
+    ensures { λ r. ⌜ r ≡ sumsOk p b ⌝ }
+{
+    if p % 11 != 0 {
+        return false;
+    }
+    if b % 11 != 0 {
+        return false;
+    }
+    0 < b
+}
+
+// Do prefix and base keep the rule?
 pub fn account_ok(prefix: u64, base: u64) -> bool
     ensures { λ r. ⌜ r ≡ accountOk prefix base ⌝ }
 {
-    if weighted_sum(prefix) % 11 != 0 {
-        return false;
-    }
-    let sum = weighted_sum(base);
-    if sum % 11 != 0 {
-        return false;
-    }
-    0 < sum
+    let p = weighted_sum(prefix);
+    let b = weighted_sum(base);
+    sums_ok(p, b)
 }
 
 // Is it an account that a batch may hold?

@@ -18,7 +18,7 @@ pub struct Run {
 }
 
 // Where a run of at most `most` bytes from `at` on stops in a line of n bytes.
-fn stop_of(n: usize, at: usize, most: usize) -> usize
+pub fn stop_of(n: usize, at: usize, most: usize) -> usize
     requires { ⌜ at ≤ n ⌝ }
     ensures { λ r. ⌜ r ≡ pick (ltb (n - at) most) n (at + most) ⌝ }
 {

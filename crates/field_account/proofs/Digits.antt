@@ -26,7 +26,7 @@ use Rattle.field.proofs.Front.{seek-over}
 use Rattle.field_account.specs.Parts.{undashed, withBase}
 
 -- a number of so many digits, where other counts are allowed
-recount : (a b c d : ℕ) (s : List ℕ) (v : ℕ) → digits a b s ≡ value v → c ≤ length s → length s ≤ d → digits c d s ≡ value v
+pub recount : (a b c d : ℕ) (s : List ℕ) (v : ℕ) → digits a b s ≡ value v → c ≤ length s → length s ≤ d → digits c d s ≡ value v
 recount a b c d s v g lo hi = in-range c d s lo hi ∙ read-on a b s v g
 
 -- all but the last ten digits, and these

@@ -21,7 +21,7 @@ use Rattle.account.specs.declared.Acct.the-variants.{Account, Refused}
 use Rattle.account.specs.Told as account
 use Rattle.field.specs.At.{At, found, missed, ending, fieldAt}
 use Rattle.field.specs.Digits.{run}
-use Rattle.field.proofs.Number.{run-from, run-inside, run-ends, run-field, run-open}
+use Rattle.field.proofs.Number.{run-from, run-inside, run-ends, run-field, run-open, number-value, number-short, number-long}
 use Rattle.field.proofs.Behind.{behind-field, behind-end}
 use Rattle.field.proofs.Onward.{onward, given-at}
 use Rattle.field.proofs.Whole.{whole-found, whole-missed}
@@ -32,6 +32,20 @@ use Rattle.field_account.proofs.Digits.{undashed-is, dashed-is}
 pub base-field : (r : At paper.Account) (least p : ℕ) (s : List ℕ) (at : ℕ) → r ≡ onward (fieldAt (digits least 10) s at) (λ b. ruled p b) → r ≡ fieldAt (withBase least p) s at
 unfolding fieldAt withBase
 base-field r least p s at q = q ∙ given-at (λ b. ruled p b) (digits least 10) s at
+
+-- a base's digits end at e, and t is whether the field ends there
+module _ (least p : ℕ) (s : List ℕ) (at e v : ℕ) (h : e ≡ at + length (run 10 (drop at s))) (t : Bool) (k : t ≡ null (fieldOf (drop e s))) where
+  pub base-value : (r : At paper.Account) → t ≡ true → digits 0 10 (run 10 (drop at s)) ≡ value v → least ≤ e - at → r ≡ ending e (ruled p v) → r ≡ fieldAt (withBase least p) s at
+  unfolding onward
+  base-value r y g l q = base-field r least p s at (q ∙ ap (λ x. onward x (λ b. ruled p b)) (number-value s at least 10 e v h t k y g l))
+
+  pub base-short : t ≡ true → e - at < least → missed 4 ≡ fieldAt (withBase least p) s at
+  unfolding onward
+  base-short y l = base-field (missed 4) least p s at (ap (λ x. onward x (λ b. ruled p b)) (number-short s at least 10 e v h t k y l))
+
+  pub base-long : t ≡ false → missed 4 ≡ fieldAt (withBase least p) s at
+  unfolding onward
+  base-long y = base-field (missed 4) least p s at (ap (λ x. onward x (λ b. ruled p b)) (number-long s at least 10 e v h t k y))
 
 -- the reader of the whole field answered a
 module _ (read : List ℕ → Field paper.Account) (s : List ℕ) (at e : ℕ) (h : e ≡ at + seek space (drop at s)) (a : Acct) (g : account.told a ≡ read (take (e - at) (drop at s))) where
@@ -47,7 +61,7 @@ module _ (s : List ℕ) (at e : ℕ) (h : dashed s at e ≡ true) where
   unfolding dashed pick
   dashed-least = by-test (ltb (e - at) 1) (λ t. never (sym (simp t at h))) (λ t. ltb-false (e - at) 1 t)
 
-  dashed-most : e - at ≤ 6
+  pub dashed-most : e - at ≤ 6
   unfolding dashed pick
   dashed-most =
       by-test (ltb (e - at) 1) (λ t. never (sym (simp t at h)))
@@ -81,4 +95,4 @@ module _ (s : List ℕ) (at e v : ℕ) (h : e ≡ at + length (run 16 (drop at s
         let i = dashed-is (run 16 (drop at s)) (fieldOf (drop (e + 1) s)) v g (omega (arith, dashed-least s at e w)) (omega (arith, dashed-most s at e w)) joined least in
         q ∙ rw (o, f) (ap (ending (e + 1 + seek space (drop (e + 1) s))) i)
 
-pub ruleset exits = (base-field, whole-account, whole-refused, digits-account, dashed-account)
+pub ruleset exits = (base-value, base-short, base-long, whole-account, whole-refused, digits-account, dashed-account)

@@ -1,3 +1,4 @@
 pub mod Digits
 pub mod Exits
 pub mod Steps
+pub mod Doubling

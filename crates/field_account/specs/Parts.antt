@@ -1,5 +1,5 @@
 -- Accounts by their digits. Document 01, "Accounts". Assumes nothing.
-use Prim.Native.Nat.{ℕ, _-_, _/_, _%_}
+use Prim.Native.Nat.{ℕ, _-_, _/_, _%_, _≤_, _<_}
 use mathlib.Core.Bool.{Bool, true, false}
 use mathlib.Core.List.{List}
 use lib.Dec.{eqb, ltb}
@@ -23,3 +23,7 @@ withBase least prefix s = given (digits least 10 s) λ base. ruled prefix base
 -- the digits of the line s from `at` to `end` are as many as a prefix may have, and a dash follows
 unfoldable pub dashed : List ℕ → ℕ → ℕ → Bool
 dashed s at end = pick (ltb (end - at) 1) false (pick (ltb 6 (end - at)) false (eqb (getD s end 0) 45))
+
+-- v as a number of n digits: if they are ten or fewer, it is below 10 ^ 10
+pub record Short (n v : ℕ) : Type 0 where
+  pub small : n ≤ 10 → v < 10000000000

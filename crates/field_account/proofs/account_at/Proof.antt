@@ -1,55 +1,56 @@
 -- `account_at` meets its contract: digits alone, a prefix with its dash, or the whole field. Assumes nothing.
 use borrow.Author.Needs.{needs}
 use Rattle.field.proofs.Number.{numbers}
+use Rattle.field_account.proofs.Doubling.{smalls}
 use Rattle.field_account.proofs.Exits.{exits}
 use Rattle.field_account.proofs.account_at.Statement.{statement}
 use Rattle.field_account.proofs.account_at.Tie as tie
 use Rattle.field_account.proofs.account_at.Reads as reads
 use Rattle.field_account.proofs.account_at.Lts as lts
-use Rattle.field.proofs.digit_run.Reads as digit-run-reads
 use Rattle.field.proofs.ends.Reads as ends-reads
 use Rattle.field_account.proofs.has_prefix.Reads as has-prefix-reads
 use Rattle.field_account.proofs.plain.Reads as plain-reads
+use Rattle.field_account.proofs.sum_run.Reads as sum-run-reads
 use Rattle.field_account.proofs.whole_account.Reads as whole-account-reads
 use Rattle.field_account.proofs.with_base.Reads as with-base-reads
 
--- src/lib.rt:88:9
-digit-run-requires : tie.Need-digit-run-requires
-digit-run-requires c κs = search needs
+-- src/lib.rt:152:9
+sum-run-requires : tie.Need-sum-run-requires
+sum-run-requires c κs = search needs
 
--- src/lib.rt:90:8
+-- src/lib.rt:154:8
 ends-requires : tie.Need-ends-requires
-ends-requires c κs = search (numbers, needs)
+ends-requires c κs = search (numbers, smalls, needs)
 
--- src/lib.rt:91:33
+-- src/lib.rt:155:42
 sub-plain : tie.Need-sub-plain
 sub-plain c = search needs
 
--- src/lib.rt:91:9
+-- src/lib.rt:155:9
 plain-requires : tie.Need-plain-requires
-plain-requires c κs = search needs
+plain-requires c κs = search (numbers, smalls, needs)
 
--- src/lib.rt:91:9
+-- src/lib.rt:155:9
 returns : tie.Need-returns
 returns c = search exits
 
--- src/lib.rt:93:8
+-- src/lib.rt:157:8
 has-prefix-requires : tie.Need-has-prefix-requires
-has-prefix-requires c κs = search (numbers, needs)
+has-prefix-requires c κs = search (numbers, smalls, needs)
 
--- src/lib.rt:94:9
+-- src/lib.rt:158:9
 with-base-requires : tie.Need-with-base-requires
-with-base-requires c κs = search (numbers, needs)
+with-base-requires c κs = search (numbers, smalls, needs)
 
--- src/lib.rt:94:9
+-- src/lib.rt:158:9
 returns-2 : tie.Need-returns-2
 returns-2 c = search exits
 
--- src/lib.rt:96:5
+-- src/lib.rt:160:5
 whole-account-requires : tie.Need-whole-account-requires
 whole-account-requires c κs = search needs
 
--- src/lib.rt:84:1
+-- src/lib.rt:148:1
 returns-3 : tie.Need-returns-3
 returns-3 c = search needs
 
@@ -57,7 +58,7 @@ pub account-at-spec : {M : Type 1} → statement M
 account-at-spec =
     tie.close
     (tie.spec
-    digit-run-requires
+    sum-run-requires
     ends-requires
     sub-plain
     plain-requires

@@ -2,40 +2,42 @@
 use borrow.Author.Needs.{needs}
 use Rattle.field.proofs.Onward.{onwards}
 use Rattle.field_account.specs.Parts.{undashed}
+use Rattle.field_account.proofs.Doubling.{smalls}
 use Rattle.field_account.proofs.plain.Statement.{statement}
 use Rattle.field_account.proofs.plain.Tie as tie
 use Rattle.field_account.proofs.plain.Reads as reads
 use Rattle.field_account.proofs.plain.Lts as lts
 use Rattle.field_account.proofs.by_rule.Reads as by-rule-reads
+use Rattle.field_account.proofs.by_sums.Reads as by-sums-reads
 
--- src/lib.rt:34:13
+-- src/lib.rt:93:13
 by-rule-requires : tie.Need-by-rule-requires
 by-rule-requires c κs = search needs
 
--- src/lib.rt:34:13
+-- src/lib.rt:93:13
 returns : tie.Need-returns
 unfolding undashed
 returns c = search onwards
 
--- src/lib.rt:36:9
+-- src/lib.rt:95:9
 returns-2 : tie.Need-returns-2
 unfolding undashed
 returns-2 c = search onwards
 
--- src/lib.rt:39:9
+-- src/lib.rt:98:9
 returns-3 : tie.Need-returns-3
 unfolding undashed
 returns-3 c = search onwards
 
--- src/lib.rt:41:5
-by-rule-requires-2 : tie.Need-by-rule-requires-2
-by-rule-requires-2 c κs = search needs
+-- src/lib.rt:100:5
+by-sums-requires : tie.Need-by-sums-requires
+by-sums-requires c κs = search (smalls, needs)
 
--- src/lib.rt:29:1
+-- src/lib.rt:87:1
 returns-4 : tie.Need-returns-4
 unfolding undashed
 returns-4 c = search onwards
 
 pub plain-spec : {M : Type 1} → statement M
 plain-spec =
-    tie.close (tie.spec by-rule-requires returns returns-2 returns-3 by-rule-requires-2 returns-4)
+    tie.close (tie.spec by-rule-requires returns returns-2 returns-3 by-sums-requires returns-4)

@@ -1,50 +1,57 @@
 -- `with_base` meets its contract: a base behind its prefix. Assumes nothing.
 use borrow.Author.Needs.{needs}
-use Rattle.field.proofs.Onward.{onwards}
+use Rattle.field.proofs.Number.{numbers}
+use Rattle.field_account.proofs.Doubling.{smalls}
 use Rattle.field_account.proofs.Exits.{exits}
 use Rattle.field_account.proofs.with_base.Statement.{statement}
 use Rattle.field_account.proofs.with_base.Tie as tie
 use Rattle.field_account.proofs.with_base.Reads as reads
 use Rattle.field_account.proofs.with_base.Lts as lts
-use Rattle.field.proofs.number_at.Reads as number-at-reads
-use Rattle.field_account.proofs.by_rule.Reads as by-rule-reads
+use Rattle.field.proofs.ends.Reads as ends-reads
+use Rattle.field_account.proofs.by_sums.Reads as by-sums-reads
+use Rattle.field_account.proofs.sum_run.Reads as sum-run-reads
 
--- src/lib.rt:49:16
+-- src/lib.rt:108:16
 add-from : tie.Need-add-from
 add-from c = search needs
 
--- src/lib.rt:50:11
-number-at-requires : tie.Need-number-at-requires
-number-at-requires c κs = search needs
+-- src/lib.rt:109:9
+sum-run-requires : tie.Need-sum-run-requires
+sum-run-requires c κs = search needs
 
--- src/lib.rt:51:22
-enum-known-base : tie.Need-enum-known-base
-enum-known-base c = search needs
+-- src/lib.rt:111:8
+ends-requires : tie.Need-ends-requires
+ends-requires c κs = search (numbers, smalls, needs)
 
--- src/lib.rt:51:36
-by-rule-requires : tie.Need-by-rule-requires
-by-rule-requires c κs = search needs
+-- src/lib.rt:112:12
+sub-if2 : tie.Need-sub-if2
+sub-if2 c = search needs
 
--- src/lib.rt:52:24
-enum-known-n : tie.Need-enum-known-n
-enum-known-n c = search needs
-
--- src/lib.rt:45:1
+-- src/lib.rt:113:13
 returns : tie.Need-returns
-returns c = search (exits, onwards)
+returns c = search exits
 
--- src/lib.rt:45:1
+-- src/lib.rt:115:9
+by-sums-requires : tie.Need-by-sums-requires
+by-sums-requires c κs = search (numbers, smalls, needs)
+
+-- src/lib.rt:115:9
 returns-2 : tie.Need-returns-2
-returns-2 c = search (exits, onwards)
+returns-2 c = search exits
+
+-- src/lib.rt:104:1
+returns-3 : tie.Need-returns-3
+returns-3 c = search exits
 
 pub with-base-spec : {M : Type 1} → statement M
 with-base-spec =
     tie.close
     (tie.spec
     add-from
-    number-at-requires
-    enum-known-base
-    by-rule-requires
-    enum-known-n
+    sum-run-requires
+    ends-requires
+    sub-if2
     returns
-    returns-2)
+    by-sums-requires
+    returns-2
+    returns-3)

@@ -1,0 +1,101 @@
+-- `sum_run` meets its contract. The loop's invariant: what is left of the run, read on from the number so far, says what the whole run
+-- says, and the sum is that of the number so far. Assumes nothing.
+use mathlib.Core.Path.{_≡_}
+use Prim.Native.Nat.{_-_}
+use borrow.Author.Needs.{needs}
+use Rattle.account.specs.Doubled.{doubled}
+use Rattle.field.proofs.Turns.{Reads, turns}
+use Rattle.field_account.proofs.Doubling.{sums}
+use Rattle.field_account.proofs.sum_run.Statement.{statement}
+use Rattle.field_account.proofs.sum_run.Tie as tie
+use Rattle.field_account.proofs.sum_run.Reads as reads
+use Rattle.field_account.proofs.sum_run.Lts as lts
+use Rattle.field.proofs.stop_of.Reads as stop-of-reads
+
+abbrev Inv-loop : tie.InvT-loop
+Inv-loop s at most stop v₀ sum₀ i₀ v sum i = Reads s at most stop v i × (sum ≡ doubled 19 v)
+
+abbrev μ-loop : tie.MeasureT-loop
+μ-loop s at most stop v₀ sum₀ i₀ v sum i = stop - i
+
+-- src/lib.rt:34:9
+stop-of-requires : tie.Need-stop-of-requires Inv-loop μ-loop
+stop-of-requires c κs = search (turns, sums, needs)
+
+-- src/lib.rt:38:5
+loop-holds : tie.Need-loop-holds Inv-loop μ-loop
+loop-holds c = search (turns, sums, needs)
+
+-- src/lib.rt:39:17
+shared-slice-read-b : tie.Need-shared-slice-read-b Inv-loop μ-loop
+shared-slice-read-b c = search (turns, sums, needs)
+
+-- src/lib.rt:41:13
+returns : tie.Need-returns Inv-loop μ-loop
+returns c = search (turns, sums)
+
+-- src/lib.rt:48:13
+returns-2 : tie.Need-returns-2 Inv-loop μ-loop
+returns-2 c = search (turns, sums)
+
+-- src/lib.rt:54:13
+mul-v : tie.Need-mul-v Inv-loop μ-loop
+mul-v c = search (turns, sums, needs)
+
+-- src/lib.rt:54:22
+cast-v : tie.Need-cast-v Inv-loop μ-loop
+cast-v c = search (turns, sums, needs)
+
+-- src/lib.rt:54:13
+add-v : tie.Need-add-v Inv-loop μ-loop
+add-v c = search (turns, sums, needs)
+
+-- src/lib.rt:55:15
+mul-sum : tie.Need-mul-sum Inv-loop μ-loop
+mul-sum c = search (turns, sums, needs)
+
+-- src/lib.rt:55:25
+cast-sum : tie.Need-cast-sum Inv-loop μ-loop
+cast-sum c = search (turns, sums, needs)
+
+-- src/lib.rt:55:15
+add-sum : tie.Need-add-sum Inv-loop μ-loop
+add-sum c = search (turns, sums, needs)
+
+-- src/lib.rt:56:9
+add-i : tie.Need-add-i Inv-loop μ-loop
+add-i c = search (turns, sums, needs)
+
+-- src/lib.rt:38:5
+loop-less : tie.Need-loop-less Inv-loop μ-loop
+loop-less c = search (turns, sums, needs)
+
+-- src/lib.rt:38:5
+loop-again : tie.Need-loop-again Inv-loop μ-loop
+loop-again c = search (turns, sums, needs)
+
+-- src/lib.rt:30:1
+returns-3 : tie.Need-returns-3 Inv-loop μ-loop
+returns-3 c = search (turns, sums)
+
+pub sum-run-spec : {M : Type 1} → statement M
+sum-run-spec =
+    tie.close
+    (tie.spec
+    Inv-loop
+    μ-loop
+    stop-of-requires
+    loop-holds
+    shared-slice-read-b
+    returns
+    returns-2
+    mul-v
+    cast-v
+    add-v
+    mul-sum
+    cast-sum
+    add-sum
+    add-i
+    loop-less
+    loop-again
+    returns-3)
