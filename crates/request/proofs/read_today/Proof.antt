@@ -1,0 +1,53 @@
+-- `read_today` wants a space, and reads the day behind it.
+use borrow.Author.Needs.{needs}
+use Rattle.request.proofs.Asking.{exits}
+use Rattle.request.proofs.read_today.Statement.{statement}
+use Rattle.request.proofs.read_today.Tie as tie
+use Rattle.request.proofs.read_today.Reads as reads
+use Rattle.request.proofs.read_today.Lts as lts
+use Rattle.calendar.proofs.read_day.Reads as read-day-reads
+
+-- src/lib.rt:26:9
+returns : tie.Need-returns
+returns c = search exits depth 8
+
+-- src/lib.rt:28:8
+shared-slice-read-if2 : tie.Need-shared-slice-read-if2
+shared-slice-read-if2 c = search needs
+
+-- src/lib.rt:29:35
+sub-read-day : tie.Need-sub-read-day
+sub-read-day c = search needs
+
+-- src/lib.rt:29:35
+part-read-day-start : tie.Need-part-read-day-start
+part-read-day-start c = search needs
+
+-- src/lib.rt:29:35
+part-read-day-end : tie.Need-part-read-day-end
+part-read-day-end c = search needs
+
+-- src/lib.rt:29:9
+read-day-requires : tie.Need-read-day-requires
+read-day-requires c κs = search needs
+
+-- src/lib.rt:29:9
+returns-2 : tie.Need-returns-2
+returns-2 c = search exits depth 8
+
+-- src/lib.rt:22:1
+returns-3 : tie.Need-returns-3
+returns-3 c = search exits depth 8
+
+pub read-today-spec : {M : Type 1} → statement M
+read-today-spec =
+    tie.close
+    (tie.spec
+    returns
+    shared-slice-read-if2
+    sub-read-day
+    part-read-day-start
+    part-read-day-end
+    read-day-requires
+    returns-2
+    returns-3)
