@@ -50,18 +50,13 @@ PY
 
 passed=0
 failed=0
-pids=()
+try() { if falls "$@"; then passed=$((passed + 1)); else failed=$((failed + 1)); fi; }
+
 # 15 would come at account file 1,000
-falls "reading" crates/paper/specs/Judge.antt 'isFull sh (atFile h fs w) k = leb 1000 (length fs)' 'isFull sh (atFile h fs w) k = leb 999 (length fs)' exact &
-pids+=($!)
+try "reading" crates/paper/specs/Judge.antt 'isFull sh (atFile h fs w) k = leb 1000 (length fs)' 'isFull sh (atFile h fs w) k = leb 999 (length fs)' exact
 # a priority would be carried on every sheet
-falls "writing" crates/paper/specs/Carried.antt 'priorityCarried (sh .priority) (x .priority)' 'priorityCarried true (x .priority)' linesound &
-pids+=($!)
+try "writing" crates/paper/specs/Carried.antt 'priorityCarried (sh .priority) (x .priority)' 'priorityCarried true (x .priority)' linesound
 # the header's interval would be spelled with its ends swapped
-falls "canonical" crates/paper/specs/FirstLine.antt '(fixed 3 (h .from) ++ (fixed 3 (h .to) ++ fixed 12 0))' '(fixed 3 (h .to) ++ (fixed 3 (h .from) ++ fixed 12 0))' lineback &
-pids+=($!)
-for p in "${pids[@]}"; do
-    if wait "$p"; then passed=$((passed + 1)); else failed=$((failed + 1)); fi
-done
+try "canonical" crates/paper/specs/FirstLine.antt '(fixed 3 (h .from) ++ (fixed 3 (h .to) ++ fixed 12 0))' '(fixed 3 (h .to) ++ (fixed 3 (h .from) ++ fixed 12 0))' lineback
 echo "$passed passed, $failed failed"
 [ "$failed" -eq 0 ]
