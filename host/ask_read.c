@@ -1,15 +1,13 @@
 #include "ask_read.h"
-#include "../peer/peer.h"
-#include "abo_calls.h"
+#include "as_abo.h"
 #include "dice.h"
 #include "lend.h"
 #include "limits.h"
 #include "show.h"
+#include "words.h"
 
 #include <stdio.h>
 #include <string.h>
-
-enum { ROW = READ_ROW };
 
 static struct fence fence;
 static struct room ours, theirs;
@@ -25,16 +23,6 @@ struct ask {
     size_t room;
     bool no_pointer;
 };
-
-static struct abo_answer of_peer(struct peer_answer p)
-{
-    struct abo_answer a = {
-        p.number, p.line, p.byte, p.rows, p.warnings, p.needed,
-        {p.header.date, p.header.client, p.header.from, p.header.to, {0}},
-    };
-    memcpy(a.header.name, p.header.name, sizeof a.header.name);
-    return a;
-}
 
 static bool same_answer(const struct abo_answer *a, const struct abo_answer *b)
 {
@@ -65,7 +53,7 @@ static void show_answer(const char *who, const struct abo_answer *a)
 static const char *fault_of(const struct ask *q, const struct abo_answer *a,
                             const struct abo_answer *p)
 {
-    size_t used = a->number == 0 ? (size_t)a->rows * ROW : 0;
+    size_t used = a->number == 0 ? (size_t)a->rows * ABO_ROW_BYTES : 0;
     if (!same_answer(a, p))
         return "the answers differ";
     if (used > q->room)
@@ -82,16 +70,15 @@ static const char *fault_of(const struct ask *q, const struct abo_answer *a,
 static void show_rows(const struct abo_answer *a)
 {
     unsigned shown = 0;
-    for (size_t i = 0; i < (size_t)a->rows * ROW && shown < 20; i += 8)
-        if (memcmp(ours.bytes + i, theirs.bytes + i, 8) != 0) {
-            shown++;
-            printf("  row %zu word %zu: abo", i / ROW + 1, i % ROW / 8);
-            for (size_t k = 8; k > 0; k--)
-                printf(" %02x", ours.bytes[i + k - 1]);
-            printf(", peer");
-            for (size_t k = 8; k > 0; k--)
-                printf(" %02x", theirs.bytes[i + k - 1]);
-            printf("\n");
+    for (size_t row = 0; row < (size_t)a->rows; row++)
+        for (size_t word = 0; word < ABO_ROW_WORDS && shown < 20; word++) {
+            uint64_t us = word_of(ours.bytes, row, word);
+            uint64_t them = word_of(theirs.bytes, row, word);
+            if (us != them) {
+                shown++;
+                printf("  row %zu word %zu: abo %llx, peer %llx\n", row + 1,
+                       word, (unsigned long long)us, (unsigned long long)them);
+            }
         }
 }
 
@@ -121,7 +108,7 @@ static struct abo_answer ask_both(const struct ask *q)
     struct abo_answer a =
         abo_read(q->file, q->len, q->sheet, q->today,
                  q->no_pointer ? NULL : ours.bytes, q->room);
-    struct abo_answer p = of_peer(
+    struct abo_answer p = answer_of_peer(
         peer_read(q->file, q->len, q->sheet, q->today,
                   q->no_pointer ? NULL : theirs.bytes, q->room));
     const char *fault = fault_of(q, &a, &p);
@@ -145,11 +132,11 @@ void compare_file(const char *what, uint64_t seed, const struct made *m)
         ask_both(&q);
         return;
     }
-    size_t exact = (size_t)first.needed * ROW;
-    size_t less[] = {exact - 1, exact - ROW, below(&d, exact)};
+    size_t exact = (size_t)first.needed * ABO_ROW_BYTES;
+    size_t less[] = {exact - 1, exact - ABO_ROW_BYTES, below(&d, exact)};
     size_t rooms[3] = {exact};
     rooms[1] = PICK(&d, less);
-    rooms[2] = exact + 1 + below(&d, 2 * ROW);
+    rooms[2] = exact + 1 + below(&d, 2 * ABO_ROW_BYTES);
     for (size_t i = 0; i < COUNT_OF(rooms); i++) {
         q.room = rooms[i];
         ask_both(&q);

@@ -3,9 +3,11 @@
 #ifndef HOST_ASK_READ_H
 #define HOST_ASK_READ_H
 
+#include <abo.h>
+
 #include "generate.h"
 
-enum { READ_ROW = 192, READ_NUMBERS = 17 };
+enum { READ_NUMBERS = ABO_NO_ROOM + 1 };
 
 /* How often each number came on each sheet; sheet 0 is no sheet. */
 extern unsigned long read_counts[5][READ_NUMBERS];

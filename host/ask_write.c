@@ -1,9 +1,9 @@
 #include "ask_write.h"
-#include "../peer/peer.h"
-#include "abo_calls.h"
+#include "as_abo.h"
 #include "dice.h"
 #include "lend.h"
 #include "show.h"
+#include "words.h"
 
 #include <stdio.h>
 #include <string.h>
@@ -34,11 +34,10 @@ static struct abo_written ask_abo(const struct ask *q)
 static struct abo_written ask_peer(const struct ask *q)
 {
     const struct draft *d = q->draft;
-    struct peer_written w = peer_write(
+    return written_of_peer(peer_write(
         q->rows, d->rows.len, q->texts, d->texts.len, d->date, q->name,
         d->name_len, d->client, d->from, d->to, d->sheet, d->today,
-        q->no_pointer ? NULL : theirs.bytes, q->room);
-    return (struct abo_written){w.number, w.row, w.field, w.bytes};
+        q->no_pointer ? NULL : theirs.bytes, q->room));
 }
 
 static bool same_answer(const struct abo_written *a,
@@ -84,22 +83,13 @@ static void show_answer(const char *who, const struct abo_written *a)
 }
 
 /* Rows count from 1. */
-static uint64_t word_of(const struct draft *d, uint64_t row, size_t word)
-{
-    const uint8_t *bytes = d->rows.data + (row - 1) * ROW_BYTES + 8 * word;
-    uint64_t value = 0;
-    for (size_t i = 8; i > 0; i--)
-        value = value << 8 | bytes[i - 1];
-    return value;
-}
-
 static void show_row(const struct draft *d, uint64_t row)
 {
-    if (row == 0 || row > d->rows.len / ROW_BYTES)
+    if (row == 0 || row > d->rows.len / ABO_ROW_BYTES)
         return;
     printf("  row %llu:", (unsigned long long)row);
-    for (size_t word = 0; word < ROW_WORDS; word++)
-        printf(" %llu", (unsigned long long)word_of(d, row, word));
+    for (size_t word = 0; word < ABO_ROW_WORDS; word++)
+        printf(" %llu", (unsigned long long)word_of(d->rows.data, (size_t)row - 1, word));
     printf("\n");
 }
 
@@ -136,10 +126,10 @@ static void count_answer(const struct draft *d, const struct abo_written *a)
     write_counts[a->number]++;
     if (a->number < 20 || a->field >= WRITE_FIELDS)
         return;
-    if (a->row > d->rows.len / ROW_BYTES) {
+    if (a->row > d->rows.len / ABO_ROW_BYTES) {
         thing = 4;
     } else if (a->row > 0) {
-        uint64_t kind = word_of(d, a->row, 0);
+        uint64_t kind = word_of(d->rows.data, (size_t)a->row - 1, 0);
         thing = kind >= 1 && kind <= 3 ? (unsigned)kind : 4;
     }
     write_fields[a->number - 20][thing][a->field]++;

@@ -5,15 +5,14 @@
  *   compare_explain [FILES [SEED]]     file i has the seed SEED + i
  */
 #include <stdio.h>
-#include <stdlib.h>
 #include <string.h>
 
-#include "../peer/peer.h"
-#include "abo_calls.h"
+#include "as_abo.h"
 #include "corners.h"
 #include "dice.h"
 #include "lend.h"
 #include "limits.h"
+#include "seeds.h"
 #include "show.h"
 
 static struct fence fence;
@@ -55,9 +54,9 @@ static struct abo_text ask_both(const char *what, uint64_t seed,
     in_hand(what, seed, m->file.data, m->file.len);
     struct abo_text a = abo_explain(file, m->file.len, m->sheet, m->today,
                                     room == 0 ? NULL : ours.bytes, room);
-    struct peer_text t = peer_explain(file, m->file.len, m->sheet, m->today,
-                                      room == 0 ? NULL : theirs.bytes, room);
-    struct abo_text p = {t.number, t.bytes};
+    struct abo_text p = text_of_peer(
+        peer_explain(file, m->file.len, m->sheet, m->today,
+                     room == 0 ? NULL : theirs.bytes, room));
     const char *fault = fault_of(a, p, file, m);
     counts[p.number == 16]++;
     if (count_check(fault == NULL)) {
@@ -86,13 +85,12 @@ static void compare_file(const char *what, uint64_t seed, const struct made *m)
 
 int main(int argc, char **argv)
 {
-    uint64_t count = argc > 1 ? strtoull(argv[1], NULL, 10) : 100000;
-    uint64_t seed = argc > 2 ? strtoull(argv[2], NULL, 10) : 1;
+    struct seeds seeds = take_seeds(argc, argv, 100000);
     struct made made = {0};
     catch_crashes();
-    for (uint64_t i = 0; i < count; i++) {
-        generate(&made, seed + i);
-        compare_file("generated file", seed + i, &made);
+    for (uint64_t i = 0; i < seeds.count; i++) {
+        generate(&made, seeds.first + i);
+        compare_file("generated file", seeds.first + i, &made);
     }
     for (unsigned sheet = K; sheet <= E; sheet++)
         for (unsigned i = 0; corner_file(&made, sheet, i); i++)

@@ -5,21 +5,23 @@
  *   compare_read [FILES [SEED]]     file i has the seed SEED + i
  */
 #include <stdio.h>
-#include <stdlib.h>
 
 #include "ask_read.h"
 #include "corners.h"
 #include "dice.h"
 #include "large.h"
 #include "limits.h"
+#include "seeds.h"
 #include "show.h"
 
-static void compare_generated(uint64_t count, uint64_t seed)
+enum { ENOUGH = 20000 };
+
+static void compare_generated(struct seeds seeds)
 {
     struct made made = {0};
-    for (uint64_t i = 0; i < count; i++) {
-        generate(&made, seed + i);
-        compare_file("generated file", seed + i, &made);
+    for (uint64_t i = 0; i < seeds.count; i++) {
+        generate(&made, seeds.first + i);
+        compare_file("generated file", seeds.first + i, &made);
     }
     text_free(&made.file);
 }
@@ -52,7 +54,7 @@ static void compare_odd_call(const struct made *made, uint64_t sheet,
                              uint64_t today)
 {
     compare_call("odd call", made->file.data, made->file.len, sheet, today,
-                 4 * READ_ROW);
+                 4 * ABO_ROW_BYTES);
 }
 
 /* Sheets and days over all 64 bits: near the real ones, and what would be a
@@ -94,7 +96,7 @@ static void compare_odd_calls(void)
     text_free(&made.file);
 }
 
-/* Every number that a sheet can give must have come. */
+/* With enough files every number that a sheet can give must have come. */
 static bool can_come(unsigned sheet, unsigned number)
 {
     if (number == 1)
@@ -104,32 +106,31 @@ static bool can_come(unsigned sheet, unsigned number)
     return number == 8 ? sheet != C : number == 9 ? sheet == K : true;
 }
 
-static void report(void)
+static void report(struct seeds seeds)
 {
+    bool tested = are_enough(seeds, ENOUGH);
     printf("number     K       S       C       E       no sheet\n");
     for (unsigned number = 0; number < READ_NUMBERS; number++) {
         printf("%6u", number);
         for (unsigned i = 1; i <= E + 1; i++)
             printf(" %7lu", read_counts[i % (E + 1)][number]);
         printf("\n");
-        for (unsigned sheet = 0; sheet <= E; sheet++)
-            if (can_come(sheet, number)) {
-                if (count_check(read_counts[sheet][number] > 0))
-                    printf("failed: number %u never came on sheet %u\n",
-                           number, sheet);
-            }
+        for (unsigned sheet = 0; sheet <= E && tested; sheet++)
+            if (can_come(sheet, number) &&
+                count_check(read_counts[sheet][number] > 0))
+                printf("failed: number %u never came on sheet %u\n", number,
+                       sheet);
     }
 }
 
 int main(int argc, char **argv)
 {
-    uint64_t count = argc > 1 ? strtoull(argv[1], NULL, 10) : 200000;
-    uint64_t seed = argc > 2 ? strtoull(argv[2], NULL, 10) : 1;
+    struct seeds seeds = take_seeds(argc, argv, 200000);
     catch_crashes();
-    compare_generated(count, seed);
+    compare_generated(seeds);
     compare_special();
     compare_pairs();
     compare_odd_calls();
-    report();
+    report(seeds);
     return last_line();
 }

@@ -1,7 +1,8 @@
 #include "corners.h"
 #include "plan.h"
 
-enum { MEBIBYTE = 1 << 20 };
+/* A line that is kept on a stack of 64 KiB does not fit there. */
+enum { LONG = 1 << 17, LONGEST = 1 << 20 };
 
 static const char *const short_files[] = {
     "", "\n", "\r", "\r\n", "\n\r", "\r\r", "\n\n", "\r\r\n", "\r\n\n", "U",
@@ -10,7 +11,7 @@ static const char *const short_files[] = {
     "UHL1\n1 1501 000000 0300", "UHL1\n1 ", "UHL1\n1 1501 000000 0300\n2 ",
 };
 
-/* A mebibyte in the place of a line, or behind its start. */
+/* A long line, or one with a short start. */
 static const struct {
     const char *before, *behind;
 } places[] = {
@@ -82,14 +83,15 @@ bool corner_file(struct made *made, unsigned sheet, unsigned place)
     }
     place -= (unsigned)COUNT_OF(short_files);
     if (place < 256) {
-        text_repeat(t, (uint8_t)place, MEBIBYTE);
+        text_repeat(t, (uint8_t)place, LONG);
         return true;
     }
     place -= 256;
     if (place >= COUNT_OF(places) * COUNT_OF(fillers))
         return false;
+    size_t filler = place % COUNT_OF(fillers);
     put_frame(t, sheet, places[place / COUNT_OF(fillers)].before);
-    text_repeat(t, fillers[place % COUNT_OF(fillers)], MEBIBYTE);
+    text_repeat(t, fillers[filler], filler == 0 ? LONGEST : LONG);
     text_words(t, places[place / COUNT_OF(fillers)].behind);
     return true;
 }

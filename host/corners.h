@@ -1,5 +1,5 @@
-/* Files that are hardly files: nothing, one byte over and over, lines of a
-   mebibyte. */
+/* Files that are hardly files: nothing, one byte over and over, lines of 128 KiB
+   and of a mebibyte. */
 #ifndef HOST_CORNERS_H
 #define HOST_CORNERS_H
 

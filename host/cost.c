@@ -8,13 +8,14 @@
  * to be told apart by names.  SHEET is 1 to 4, KIND wages, invoices, shortest or
  * longest.
  */
+#include <abo.h>
+
 #include <stdbool.h>
 #include <stdio.h>
 #include <stdlib.h>
 #include <string.h>
 
 #include "../peer/peer.h"
-#include "abo_calls.h"
 #include "cost_file.h"
 
 enum { ROW = 192, TODAY = 20180101 };

@@ -1,4 +1,5 @@
-#include "drafting.h"
+#include "draft.h"
+#include "draft_rows.h"
 #include "draws.h"
 #include "limits.h"
 
@@ -9,13 +10,13 @@ static void draw_name(struct drafting *p)
     static const uint8_t wrong[] = {0, 9, 10, 13, 31, 127};
     static const size_t lengths[] = {0, 1, 19, 21, NAME_ROOM};
     struct draft *draft = p->draft;
-    draft->name_len = 20;
+    draft->name_len = ABO_NAME_BYTES;
     for (size_t i = 0; i < NAME_ROOM; i++) {
         uint8_t byte = (uint8_t)between(&p->dice, 32, 255);
         draft->name[i] = byte == 127 ? ' ' : byte;
     }
     if (spoils(p, AT_NAME_MADE)) {
-        size_t at = below(&p->dice, 20);
+        size_t at = below(&p->dice, ABO_NAME_BYTES);
         if (one_in(&p->dice, 2))
             draft->name_len = PICK(&p->dice, lengths);
         else
@@ -46,36 +47,36 @@ static void draw_header(struct drafting *p, unsigned files)
 /* A row goes, comes twice or changes places; bytes go or come at the end. */
 static void damage_rows(struct text *rows, struct dice *d)
 {
-    uint8_t row[ROW_BYTES], byte = (uint8_t)below(d, 4);
-    size_t count = rows->len / ROW_BYTES, at = below(d, count) * ROW_BYTES;
-    size_t to = below(d, count) * ROW_BYTES;
-    memcpy(row, rows->data + at, ROW_BYTES);
+    uint8_t row[ABO_ROW_BYTES], byte = (uint8_t)below(d, 4);
+    size_t count = rows->len / ABO_ROW_BYTES, at = below(d, count) * ABO_ROW_BYTES;
+    size_t to = below(d, count) * ABO_ROW_BYTES;
+    memcpy(row, rows->data + at, ABO_ROW_BYTES);
     switch (below(d, 6)) {
     case 0:
-        text_replace(rows, at, ROW_BYTES, NULL, 0);
+        text_replace(rows, at, ABO_ROW_BYTES, NULL, 0);
         break;
     case 1:
-        text_replace(rows, to, 0, row, ROW_BYTES);
+        text_replace(rows, to, 0, row, ABO_ROW_BYTES);
         break;
     case 2:
-        memmove(rows->data + at, rows->data + to, ROW_BYTES);
-        memcpy(rows->data + to, row, ROW_BYTES);
+        memmove(rows->data + at, rows->data + to, ABO_ROW_BYTES);
+        memcpy(rows->data + to, row, ABO_ROW_BYTES);
         break;
     case 3: /* too short */
         rows->len = at;
         break;
     case 4: /* no whole row */
-        rows->len -= between(d, 1, ROW_BYTES - 1);
+        rows->len -= between(d, 1, ABO_ROW_BYTES - 1);
         break;
     default:
-        text_repeat(rows, byte, between(d, 1, 2 * ROW_BYTES));
+        text_repeat(rows, byte, between(d, 1, 2 * ABO_ROW_BYTES));
     }
 }
 
 /* Words without any sense, many of them small. */
 static void draw_garbage(struct text *rows, struct dice *d)
 {
-    size_t bytes = below(d, 8 * ROW_BYTES);
+    size_t bytes = below(d, 8 * ABO_ROW_BYTES);
     text_clear(rows);
     while (rows->len < bytes)
         text_word(rows, one_in(d, 2) ? below(d, 4) : roll_bits(d));
@@ -85,20 +86,20 @@ static void draw_garbage(struct text *rows, struct dice *d)
 static void draw_faults(struct drafting *p)
 {
     static const unsigned rates[] = {300, 100, 30};
-    p->aim = ALL_PARTS;
+    p->faults.aim = NO_PART;
     switch (below(&p->dice, 5)) {
     case 0:
         return;
     case 1:
-        p->rate = PICK(&p->dice, rates);
+        p->faults.rate = PICK(&p->dice, rates);
         return;
     case 2: /* texts have the most rules */
-        p->aim = AT_TEXT;
-        p->skip = (unsigned)below(&p->dice, 12);
+        p->faults.aim = AT_TEXT;
+        p->faults.skip = (unsigned)below(&p->dice, 12);
         return;
     default:
-        p->aim = (enum part)below(&p->dice, ALL_PARTS);
-        p->skip = one_in(&p->dice, 2) ? 0 : (unsigned)below(&p->dice, 8);
+        p->faults.aim = (enum part)below(&p->dice, ALL_PARTS);
+        p->faults.skip = one_in(&p->dice, 2) ? 0 : (unsigned)below(&p->dice, 8);
     }
 }
 

@@ -5,9 +5,11 @@
 #ifndef HOST_DRAFT_H
 #define HOST_DRAFT_H
 
+#include <abo.h>
+
 #include "text.h"
 
-enum { ROW_BYTES = 192, ROW_WORDS = 24, NAME_ROOM = 24 };
+enum { NAME_ROOM = ABO_NAME_BYTES + 4 };
 
 struct draft {
     struct text rows, texts;

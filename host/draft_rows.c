@@ -1,6 +1,5 @@
-/* One row each. */
+#include "draft_rows.h"
 #include "accounts.h"
-#include "drafting.h"
 #include "draws.h"
 #include "limits.h"
 
@@ -8,7 +7,7 @@ static void put_row(struct drafting *p, const uint64_t *words, size_t used)
 {
     struct text *rows = &p->draft->rows;
     text_word(rows, limited(p, AT_ROW, words[0], 1, 3));
-    for (size_t i = 1; i < ROW_WORDS; i++)
+    for (size_t i = 1; i < ABO_ROW_WORDS; i++)
         text_word(rows, i < used ? words[i] : p->dirty ? roll(&p->dice) : 0);
 }
 

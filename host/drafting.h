@@ -2,9 +2,9 @@
 #ifndef HOST_DRAFTING_H
 #define HOST_DRAFTING_H
 
-#include "dice.h"
 #include "draft.h"
 #include "draft_texts.h"
+#include "faults.h"
 
 /* What can be wrong. */
 enum part {
@@ -21,25 +21,14 @@ struct drafting {
     struct pool pool;
     unsigned sheet;
     size_t today;
-    unsigned rate;    /* one part in so many is wrong; 0: none */
-    enum part aim;    /* or this one, once; ALL_PARTS: none */
-    unsigned skip;
+    struct faults faults;
     bool dirty;       /* words that a row does not use hold something */
 };
 
 /* Shall the part in hand be wrong? */
 static inline bool spoils(struct drafting *p, enum part part)
 {
-    if (p->rate != 0)
-        return one_in(&p->dice, p->rate);
-    if (p->aim != part)
-        return false;
-    if (p->skip > 0) {
-        p->skip--;
-        return false;
-    }
-    p->aim = ALL_PARTS;
-    return true;
+    return falls_on(&p->faults, &p->dice, part);
 }
 
 /* A number that should lie between two, or one near these limits or far off. */
@@ -54,11 +43,5 @@ static inline uint64_t limited(struct drafting *p, enum part part,
         return value;
     return one_in(&p->dice, 4) ? roll_bits(&p->dice) : PICK(&p->dice, near);
 }
-
-/* Rows of an account file (its place counts from 0), a group and an item. */
-void put_account_file(struct drafting *p, unsigned place);
-/* Gives back whether the group is single. */
-bool put_group_row(struct drafting *p);
-void put_item_row(struct drafting *p, bool single, uint64_t amount);
 
 #endif

@@ -1,4 +1,4 @@
-/* Accounts and their absence in every form. */
+#include "field_account.h"
 #include "accounts.h"
 #include "fields.h"
 

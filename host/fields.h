@@ -10,11 +10,6 @@ void put_gap(struct plan *p);
 /* So many digits at random; spoilt by one more, one less and the like. */
 void put_digits(struct plan *p, size_t least, size_t most);
 
-void put_account(struct plan *p);
-
-/* What stands before TOTAL in a group's line if the group is single. */
-void put_no_payer(struct plan *p);
-
 void put_amount(struct plan *p, uint64_t amount);
 void put_total(struct plan *p, uint64_t sum);
 

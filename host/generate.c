@@ -1,6 +1,7 @@
 #include "generate.h"
 #include "damage.h"
 #include "draws.h"
+#include "field_account.h"
 #include "fields.h"
 #include "heads.h"
 #include "tails.h"
@@ -93,19 +94,19 @@ static void draw_faults(struct plan *p)
     static const unsigned rates[] = {400, 150, 60, 25};
     static const enum part rich[] = {AT_ACCOUNT, AT_AMOUNT, AT_BANK, AT_DATE,
                                      AT_TOTAL, AT_TAIL};
-    p->aim = ALL_PARTS;
+    p->faults.aim = NO_PART;
     switch (below(&p->dice, 5)) {
     case 0:
     case 1:
         return;
     case 2:
     case 3:
-        p->aim = one_in(&p->dice, 2) ? PICK(&p->dice, rich)
+        p->faults.aim = one_in(&p->dice, 2) ? PICK(&p->dice, rich)
                                      : (enum part)below(&p->dice, ALL_PARTS);
-        p->skip = one_in(&p->dice, 2) ? 0 : (unsigned)below(&p->dice, 7);
+        p->faults.skip = one_in(&p->dice, 2) ? 0 : (unsigned)below(&p->dice, 7);
         return;
     default:
-        p->rate = PICK(&p->dice, rates);
+        p->faults.rate = PICK(&p->dice, rates);
     }
 }
 

@@ -1,5 +1,6 @@
 #include "heads.h"
 #include "days.h"
+#include "field_account.h"
 #include "fields.h"
 
 static void put_created(struct plan *p)

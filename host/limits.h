@@ -3,12 +3,12 @@
 #ifndef HOST_LIMITS_H
 #define HOST_LIMITS_H
 
-#include <stddef.h>
-#include <stdint.h>
+#include <abo.h>
 
 #include "days.h"
 
-enum { K = 1, S = 2, C = 3, E = 4 };
+/* Short, since the generators name little else. */
+enum { K = ABO_SHEET_K, S = ABO_SHEET_S, C = ABO_SHEET_C, E = ABO_SHEET_E };
 
 /* The most that a group's sum may be, and an item on S and E. */
 #define MOST_SUM UINT64_C(99999999999999)

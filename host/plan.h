@@ -2,7 +2,7 @@
 #ifndef HOST_PLAN_H
 #define HOST_PLAN_H
 
-#include "dice.h"
+#include "faults.h"
 #include "limits.h"
 #include "text.h"
 
@@ -25,11 +25,7 @@ struct plan {
     unsigned sheet;       /* whose spelling is followed */
     size_t today;         /* a place in the list of days */
     enum line_ends ends;
-    /* Either one part in so many is spoilt (0: none), or the one aimed at, and
-       that once, after so many of its kind. */
-    unsigned rate;
-    enum part aim;        /* ALL_PARTS: none */
-    unsigned skip;
+    struct faults faults;
     /* K: an interval with a number for each account file, and from which of
        its ends they are given out. */
     unsigned from, to;
@@ -39,16 +35,7 @@ struct plan {
 /* Shall the part in hand be wrong? */
 static inline bool spoils(struct plan *p, enum part part)
 {
-    if (p->rate != 0)
-        return one_in(&p->dice, p->rate);
-    if (p->aim != part)
-        return false;
-    if (p->skip > 0) {
-        p->skip--;
-        return false;
-    }
-    p->aim = ALL_PARTS;
-    return true;
+    return falls_on(&p->faults, &p->dice, part);
 }
 
 /* Bytes that stand next to what the rules test for: digits and their

@@ -10,23 +10,13 @@ set -u
 cd "$(dirname "$0")/.." || exit 2
 program=${PROGRAM:-target/bin/rewrite}
 [ -x "$program" ] || { echo "$program is not there: run rt check rewrite" >&2; exit 2; }
-run=
-if [ -z "${PROGRAM:-}" ] && [ "$(uname -m)" != x86_64 ]; then
-    run=$(command -v qemu-x86_64 || true)
-    kit=$(dirname "$(dirname "$(readlink -f "$(command -v rt)")")")
-    [ -n "$run" ] || run=$kit/on/$(uname -m)/toolchain/bin/qemu-x86_64
-fi
+. host/target.sh
+. host/tally.sh
+[ -z "${PROGRAM:-}" ] || run=
 out=$(mktemp) || exit 2
 trap 'rm -f "$out"' EXIT
-passed=0
-failed=0
-for input in host/runs/*.in; do
-    if $run "$program" <"$input" >"$out" && cmp -s "$out" "${input%.in}.out"; then
-        passed=$((passed + 1))
-    else
-        failed=$((failed + 1))
-        echo "failed: $input"
-    fi
-done
-echo "$passed passed, $failed failed"
-[ "$failed" -eq 0 ] && [ "$passed" -gt 0 ]
+rewritten() { # NAME.in: is written as NAME.out
+    $run "$program" <"$1" >"$out" && cmp "$out" "${1%.in}.out"
+}
+for input in host/runs/*.in; do check "$input" rewritten "$input"; done
+last_line

@@ -1,17 +1,15 @@
 /* Here the library is held against itself: the canonical file says the same
    batch and header, and is its own canonical file. */
 #include "round_trip.h"
-#include "abo_calls.h"
 #include "draft.h"
 #include "generate.h"
 #include "limits.h"
 #include "show.h"
+#include "words.h"
 
 #include <stdio.h>
 #include <stdlib.h>
 #include <string.h>
-
-enum { ROW = 192, WORDS = 24 };
 
 /* A file and what reading it gave; or texts, and rows that were drawn. */
 struct reading {
@@ -35,7 +33,7 @@ static struct reading read_all(const uint8_t *file, size_t len, uint64_t sheet,
     struct reading r = {.file = file, .len = len};
     r.answer = abo_read(file, len, sheet, today, NULL, 0);
     if (r.answer.number == 16) {
-        size_t bytes = (size_t)r.answer.needed * ROW;
+        size_t bytes = (size_t)r.answer.needed * ABO_ROW_BYTES;
         r.rows = room_of(bytes);
         r.answer = abo_read(file, len, sheet, today, r.rows, bytes);
     }
@@ -46,27 +44,18 @@ static struct abo_written write_back(const struct reading *r, uint64_t sheet,
                                      uint64_t today, uint8_t *out, size_t room)
 {
     const struct abo_header *h = &r->answer.header;
-    return abo_write(r->rows, (size_t)r->answer.rows * ROW, r->file, r->len,
+    return abo_write(r->rows, (size_t)r->answer.rows * ABO_ROW_BYTES, r->file, r->len,
                      h->date, h->name, sizeof h->name, h->client, h->from,
                      h->to, sheet, today, out, room);
-}
-
-static uint64_t word_of(const struct reading *r, size_t row, size_t word)
-{
-    const uint8_t *bytes = r->rows + row * ROW + word * 8;
-    uint64_t value = 0;
-    for (size_t i = 8; i > 0; i--)
-        value = value << 8 | bytes[i - 1];
-    return value;
 }
 
 /* Texts are the same by their bytes. */
 static bool same_text(const struct reading *a, const struct reading *b,
                       size_t row, size_t word)
 {
-    uint64_t len = word_of(a, row, word + 1);
-    uint64_t at_a = word_of(a, row, word), at_b = word_of(b, row, word);
-    if (len != word_of(b, row, word + 1) || len > 35)
+    uint64_t len = word_of(a->rows, row, word + 1);
+    uint64_t at_a = word_of(a->rows, row, word), at_b = word_of(b->rows, row, word);
+    if (len != word_of(b->rows, row, word + 1) || len > ABO_TEXT_BYTES)
         return false;
     return len == 0 || (at_a <= a->len - len && at_b <= b->len - len &&
                         memcmp(a->file + at_a, b->file + at_b, len) == 0);
@@ -76,7 +65,7 @@ static bool same_text(const struct reading *a, const struct reading *b,
 static size_t words_of(const struct reading *r, size_t row)
 {
     static const size_t words[] = {1, 3, 4, 21};
-    uint64_t kind = word_of(r, row, 0);
+    uint64_t kind = word_of(r->rows, row, 0);
     return words[kind <= 3 ? kind : 0];
 }
 
@@ -85,7 +74,7 @@ static bool same_row(const struct reading *a, const struct reading *b,
 {
     size_t words = words_of(a, row), plain = words < 11 ? words : 11;
     for (size_t word = 0; word < plain; word++)
-        if (word_of(a, row, word) != word_of(b, row, word))
+        if (word_of(a->rows, row, word) != word_of(b->rows, row, word))
             return false;
     for (size_t word = 11; word < words; word += 2)
         if (!same_text(a, b, row, word))
@@ -107,11 +96,11 @@ static bool same_batch(const struct reading *a, const struct reading *b)
 static bool is_tidy(const struct reading *r)
 {
     for (size_t row = 0; row < (size_t)r->answer.rows; row++) {
-        for (size_t word = words_of(r, row); word < WORDS; word++)
-            if (word_of(r, row, word) != 0)
+        for (size_t word = words_of(r, row); word < ABO_ROW_WORDS; word++)
+            if (word_of(r->rows, row, word) != 0)
                 return false;
         for (size_t word = 11; word < words_of(r, row); word += 2)
-            if (word_of(r, row, word + 1) == 0 && word_of(r, row, word) != 0)
+            if (word_of(r->rows, row, word + 1) == 0 && word_of(r->rows, row, word) != 0)
                 return false;
     }
     return true;
@@ -130,7 +119,8 @@ static uint64_t due_warnings(const struct reading *r, uint64_t sheet,
 {
     uint64_t warnings = 0;
     for (size_t row = 0; sheet == C && row < (size_t)r->answer.rows; row++)
-        warnings += word_of(r, row, 0) == 2 && word_of(r, row, 1) < today;
+        warnings += word_of(r->rows, row, 0) == ABO_ROW_GROUP &&
+                    word_of(r->rows, row, ABO_GROUP_DUE) < today;
     return warnings;
 }
 
@@ -218,7 +208,7 @@ static bool batch_trip(const struct draft *d, uint64_t seed)
     h->client = d->client;
     h->from = d->from;
     h->to = d->to;
-    a.answer.rows = d->rows.len / ROW;
+    a.answer.rows = d->rows.len / ABO_ROW_BYTES;
     const char *fault = round_fault(&a, d->sheet, d->today, &written);
     if (written && count_check(fault == NULL))
         show_fault("batch", fault, seed, d->sheet, d->today, &d->texts);

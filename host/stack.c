@@ -8,6 +8,8 @@
  * these 64 KiB are the call's alone.  Pages on both sides may not be touched.
  */
 #define _DEFAULT_SOURCE /* for MAP_ANONYMOUS */
+#include <abo.h>
+
 #include <stdio.h>
 #include <stdlib.h>
 #include <string.h>
@@ -15,7 +17,6 @@
 #include <ucontext.h>
 
 #include "../peer/peer.h"
-#include "abo_calls.h"
 #include "corners.h"
 #include "dice.h"
 #include "large.h"

@@ -1,50 +1,43 @@
-# Read by run.sh and cost.sh at the top of the repository: how a C program is compiled, linked with the library's archive
-# and run. The archive is x86-64; elsewhere the program is cross compiled, linked -static and run by qemu (tools/chost.sh).
+# Read at the top of the repository by the Makefile and by every script that builds or runs a C program: which compilers make programs
+# that link the library's archive, and what runs them. The archive is x86-64; elsewhere programs are cross compiled, linked -static
+# and run by qemu.
 #
-#   LIB      the archive (default: `rt staticlib abo` writes it)
-#   CC       the compiler      CFLAGS   default -O2; -Wall -Wextra -Werror always come with it
+#   LIB      a ready archive (default: `rt staticlib abo` proves the library and writes one)
+#   CC, CXX  the compilers     CFLAGS  default -O2; warnings are always asked for and are errors
+#   BUILD    the folder that all is built in (default: build)
 #   MACHINE  what to take this machine for (default: uname -m)
+#
+# For the sanitizers: CFLAGS='-O1 -g -fsanitize=address,undefined'.
 
-build=${BUILD_DIR:-target/host}
-flags="-std=c11 -Wall -Wextra -Werror ${CFLAGS:--O2}"
+build=${BUILD:-build}
+lib=$build/libabo.a
+strict='-Wall -Wextra -Werror'
 case ${MACHINE:-$(uname -m)} in
-x86_64) cc=${CC:-cc} run='' static='' ;;
+x86_64)
+    cc=${CC:-cc} cxx=${CXX:-c++} static='' run=''
+    packages='gcc g++ libc6-dev make'
+    ;;
 *)
-    cc=${CC:-x86_64-linux-gnu-gcc} static=-static
+    cc=${CC:-x86_64-linux-gnu-gcc} cxx=${CXX:-x86_64-linux-gnu-g++} static=-static
+    packages='gcc-x86-64-linux-gnu g++-x86-64-linux-gnu libc6-dev-amd64-cross make'
     run=$(command -v qemu-x86_64 || true)
-    if [ -z "$run" ]; then
+    if [ -z "$run" ] && command -v rt >/dev/null; then
         kit=$(dirname "$(dirname "$(readlink -f "$(command -v rt)")")")
         run=$kit/on/$(uname -m)/toolchain/bin/qemu-x86_64
     fi
-    command -v "$cc" >/dev/null || {
-        echo "no $cc: apt-get install gcc-x86-64-linux-gnu libc6-dev-amd64-cross" >&2
-        exit 2
-    }
     ;;
 esac
-mkdir -p "$build"
-rm -rf "$build/objects"
-mkdir -p "$build/objects"
 
-lib=${LIB:-target/staticlib/libabo.a}
-if [ -z "${LIB:-}" ]; then
-    rt staticlib abo >"$build/staticlib.log" 2>&1 || {
-        cat "$build/staticlib.log"
-        exit 2
-    }
-fi
+have() { # COMMAND ..: stops with a sentence if one is not there
+    for wanted in "$@"; do
+        command -v "$wanted" >/dev/null || {
+            echo "There is no $wanted here. Debian has it: apt-get install $packages" >&2
+            exit 2
+        }
+    done
+}
 
-# The second program, and what the tests share: all that does not call the library. What does is named by the test that
-# wants it, as a library may have some of its calls only.
-for source in $(ls peer/*.c | grep -v '/rewrite\.c$') $(grep -L 'abo_calls\.h' host/*.c | grep -v '/compare_'); do
-    object=$build/objects/$(echo "$source" | tr / _ | sed 's/c$/o/')
-    # shellcheck disable=SC2086
-    $cc $flags -c -o "$object" "$source" || exit 2
-done
-
-build_test() { # NAME [PART ..]: host/NAME.c and host/PART.c become $build/NAME
-    program=$build/$1 sources=
-    for part in "$@"; do sources="$sources host/$part.c"; done
-    # shellcheck disable=SC2086
-    $cc $flags $static -o "$program" $sources "$build"/objects/*.o "$lib"
+build_test() { # NAME ..: has the Makefile build these in $build, as compare_read or libabo.a
+    have "${MAKE:-make}"
+    for name in "$@"; do "${MAKE:-make}" -s --no-print-directory STATIC="$static" "$build/$name" || return; done
 }

@@ -77,6 +77,22 @@ void text_replace(struct text *t, size_t at, size_t removed, const void *bytes,
     t->len = t->len - removed + len;
 }
 
+bool text_load(struct text *t, const char *path)
+{
+    uint8_t bytes[4096];
+    size_t len;
+    FILE *f = fopen(path, "rb");
+    text_clear(t);
+    text_bytes(t, "", 0);
+    if (f == NULL)
+        return false;
+    while ((len = fread(bytes, 1, sizeof bytes, f)) > 0)
+        text_bytes(t, bytes, len);
+    bool whole = !ferror(f);
+    fclose(f);
+    return whole;
+}
+
 void text_clear(struct text *t)
 {
     reserve(t, 0);

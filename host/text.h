@@ -2,6 +2,7 @@
 #ifndef HOST_TEXT_H
 #define HOST_TEXT_H
 
+#include <stdbool.h>
 #include <stddef.h>
 #include <stdint.h>
 
@@ -21,6 +22,8 @@ void text_word(struct text *t, uint64_t word);
 /* Puts other bytes in the place of some. */
 void text_replace(struct text *t, size_t at, size_t removed, const void *bytes,
                   size_t len);
+/* Takes all bytes of a file; false if it cannot be read. */
+bool text_load(struct text *t, const char *path);
 void text_clear(struct text *t);
 void text_free(struct text *t);
 

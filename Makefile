@@ -1,0 +1,99 @@
+# Builds the library's archive, the command-line tool and the order book; tests them and installs them.
+#
+#   make             build/libabo.a, build/abo and build/orderbook
+#   make test        the tests of the C side (docs/TESTING.md); the last line is 'N passed, M failed'
+#   make install     header, archive, abo.pc and tool, below PREFIX (default /usr/local); DESTDIR comes before it
+#   make clean       removes build/
+#
+#   LIB=libabo.a     a ready archive, in the place of the one that `rt staticlib abo` proves and writes
+#   FILES=20000      how many files and batches the tests generate
+#
+# host/target.sh names the other variables (CC, CFLAGS, BUILD, MACHINE). The archive is x86-64. Elsewhere the programs are cross compiled
+# and linked -static, and the tests run them by qemu.
+
+# The first number grows when a program must be changed to go on working, the second when a call or a constant is added.
+VERSION = 1.0
+
+PREFIX = /usr/local
+BINDIR = $(PREFIX)/bin
+INCLUDEDIR = $(PREFIX)/include
+LIBDIR = $(PREFIX)/lib
+DESTDIR =
+BUILD ?= build
+CFLAGS ?= -O2
+FILES ?= 20000
+
+# Asked only where they are needed, so that `make clean` wants no compiler.
+target = CC='$(if $(filter default,$(origin CC)),,$(CC))' MACHINE='$(MACHINE)'; . host/target.sh
+compiler = $(or $(shell $(target); have "$$cc" && echo "$$cc"),$(error There is no C compiler for x86-64))
+STATIC ?= $(shell $(target); echo $$static)
+
+archive = $(BUILD)/libabo.a
+header = include/abo.h
+programs = $(wildcard host/abo.c host/orderbook.c)
+made = $(programs:host/%.c=$(BUILD)/%)
+tool = $(filter $(BUILD)/abo,$(made))
+
+.PHONY: all test install clean FORCE
+all: $(archive) $(made)
+
+# What a file was made with is kept, so that another archive or other flags make it anew.
+$(BUILD)/%.used: FORCE
+	@mkdir -p $(BUILD)
+	@echo '$(used)' | cmp -s - $@ || echo '$(used)' >$@
+$(BUILD)/archive.used: used = $(LIB)
+$(BUILD)/flags.used: used = $(CC) $(MACHINE) $(CFLAGS)
+$(BUILD)/link.used: used = $(STATIC) $(LDFLAGS)
+
+ifeq ($(LIB),)
+$(archive): $(shell find crates -type f 2>/dev/null) $(BUILD)/archive.used
+	rt staticlib abo
+	cp target/staticlib/libabo.a $@
+else ifneq ($(abspath $(LIB)),$(abspath $(archive)))
+$(archive): $(LIB) $(BUILD)/archive.used
+	cp $(LIB) $@
+endif
+
+# What users build is C99 and no more; the tests are C11.
+language = $(if $(filter host/abo% host/orderbook%,$<),-std=c99 -pedantic,-std=c11)
+$(BUILD)/objects/%.o: %.c $(header) $(wildcard host/*.h peer/*.h bench/*.h) $(BUILD)/flags.used
+	@mkdir -p $(@D)
+	$(compiler) $(language) -Wall -Wextra -Werror $(CFLAGS) -Iinclude -c -o $@ $<
+
+# Any program of host/: build/NAME is made of host/NAME.c and its parts.
+.SECONDEXPANSION:
+.PRECIOUS: $(BUILD)/objects/%.o
+$(BUILD)/%: host/%.c $$(addprefix $(BUILD)/objects/,$$(addsuffix .o,$$(basename $$(shell sh host/parts.sh host/$$*.c)))) \
+		$(archive) $(BUILD)/link.used
+	$(compiler) $(CFLAGS) $(STATIC) $(LDFLAGS) -o $@ $(filter %.o,$^) $(archive)
+
+test: all
+	+@LIB='$(archive)' BUILD='$(BUILD)' FILES='$(FILES)' sh host/run.sh
+
+define pc
+prefix=$(PREFIX)
+includedir=$(patsubst $(PREFIX)/%,$${prefix}/%,$(INCLUDEDIR))
+libdir=$(patsubst $(PREFIX)/%,$${prefix}/%,$(LIBDIR))
+
+Name: abo
+Description: Czech ABO payment files, read, written and explained
+Version: $(VERSION)
+Cflags: -I$${includedir}
+Libs: -L$${libdir} -labo
+endef
+
+# Written anew each time, because PREFIX may be another one.
+export pc
+$(BUILD)/abo.pc: FORCE
+	@mkdir -p $(BUILD)
+	@printf '%s\n' "$$pc" >$@
+
+install: $(archive) $(tool) $(BUILD)/abo.pc
+	install -d $(DESTDIR)$(INCLUDEDIR) $(DESTDIR)$(LIBDIR)/pkgconfig
+	install -m 644 $(header) $(DESTDIR)$(INCLUDEDIR)/abo.h
+	install -m 644 $(archive) $(DESTDIR)$(LIBDIR)/libabo.a
+	install -m 644 $(BUILD)/abo.pc $(DESTDIR)$(LIBDIR)/pkgconfig/abo.pc
+	$(if $(tool),install -d $(DESTDIR)$(BINDIR) && install -m 755 $(tool) $(DESTDIR)$(BINDIR)/abo)
+
+clean:
+	rm -rf $(BUILD)

@@ -1,0 +1,15 @@
+/* Rows of a batch, one each, put behind those that are there. */
+#ifndef HOST_DRAFT_ROWS_H
+#define HOST_DRAFT_ROWS_H
+
+#include "drafting.h"
+
+/* Its place counts from 0. */
+void put_account_file(struct drafting *p, unsigned place);
+
+/* Gives back whether the group is single. */
+bool put_group_row(struct drafting *p);
+
+void put_item_row(struct drafting *p, bool single, uint64_t amount);
+
+#endif

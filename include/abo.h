@@ -1,0 +1,270 @@
+/*
+ * Reading, writing and explaining Czech ABO (.kpc) payment files for the bank sheets K, S, C and E: three calls, the rows
+ * that they take and give, and the numbers that they return.  For C99 and later and for C++; link with libabo.a.
+ *
+ * Days.  Every day is a number YYYYMMDD: the 2nd of January 2018 is 20180102.  So is `today`, which the caller gives with each
+ * call, because the library never asks the clock; it must be a real day of 2000 to 2099.
+ *
+ * Lent bytes.  A call works on bytes that the caller lends it, each slice a pointer and a count of bytes, and keeps none of
+ * them when it returns.  A pointer may be NULL exactly where its count is 0.  Pointers need no alignment.  Bytes that a call
+ * writes to must not overlap bytes that it reads.  Apart from that, any bytes and any numbers may be handed in.
+ *
+ * Refusals.  A call that returns another number than 0 has changed none of the lent bytes.  An accepted one has changed only
+ * the rows or bytes that it counts in its answer; what is lent beyond them stays as it was.
+ *
+ * Byte order.  Rows are lent as bytes: 24 words of 64 bits, each with its lowest byte first, whatever the machine.  Where
+ * the machine's own order is the same, as on x86-64, an array of `union abo_row` is lent as it lies:
+ *
+ *     union abo_row rows[1000];
+ *     struct abo_answer a = abo_read(file, len, ABO_SHEET_K, 20180101, (uint8_t *)rows, sizeof rows);
+ *
+ * The calls have no state, so any number of threads may call them at once on bytes of their own.
+ */
+#ifndef ABO_H
+#define ABO_H
+
+#include <stddef.h>
+#include <stdint.h>
+
+#if defined(__BYTE_ORDER__) && defined(__ORDER_LITTLE_ENDIAN__)
+#if __BYTE_ORDER__ != __ORDER_LITTLE_ENDIAN__
+#error "union abo_row is right only where words are stored with their lowest byte first."
+#endif
+#endif
+
+#ifdef __cplusplus
+extern "C" {
+#endif
+
+/* ---- Sheets: which bank's rules a file is judged by ---- */
+
+enum abo_sheet {
+    ABO_SHEET_K = 1, /* payer's bank 8100 */
+    ABO_SHEET_S = 2, /* payer's bank 0800 */
+    ABO_SHEET_C = 3, /* any payer's bank, written as 0300; has no header */
+    ABO_SHEET_E = 4  /* payer's bank 6100 */
+};
+
+/* ---- Numbers returned ---- */
+
+enum abo_number {
+    ABO_ACCEPTED = 0,        /* the file was read, or written, whole */
+    ABO_BAD_SHEET = 1,       /* the sheet is none of 1 to 4 */
+    ABO_BAD_TODAY = 2,       /* today is no real day of 2000 to 2099 */
+    ABO_BAD_ORDER = 3,       /* another kind of line is due, the file ends early, or lines follow its end */
+    ABO_BAD_FIELD = 4,       /* wrong bytes or length of a field, or a wrong divider */
+    ABO_BAD_ACCOUNT = 5,     /* an account breaks the account rule */
+    ABO_BAD_AMOUNT = 6,      /* an item's amount is zero or over its limit */
+    ABO_BAD_KIND = 7,        /* the account file's kind is not on the sheet */
+    ABO_BAD_PAYER_BANK = 8,  /* the payer's bank is not the sheet's */
+    ABO_BAD_NUMBER = 9,      /* K: interval turned round, or a number outside it or used before */
+    ABO_BAD_TOTAL = 10,      /* the total is not the sum (K, S), or the sum passes 14 digits */
+    ABO_BAD_DAY = 11,        /* a day is not real, or not among the sheet's days */
+    ABO_BAD_PAYEE_BANK = 12, /* the payee's bank is 0000 */
+    ABO_BAD_DIGIT = 13,      /* ninth or tenth digit of the bank field is not allowed */
+    ABO_BAD_TEXT = 14,       /* a text breaks the sheet: its start, parts or length, or a bar on S */
+    ABO_TOO_MANY = 15,       /* one item or account file more than a file may have */
+    ABO_NO_ROOM = 16,        /* the lent room is too small; the answer says how much is needed */
+    ABO_NOT_A_BATCH = 20,    /* writing: rows or header are no batch, whatever the sheet */
+    ABO_NOT_CARRIED = 21     /* writing: a batch, but no file of this sheet can carry it */
+};
+
+/* ---- Rows: the batch in order, an account file, its groups, behind each group its items ---- */
+
+enum abo_size {
+    ABO_ROW_WORDS = 24,     /* words of a row */
+    ABO_ROW_BYTES = 192,    /* bytes of a row */
+    ABO_PARTS = 4,          /* message parts of an item */
+    ABO_TEXT_BYTES = 35,    /* most bytes of a message part, or of an item's name */
+    ABO_NAME_BYTES = 20,    /* bytes of the header's name, always all of them */
+    ABO_EXPLAIN_BYTES = 65  /* room that is enough for every line of abo_explain */
+};
+
+enum abo_row_kind {
+    ABO_ROW_FILE = 1,  /* an account file begins */
+    ABO_ROW_GROUP = 2, /* a group of the account file above begins */
+    ABO_ROW_ITEM = 3   /* an item of the group above */
+};
+
+enum abo_priority {
+    ABO_PRIORITY_LEAST = 3, /* priorities go from here .. */
+    ABO_PRIORITY_MOST = 9,  /* .. to here; only K carries another than the usual one */
+    ABO_PRIORITY_USUAL = 5  /* what a file means that gives none */
+};
+
+/* Words of a row.  abo_write names a field by the number of its first word: an account by its prefix, a text by its place. */
+enum abo_field {
+    ABO_FIELD_ROW = 0, /* what the row is; as a fault: missing, of a kind not due, or one too many */
+
+    ABO_FILE_KIND = 1,   /* account file: 1501 to 1504 */
+    ABO_FILE_NUMBER = 2, /* account file: its number of six digits */
+
+    ABO_GROUP_DUE = 1,          /* group: due date */
+    ABO_GROUP_PAYER = 2,        /* group: payer's prefix; prefix and base 0: no payer, the group is single */
+    ABO_GROUP_PAYER_PREFIX = 2, /* the same word */
+    ABO_GROUP_PAYER_BASE = 3,   /* group: payer's base */
+
+    ABO_ITEM_PAYER = 1,        /* item: payer's prefix; an item has a payer exactly in a single group */
+    ABO_ITEM_PAYER_PREFIX = 1, /* the same word */
+    ABO_ITEM_PAYER_BASE = 2,   /* item: payer's base */
+    ABO_ITEM_PAYEE = 3,        /* item: payee's prefix */
+    ABO_ITEM_PAYEE_PREFIX = 3, /* the same word */
+    ABO_ITEM_PAYEE_BASE = 4,   /* item: payee's base */
+    ABO_ITEM_BANK = 5,         /* item: payee's bank, 1 to 9999 */
+    ABO_ITEM_AMOUNT = 6,       /* item: amount in haler, 1 to 99,999,999,999,999 */
+    ABO_ITEM_VARIABLE = 7,     /* item: variable symbol, below 10^10 */
+    ABO_ITEM_SPECIFIC = 8,     /* item: specific symbol, below 10^10 */
+    ABO_ITEM_CONSTANT = 9,     /* item: constant symbol, below 10^4 */
+    ABO_ITEM_PRIORITY = 10,    /* item: priority, 3 to 9 */
+    ABO_ITEM_PART_1 = 11,      /* item: first message part, its place; its length is the next word */
+    ABO_ITEM_PART_2 = 13,      /* item: second message part */
+    ABO_ITEM_PART_3 = 15,      /* item: third message part */
+    ABO_ITEM_PART_4 = 17,      /* item: fourth message part */
+    ABO_ITEM_NAME = 19         /* item: payee's name */
+};
+
+/* Fields of the header, as abo_write numbers them where the row is 0. */
+enum abo_header_field {
+    ABO_HEADER_DATE = 1,   /* creation date */
+    ABO_HEADER_NAME = 2,   /* name, 20 text bytes */
+    ABO_HEADER_CLIENT = 3, /* client number, below 10^10 */
+    ABO_HEADER_FROM = 4,   /* interval start, 0 to 999 */
+    ABO_HEADER_TO = 5      /* interval end, 0 to 999 */
+};
+
+/* An account's number; both 0 where there is none.  The bank stands apart. */
+struct abo_account {
+    uint64_t prefix, base;
+};
+
+/* A text: where it begins and how many bytes it has, counted in the file that was read or the texts that are written. */
+struct abo_place {
+    uint64_t place, length;
+};
+
+struct abo_file_row {
+    uint64_t row; /* ABO_ROW_FILE */
+    uint64_t kind, number;
+    uint64_t unused[21]; /* unused words are 0 when read, and not looked at when written */
+};
+
+struct abo_group_row {
+    uint64_t row; /* ABO_ROW_GROUP */
+    uint64_t due;
+    struct abo_account payer;
+    uint64_t unused[20];
+};
+
+struct abo_item_row {
+    uint64_t row; /* ABO_ROW_ITEM */
+    struct abo_account payer, payee;
+    uint64_t bank, amount, variable, specific, constant, priority;
+    struct abo_place part[ABO_PARTS];
+    struct abo_place name;
+    uint64_t unused[3];
+};
+
+/* One row, by word number or by name.  `word[ABO_FIELD_ROW]` says which of the three views it has. */
+union abo_row {
+    uint64_t word[ABO_ROW_WORDS];
+    struct abo_file_row file;
+    struct abo_group_row group;
+    struct abo_item_row item;
+};
+
+/* ---- Reading ---- */
+
+/* The first line of a file.  On C, and on every refusal: zeros and a name of spaces. */
+struct abo_header {
+    uint64_t date, client, from, to;
+    uint8_t name[20];
+};
+
+struct abo_answer {
+    uint64_t number;   /* enum abo_number, never 20 or 21 */
+    uint64_t line;     /* refused: line of the fault, from 1; 0 with 0, 1, 2 and 16 */
+    uint64_t byte;     /* refused: its place in the file, from 0; 0 with 0, 1, 2 and 16 */
+    uint64_t rows;     /* accepted: rows filled, else 0 */
+    uint64_t warnings; /* accepted: warnings counted, else 0 */
+    uint64_t needed;   /* with 16: rows (not bytes) needed, else 0 */
+    struct abo_header header;
+};
+
+/* Reads a file into lent rows.  Texts are given as places in `file`, which must live as long as they are used.  `rows_len`
+   counts bytes, of which only whole rows are used. */
+struct abo_answer abo_read(const uint8_t *file, size_t len, uint64_t sheet,
+                           uint64_t today, uint8_t *rows, size_t rows_len);
+
+/* ---- Writing ---- */
+
+struct abo_written {
+    uint64_t number; /* 0, 1, 2, 16, 20 or 21 */
+    uint64_t row;    /* with 20 and 21: the row, from 1, or 0 for the header, else 0 */
+    uint64_t field;  /* with 20 and 21: enum abo_field, or enum abo_header_field where the row is 0, else 0 */
+    uint64_t bytes;  /* accepted: bytes written; with 16: bytes needed; else 0 */
+};
+
+/* Writes the batch that rows hold, their texts lying in `texts`, as a file in its canonical spelling.  The arguments from
+   `date` to `to` are the header; on C they are not looked at.  `rows_len` counts bytes; bytes behind the last whole row are
+   refused as a row of no known kind. */
+struct abo_written abo_write(const uint8_t *rows, size_t rows_len,
+                             const uint8_t *texts, size_t texts_len,
+                             uint64_t date, const uint8_t *name,
+                             size_t name_len, uint64_t client, uint64_t from,
+                             uint64_t to, uint64_t sheet, uint64_t today,
+                             uint8_t *out, size_t out_len);
+
+/* ---- Explaining ---- */
+
+struct abo_text {
+    uint64_t number; /* 0 or 16, whatever the file */
+    uint64_t bytes;  /* with 0: bytes written; with 16: bytes needed */
+};
+
+/* Says in a line of text, ended by LF and not by a zero byte, what reading the file would answer, given room enough:
+   `accepted rows R warnings W` or `refused N line L byte B`. */
+struct abo_text abo_explain(const uint8_t *file, size_t len, uint64_t sheet,
+                            uint64_t today, uint8_t *out, size_t out_len);
+
+/* ---- The layout, held against the compiler's ---- */
+
+#if defined(__cplusplus) && __cplusplus >= 201103L
+#define ABO_HOLDS(name, condition) static_assert(condition, "abo.h: " #name)
+#elif !defined(__cplusplus) && defined(__STDC_VERSION__) && __STDC_VERSION__ >= 201112L
+#define ABO_HOLDS(name, condition) _Static_assert(condition, "abo.h: " #name)
+#else
+#define ABO_HOLDS(name, condition) typedef char abo_holds_##name[(condition) ? 1 : -1]
+#endif
+#define ABO_AT(view, field, number) (offsetof(struct view, field) == (number) * sizeof(uint64_t))
+
+ABO_HOLDS(row, sizeof(union abo_row) == ABO_ROW_BYTES && ABO_ROW_BYTES == ABO_ROW_WORDS * sizeof(uint64_t));
+ABO_HOLDS(file_row, sizeof(struct abo_file_row) == ABO_ROW_BYTES);
+ABO_HOLDS(group_row, sizeof(struct abo_group_row) == ABO_ROW_BYTES);
+ABO_HOLDS(item_row, sizeof(struct abo_item_row) == ABO_ROW_BYTES);
+ABO_HOLDS(file_kind, ABO_AT(abo_file_row, kind, ABO_FILE_KIND));
+ABO_HOLDS(file_number, ABO_AT(abo_file_row, number, ABO_FILE_NUMBER));
+ABO_HOLDS(group_due, ABO_AT(abo_group_row, due, ABO_GROUP_DUE));
+ABO_HOLDS(group_payer, ABO_AT(abo_group_row, payer, ABO_GROUP_PAYER));
+ABO_HOLDS(item_payer, ABO_AT(abo_item_row, payer, ABO_ITEM_PAYER));
+ABO_HOLDS(item_payee, ABO_AT(abo_item_row, payee, ABO_ITEM_PAYEE));
+ABO_HOLDS(item_bank, ABO_AT(abo_item_row, bank, ABO_ITEM_BANK));
+ABO_HOLDS(item_amount, ABO_AT(abo_item_row, amount, ABO_ITEM_AMOUNT));
+ABO_HOLDS(item_variable, ABO_AT(abo_item_row, variable, ABO_ITEM_VARIABLE));
+ABO_HOLDS(item_specific, ABO_AT(abo_item_row, specific, ABO_ITEM_SPECIFIC));
+ABO_HOLDS(item_constant, ABO_AT(abo_item_row, constant, ABO_ITEM_CONSTANT));
+ABO_HOLDS(item_priority, ABO_AT(abo_item_row, priority, ABO_ITEM_PRIORITY));
+ABO_HOLDS(item_part, ABO_AT(abo_item_row, part, ABO_ITEM_PART_1));
+ABO_HOLDS(item_name, ABO_AT(abo_item_row, name, ABO_ITEM_NAME));
+ABO_HOLDS(header, sizeof(struct abo_header) == 56 && offsetof(struct abo_header, name) == 32);
+ABO_HOLDS(answer, sizeof(struct abo_answer) == 104 && offsetof(struct abo_answer, header) == 48);
+ABO_HOLDS(written, sizeof(struct abo_written) == 32);
+ABO_HOLDS(text, sizeof(struct abo_text) == 16);
+
+#undef ABO_AT
+#undef ABO_HOLDS
+
+#ifdef __cplusplus
+}
+#endif
+
+#endif
