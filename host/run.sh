@@ -13,7 +13,7 @@ cd "$(dirname "$0")/.." || exit 2
 . host/tally.sh
 files=${FILES:-20000}
 seed=${SEED:-1}
-all='header api installed abo_test orderbook_test stack compare_read compare_write compare_explain'
+all='header api installed abo_test orderbook_test corpus stack attack compare_read compare_write compare_explain'
 
 program() { # NAME ARG ..: builds a test that is a program, and runs it
     build_test "$1" || return
@@ -26,8 +26,9 @@ program() { # NAME ARG ..: builds a test that is a program, and runs it
 run_test() { # NAME
     case $1 in
     header | api | installed | abo_test | orderbook_test) sh "host/$1.sh" ;;
+    corpus) program fuzz host/corpus/* ;;
     stack) program stack ;;
-    compare_explain) program "$1" "$((files / 2))" "$seed" ;;
+    attack | compare_explain) program "$1" "$((files / 2))" "$seed" ;;
     compare_read | compare_write) program "$1" "$files" "$seed" ;;
     *) echo "There is no test $1. They are: $all" && return 2 ;;
     esac

@@ -1,110 +1,76 @@
 /*
- * abo_read on a stack of 64 KiB, on the files with the most lines of each kind
- * and on the corner files.  Code that calls itself once a line, or keeps a line
- * on the stack, does not come back from these.
- *
- * The stack is made with makecontext and not with a thread: a thread's stack
- * also holds the thread's own data, of which nobody says how much it is, while
- * these 64 KiB are the call's alone.  Pages on both sides may not be touched.
+ * The three calls on stacks of 64 KiB, on the files with the most lines of each
+ * kind and on the corner files: each is explained, read and, if it says a batch,
+ * written again.  Code that calls itself once a line, or keeps a line on the
+ * stack, does not come back from these.
  */
-#define _DEFAULT_SOURCE /* for MAP_ANONYMOUS */
-#include <abo.h>
-
+#define _DEFAULT_SOURCE /* for fork */
+#include <signal.h>
 #include <stdio.h>
-#include <stdlib.h>
 #include <string.h>
-#include <sys/mman.h>
-#include <ucontext.h>
+#include <sys/wait.h>
+#include <unistd.h>
 
-#include "../peer/peer.h"
+#include "ask_edges.h"
 #include "corners.h"
 #include "dice.h"
 #include "large.h"
 #include "limits.h"
+#include "narrow.h"
 #include "show.h"
 
-enum { ROW = 192, STACK = 64 * 1024, PAGE = 4096, PAINT = 0xd7 };
+static struct scene scene;
 
-static uint8_t *stack;
-static size_t most_used;
-static uint8_t room[(4 * 99999 + 2) * ROW]; /* the most that a bulk has */
-
-/* A context takes no pointers as arguments, so they lie here. */
-static const struct made *asked;
-static struct abo_answer answer;
-static ucontext_t here, there;
-
-static void ask(void)
+static struct outcome ask(const char *what, unsigned place,
+                          const struct call *c, size_t room)
 {
-    answer = abo_read(asked->file.data, asked->file.len, asked->sheet,
-                      asked->today, room, sizeof room);
+    return check_edges(&scene, what, place, c, room, AT_BACK, 0x5a);
 }
 
-static void make_stack(void)
+/* With no room, and with just what that says is needed. */
+static struct outcome ask_exact(const char *what, unsigned place,
+                                const struct call *c)
 {
-    uint8_t *pages = mmap(NULL, STACK + 2 * PAGE, PROT_NONE,
-                          MAP_PRIVATE | MAP_ANONYMOUS, -1, 0);
-    if (pages == MAP_FAILED ||
-        mprotect(pages + PAGE, STACK, PROT_READ | PROT_WRITE) != 0) {
-        perror("stack");
-        exit(2);
-    }
-    stack = pages + PAGE;
+    struct outcome o = ask(what, place, c, 0);
+    return o.number == ABO_NO_ROOM ? ask(what, place, c, (size_t)o.needed) : o;
 }
 
-/* It grows down, so the paint that is left is at its low end. */
-static size_t stack_used(void)
+static struct slice lend_part(size_t part, const uint8_t *bytes, size_t len)
 {
-    size_t left = 0;
-    while (left < STACK && stack[left] == PAINT)
-        left++;
-    return STACK - left;
+    struct edge *e = &scene.parts[part];
+    scene.parts_used = part + 1;
+    return (struct slice){edge_lend(e, bytes, len, AT_BACK, '0'), len};
 }
 
-static void ask_on_stack(const struct made *made)
+/* The rows that were read, with the file as the texts. */
+static void write_again(const char *what, unsigned place, struct call c,
+                        const struct outcome *read)
 {
-    memset(stack, PAINT, STACK);
-    asked = made;
-    if (getcontext(&there) != 0) {
-        perror("getcontext");
-        exit(2);
-    }
-    there.uc_stack.ss_sp = stack;
-    there.uc_stack.ss_size = STACK;
-    there.uc_link = &here;
-    makecontext(&there, ask, 0);
-    if (swapcontext(&here, &there) != 0) {
-        perror("swapcontext");
-        exit(2);
-    }
-    if (stack_used() > most_used)
-        most_used = stack_used();
+    c.which = WRITES;
+    c.texts = c.file;
+    c.file = lend_part(1, scene.ours.lent, (size_t)read->written);
+    c.name = lend_part(2, read->name, sizeof read->name);
+    c.date = read->words[HEADER_WORDS];
+    c.client = read->words[HEADER_WORDS + 1];
+    c.from = read->words[HEADER_WORDS + 2];
+    c.to = read->words[HEADER_WORDS + 3];
+    struct outcome w = ask_exact(what, place, &c);
+    check(w.number == ABO_ACCEPTED, "what was read is not written again");
 }
 
-static bool same_answer(const struct abo_answer *a, const struct peer_answer *p)
+/* Gives back the number that reading gave. */
+static uint64_t test_file(const char *what, unsigned place,
+                          const struct made *made)
 {
-    return a->number == p->number && a->line == p->line && a->byte == p->byte &&
-           a->rows == p->rows && a->warnings == p->warnings &&
-           a->needed == p->needed;
-}
-
-/* The right answer is the peer's, asked on the usual stack, and the number that
-   the file was made for. */
-static void test_file(const char *what, unsigned place, const struct made *made,
-                      bool known, uint64_t number)
-{
-    in_hand(what, place, made->file.data, made->file.len);
-    ask_on_stack(made);
-    struct peer_answer p = peer_read(made->file.data, made->file.len,
-                                     made->sheet, made->today, room,
-                                     sizeof room);
-    bool right = same_answer(&answer, &p) && (!known || p.number == number);
-    if (count_check(right))
-        printf("failed: %s %u on sheet %llu: number %llu line %llu byte %llu "
-               "rows %llu\n", what, place, (unsigned long long)made->sheet,
-               (unsigned long long)answer.number,
-               (unsigned long long)answer.line, (unsigned long long)answer.byte,
-               (unsigned long long)answer.rows);
+    struct call c = {.which = EXPLAINS, .sheet = made->sheet,
+                     .today = made->today};
+    c.file = lend_part(0, made->file.data, made->file.len);
+    ask(what, place, &c, ABO_EXPLAIN_BYTES);
+    c.which = READS;
+    struct outcome read = ask_exact(what, place, &c);
+    if (read.number == ABO_ACCEPTED)
+        write_again(what, place, c, &read);
+    return read.number;
 }
 
 static void test_bulks(unsigned sheet)
@@ -118,29 +84,53 @@ static void test_bulks(unsigned sheet)
         {{.files = 1000, .groups = 1, .items = 1}, 0, 0},
         {{.files = 1, .groups = 100000, .items = 1}, 15, 15},
         {{.files = 1001, .groups = 1, .items = 1}, 15, 15},
-        {{.files = 2, .groups = 99999, .items = 1}, 0, 15},
         {{.files = 1, .groups = 99999, .items = 1, .behind = ""}, 3, 15},
     };
     struct made made = {0};
     for (unsigned i = 0; i < COUNT_OF(list); i++) {
+        uint64_t due = sheet == S ? list[i].number_of_s : list[i].number;
         make_bulk(&made, sheet, &list[i].bulk);
-        test_file("bulk", i, &made, true,
-                  sheet == S ? list[i].number_of_s : list[i].number);
+        check(test_file("bulk", i, &made) == due,
+              "a large file has another number than it was made for");
     }
     text_free(&made.file);
+}
+
+/* Work that takes a little more than there is must not come back, or nothing
+   above would say anything. */
+static void too_deep(void)
+{
+    volatile uint8_t much[NARROW_STACK + 16];
+    for (size_t i = sizeof much; i > 0; i--)
+        much[i - 1] = (uint8_t)i;
+}
+
+static void test_guard(void)
+{
+    int status = 0;
+    fflush(stdout);
+    pid_t child = fork();
+    if (child == 0) {
+        signal(SIGSEGV, SIG_DFL);
+        fclose(stderr); /* the emulator and the sanitizers tell of it there */
+        run_narrow(READS, too_deep);
+        _exit(0);
+    }
+    check(child > 0 && waitpid(child, &status, 0) == child && status != 0,
+          "more than 64 KiB of stack can be used");
 }
 
 int main(void)
 {
     struct made made = {0};
     catch_crashes();
-    make_stack();
     for (unsigned sheet = K; sheet <= E; sheet++) {
         test_bulks(sheet);
         for (unsigned i = 0; corner_file(&made, sheet, i); i++)
-            test_file("corner file", i, &made, false, 0);
+            test_file("corner file", i, &made);
     }
     text_free(&made.file);
-    printf("stack used: at most %zu of %d bytes\n", most_used, STACK);
+    report_edges();
+    test_guard();
     return last_line();
 }
