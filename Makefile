@@ -6,7 +6,7 @@
 #   make clean       removes build/
 #
 #   LIB=libabo.a     a ready archive, in the place of the one that `rt staticlib abo` proves and writes
-#   FILES=20000      how many files and batches the tests generate
+#   FILES=20000      how many files and batches the tests generate (host/run.sh says how many if it is not given)
 #
 # host/target.sh names the other variables (CC, CFLAGS, BUILD, MACHINE). The archive is x86-64. Elsewhere the programs are cross compiled
 # and linked -static, and the tests run them by qemu.
@@ -21,7 +21,6 @@ LIBDIR = $(PREFIX)/lib
 DESTDIR =
 BUILD ?= build
 CFLAGS ?= -O2
-FILES ?= 20000
 
 # Asked only where they are needed, so that `make clean` wants no compiler.
 target = CC='$(if $(filter default,$(origin CC)),,$(CC))' MACHINE='$(MACHINE)'; . host/target.sh

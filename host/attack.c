@@ -6,7 +6,7 @@
  * compared with the second program, and all bytes that it may not write are
  * looked at behind it.
  *
- *   attack [ROUNDS [SEED]]     round i has the seed SEED + i
+ *   attack [ROUNDS [SEED]]     as seeds.h says
  */
 #include <stdio.h>
 #include <string.h>

@@ -2,7 +2,7 @@
  * abo_explain against peer_explain: the answer, the line and the bytes around
  * it, on generated files and on corner files.
  *
- *   compare_explain [FILES [SEED]]     file i has the seed SEED + i
+ *   compare_explain [FILES [SEED [STEP]]]     as seeds.h says
  */
 #include <stdio.h>
 #include <string.h>
@@ -93,7 +93,8 @@ int main(int argc, char **argv)
         compare_file("generated file", seeds.first + i, &made);
     }
     for (unsigned sheet = K; sheet <= E; sheet++)
-        for (unsigned i = 0; corner_file(&made, sheet, i); i++)
+        for (unsigned i = first_step(seeds, sheet);
+             corner_file(&made, sheet, i); i += seeds.step)
             compare_file("corner file", i, &made);
     text_free(&made.file);
     printf("number  0: %lu\nnumber 16: %lu\n", counts[0], counts[1]);

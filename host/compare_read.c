@@ -2,7 +2,7 @@
  * abo_read against peer_read, on generated files, large files, corner files and
  * odd calls.
  *
- *   compare_read [FILES [SEED]]     file i has the seed SEED + i
+ *   compare_read [FILES [SEED [STEP]]]     as seeds.h says
  */
 #include <stdio.h>
 
@@ -26,13 +26,14 @@ static void compare_generated(struct seeds seeds)
     text_free(&made.file);
 }
 
-static void compare_special(void)
+static void compare_special(struct seeds seeds)
 {
     struct made made = {0};
     for (unsigned sheet = K; sheet <= E; sheet++) {
-        for (unsigned i = 0; corner_file(&made, sheet, i); i++)
+        unsigned first = first_step(seeds, sheet);
+        for (unsigned i = first; corner_file(&made, sheet, i); i += seeds.step)
             compare_file("corner file", i, &made);
-        for (unsigned i = 0; large_file(&made, sheet, i); i++)
+        for (unsigned i = first; large_file(&made, sheet, i); i += seeds.step)
             compare_file("large file", i, &made);
     }
     text_free(&made.file);
@@ -128,7 +129,7 @@ int main(int argc, char **argv)
     struct seeds seeds = take_seeds(argc, argv, 200000);
     catch_crashes();
     compare_generated(seeds);
-    compare_special();
+    compare_special(seeds);
     compare_pairs();
     compare_odd_calls();
     report(seeds);

@@ -2,7 +2,7 @@
  * abo_write against peer_write, on drawn batches, on batches at the limits of
  * counts and in odd calls.  Then the round trip of files.
  *
- *   compare_write [BATCHES [SEED]]     batch i has the seed SEED + i
+ *   compare_write [BATCHES [SEED [STEP]]]     as seeds.h says
  */
 #include <stdio.h>
 #include <string.h>
@@ -72,7 +72,7 @@ static void compare_large(const struct made *made, unsigned place)
     free_draft(&d);
 }
 
-static void compare_bulks(void)
+static void compare_bulks(struct seeds seeds)
 {
     static const struct bulk bulks[] = {
         {.files = 1, .groups = 1, .items = 99999},
@@ -86,7 +86,8 @@ static void compare_bulks(void)
     };
     struct made made = {0};
     for (unsigned sheet = K; sheet <= E; sheet++)
-        for (unsigned i = 0; i < COUNT_OF(bulks); i++) {
+        for (unsigned i = first_step(seeds, sheet); i < COUNT_OF(bulks);
+             i += seeds.step) {
             make_bulk(&made, sheet, &bulks[i]);
             compare_large(&made, i);
         }
@@ -168,7 +169,7 @@ int main(int argc, char **argv)
     struct seeds seeds = take_seeds(argc, argv, 200000);
     catch_crashes();
     compare_drawn(seeds);
-    compare_bulks();
+    compare_bulks(seeds);
     compare_pairs();
     compare_odd_calls();
     round_trips(seeds.count / 2, seeds.first);

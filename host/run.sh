@@ -4,15 +4,19 @@
 #
 #   host/run.sh                  all of them; `make test` is the same
 #   host/run.sh compare_read ..  those named, in this order
-#   FILES=150000 host/run.sh     how many files and batches are generated (default 20000); SEED is the first one's seed
+#   FILES=1000000 host/run.sh    how many files and batches are generated; SEED is the first one's seed
+#   STEP=1 host/run.sh           every so many-th of the large files is tried
 #
+# By default 150,000 files are generated and all large ones tried. By an emulator, which is some 25 times slower, 4,000 and every fifth.
 # host/target.sh names the other variables.
 set -u
 cd "$(dirname "$0")/.." || exit 2
 . host/target.sh
 . host/tally.sh
-files=${FILES:-20000}
+if [ -z "$run" ]; then files=150000 step=1; else files=4000 step=5; fi
+files=${FILES:-$files}
 seed=${SEED:-1}
+step=${STEP:-$step}
 all='header api installed abo_test orderbook_test corpus stack attack compare_read compare_write compare_explain'
 
 program() { # NAME ARG ..: builds a test that is a program, and runs it
@@ -27,9 +31,9 @@ run_test() { # NAME
     case $1 in
     header | api | installed | abo_test | orderbook_test) sh "host/$1.sh" ;;
     corpus) program fuzz host/corpus/* ;;
-    stack) program stack ;;
-    attack | compare_explain) program "$1" "$((files / 2))" "$seed" ;;
-    compare_read | compare_write) program "$1" "$files" "$seed" ;;
+    stack) program stack 0 "$seed" "$step" ;;
+    attack | compare_explain) program "$1" "$((files / 2))" "$seed" "$step" ;;
+    compare_read | compare_write) program "$1" "$files" "$seed" "$step" ;;
     *) echo "There is no test $1. They are: $all" && return 2 ;;
     esac
 }

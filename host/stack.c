@@ -3,6 +3,8 @@
  * kind and on the corner files: each is explained, read and, if it says a batch,
  * written again.  Code that calls itself once a line, or keeps a line on the
  * stack, does not come back from these.
+ *
+ *   stack [0 [SEED [STEP]]]     as seeds.h says; nothing is generated
  */
 #define _DEFAULT_SOURCE /* for fork */
 #include <signal.h>
@@ -17,6 +19,7 @@
 #include "large.h"
 #include "limits.h"
 #include "narrow.h"
+#include "seeds.h"
 #include "show.h"
 
 static struct scene scene;
@@ -73,7 +76,7 @@ static uint64_t test_file(const char *what, unsigned place,
     return read.number;
 }
 
-static void test_bulks(unsigned sheet)
+static void test_bulks(struct seeds seeds, unsigned sheet)
 {
     static const struct {
         struct bulk bulk;
@@ -87,7 +90,8 @@ static void test_bulks(unsigned sheet)
         {{.files = 1, .groups = 99999, .items = 1, .behind = ""}, 3, 15},
     };
     struct made made = {0};
-    for (unsigned i = 0; i < COUNT_OF(list); i++) {
+    for (unsigned i = first_step(seeds, sheet); i < COUNT_OF(list);
+         i += seeds.step) {
         uint64_t due = sheet == S ? list[i].number_of_s : list[i].number;
         make_bulk(&made, sheet, &list[i].bulk);
         check(test_file("bulk", i, &made) == due,
@@ -120,13 +124,15 @@ static void test_guard(void)
           "more than 64 KiB of stack can be used");
 }
 
-int main(void)
+int main(int argc, char **argv)
 {
+    struct seeds seeds = take_seeds(argc, argv, 0);
     struct made made = {0};
     catch_crashes();
     for (unsigned sheet = K; sheet <= E; sheet++) {
-        test_bulks(sheet);
-        for (unsigned i = 0; corner_file(&made, sheet, i); i++)
+        test_bulks(seeds, sheet);
+        for (unsigned i = first_step(seeds, sheet);
+             corner_file(&made, sheet, i); i += seeds.step)
             test_file("corner file", i, &made);
     }
     text_free(&made.file);
