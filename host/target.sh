@@ -20,6 +20,8 @@ x86_64)
 *)
     cc=${CC:-x86_64-linux-gnu-gcc} cxx=${CXX:-x86_64-linux-gnu-g++} static=-static
     packages='gcc-x86-64-linux-gnu g++-x86-64-linux-gnu libc6-dev-amd64-cross make'
+    # programs that rt links want a loader of x86-64, which comes with the cross compiler's C library
+    export QEMU_LD_PREFIX="${QEMU_LD_PREFIX:-/usr/x86_64-linux-gnu}"
     run=$(command -v qemu-x86_64 || true)
     if [ -z "$run" ] && command -v rt >/dev/null; then
         kit=$(dirname "$(dirname "$(readlink -f "$(command -v rt)")")")
