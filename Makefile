@@ -59,12 +59,15 @@ $(BUILD)/objects/%.o: %.c $(header) $(wildcard host/*.h peer/*.h bench/*.h) $(BU
 	@mkdir -p $(@D)
 	$(compiler) $(language) -Wall -Wextra -Werror $(CFLAGS) -Iinclude -c -o $@ $<
 
-# Any program of host/: build/NAME is made of host/NAME.c and its parts.
+# Any program of host/ or bench/: build/NAME is made of host/NAME.c and its parts.
+objects = $(addprefix $(BUILD)/objects/,$(addsuffix .o,$(basename $(shell sh host/parts.sh $(1)))))
+link = $(compiler) $(CFLAGS) $(STATIC) $(LDFLAGS) -o $@ $(filter %.o,$^) $(archive)
 .SECONDEXPANSION:
 .PRECIOUS: $(BUILD)/objects/%.o
-$(BUILD)/%: host/%.c $$(addprefix $(BUILD)/objects/,$$(addsuffix .o,$$(basename $$(shell sh host/parts.sh host/$$*.c)))) \
-		$(archive) $(BUILD)/link.used
-	$(compiler) $(CFLAGS) $(STATIC) $(LDFLAGS) -o $@ $(filter %.o,$^) $(archive)
+$(BUILD)/%: host/%.c $$(call objects,host/$$*.c) $(archive) $(BUILD)/link.used
+	$(link)
+$(BUILD)/%: bench/%.c $$(call objects,bench/$$*.c) $(archive) $(BUILD)/link.used
+	$(link)
 
 test: all
 	+@LIB='$(archive)' BUILD='$(BUILD)' FILES='$(FILES)' sh host/run.sh

@@ -4,7 +4,7 @@
  *   compare_abo answer FILE SHEET DAY FOLDER   puts into the folder: `line`, the line of explaining; `canonical`, the canonical
  *                                              file; `items`, a line for each item, as the tool shows it but with one space
  *                                              between words.  The last two are empty if the file is refused
- *   compare_abo make SHEET KIND BYTES          a valid file of about so many bytes (cost_file.h names the kinds)
+ *   compare_abo make SHEET KIND BYTES          a valid file of about so many bytes (bench/files.h names the kinds)
  *   compare_abo generate SEED FILE             puts the file of a seed there; prints the sheet and the day to read it with
  *
  * SHEET is a number, DAY is YYYYMMDD.  The exit status is the tool's: 0 accepted, 1 refused, 2 for a sheet or a day that is
@@ -16,8 +16,8 @@
 #include <stdlib.h>
 #include <string.h>
 
+#include "../bench/files.h"
 #include "../peer/peer.h"
-#include "cost_file.h"
 #include "generate.h"
 #include "words.h"
 
@@ -138,12 +138,11 @@ static int answer(char **argument)
 
 static int make(char **argument)
 {
-    struct text file = {0};
-    bool made = make_cost_file(&file, (unsigned)strtoul(argument[0], NULL, 10),
-                               argument[1], strtoul(argument[2], NULL, 10));
+    struct bench_file file = {0};
+    bool made = make_bench_file(&file, (unsigned)strtoul(argument[0], NULL, 10), argument[1], strtoul(argument[2], NULL, 10));
     if (made)
-        fwrite(file.data, 1, file.len, stdout);
-    text_free(&file);
+        fwrite(file.bytes.data, 1, file.bytes.len, stdout);
+    text_free(&file.bytes);
     return made ? 0 : 2;
 }
 

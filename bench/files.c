@@ -1,27 +1,32 @@
-#include "cost_file.h"
-#include "accounts.h"
-#include "limits.h"
+#include "files.h"
+#include "../host/accounts.h"
+#include "../host/limits.h"
 
 #include <string.h>
 
-enum { POOL = 509, MOST_ITEMS = 99999, MOST_ITEMS_OF_S = 1000 };
+enum {
+    POOL = 509,
+    MOST_FILES = 1000,
+    MOST_ITEMS = 99999, /* of an account file */
+    MOST_ITEMS_OF_S = 1000,
+    CUT = 4000
+};
 
-/* How the items of a kind of file are spelled.  Lines are drawn once and then
-   copied, so that most of what is counted is the reading. */
+/* How the items of a kind of file are spelled, and how many stand together. */
+struct kind {
+    const char *name;
+    void (*put_item)(struct text *t, struct dice *d, unsigned sheet,
+                     uint64_t *amount);
+    size_t per_group, per_file;
+    bool single;
+};
+
+/* Lines are drawn once and then copied, so that most of what is counted is the
+   call that is measured. */
 struct pool {
     struct text lines;
     size_t starts[POOL + 1];
     uint64_t amounts[POOL];
-    bool single;
-    unsigned per_group;
-};
-
-struct kind {
-    const char *name;
-    unsigned per_group;
-    bool single;
-    void (*put_item)(struct text *t, struct dice *d, unsigned sheet,
-                     uint64_t *amount);
 };
 
 static void put_account(struct text *t, struct dice *d)
@@ -119,18 +124,42 @@ static void put_longest(struct text *t, struct dice *d, unsigned sheet,
     }
 }
 
+/* Four parts that nearly hold ` NP:` all along, which C cuts. */
+static void put_cut(struct text *t, struct dice *d, unsigned sheet,
+                    uint64_t *amount)
+{
+    put_shortest(t, d, sheet, amount);
+    text_words(t, " 0 AV:");
+    for (int part = 0; part < 4; part++) {
+        if (part > 0)
+            text_byte(t, '|');
+        for (size_t i = 0; i < CUT; i += 5)
+            text_words(t, "NP NP");
+    }
+}
+
 static const struct kind kinds[] = {
-    {"wages", 100, false, put_wage},
-    {"invoices", 12, true, put_invoice},
-    {"shortest", 200, false, put_shortest},
-    {"longest", 100, true, put_longest},
+    {"wages", put_wage, 100, MOST_ITEMS, false},
+    {"invoices", put_invoice, 12, MOST_ITEMS, true},
+    {"shortest", put_shortest, 200, MOST_ITEMS, false},
+    {"longest", put_longest, 100, MOST_ITEMS, true},
+    {"groups", put_shortest, 1, MOST_ITEMS, false},
+    {"files", put_shortest, 1, 1, false},
+    {"cut", put_cut, 1, MOST_ITEMS, false},
 };
+
+static const struct kind *kind_of(const char *name, unsigned sheet)
+{
+    for (size_t i = 0; i < COUNT_OF(kinds); i++)
+        if (strcmp(kinds[i].name, name) == 0 && sheet >= K && sheet <= E)
+            return kinds[i].put_item == put_cut && sheet != C ? NULL
+                                                              : &kinds[i];
+    return NULL;
+}
 
 static void fill_pool(struct pool *p, const struct kind *kind, unsigned sheet)
 {
     struct dice d = {sheet};
-    p->single = kind->single;
-    p->per_group = kind->per_group;
     for (size_t i = 0; i < POOL; i++) {
         p->starts[i] = p->lines.len;
         kind->put_item(&p->lines, &d, sheet, &p->amounts[i]);
@@ -139,14 +168,14 @@ static void fill_pool(struct pool *p, const struct kind *kind, unsigned sheet)
     p->starts[POOL] = p->lines.len;
 }
 
-static void put_group(struct text *t, const struct pool *p, unsigned sheet,
-                      size_t first, size_t items)
+static void put_group(struct text *t, const struct pool *p, bool single,
+                      unsigned sheet, size_t first, size_t items)
 {
     uint64_t sum = 0;
     for (size_t i = 0; i < items; i++)
         sum += p->amounts[(first + i) % POOL];
     text_words(t, "2 ");
-    if (!p->single)
+    if (!single)
         text_words(t, "19-5152046 ");
     else if (sheet == S || sheet == E)
         text_byte(t, ' ');
@@ -159,53 +188,63 @@ static void put_group(struct text *t, const struct pool *p, unsigned sheet,
     text_words(t, "3 +\r\n");
 }
 
-static void put_head(struct text *t, unsigned sheet, unsigned place)
+static void put_first(struct text *t, unsigned sheet)
+{
+    text_words(t, "UHL1");
+    if (sheet != C)
+        text_words(t, "010118FIRMA               1234567890000999000000000000");
+    text_words(t, "\r\n");
+}
+
+static void put_head(struct text *t, unsigned sheet, size_t place)
 {
     static const char *const banks[] = {"", " 8100\r\n", " 0800\r\n",
                                         " 0300\r\n", " 6100\r\n"};
-    if (place == 0 && sheet == C)
-        text_words(t, "UHL1\r\n");
-    else if (place == 0)
-        text_words(t, "UHL1010118FIRMA               1234567890000999"
-                      "000000000000\r\n");
     text_words(t, "1 1501 ");
     text_number(t, place * 1000, 6);
     text_words(t, banks[sheet]);
 }
 
-static void fill_file(struct text *t, const struct pool *p, unsigned sheet,
-                      size_t bytes)
+static size_t smaller(size_t a, size_t b)
 {
-    size_t items = 0, in_file = 0, all = sheet == S ? MOST_ITEMS_OF_S : bytes;
-    unsigned files = 0;
-    put_head(t, sheet, files++);
-    while (t->len < bytes && items < all) {
-        size_t count = p->per_group;
-        if (count > all - items)
-            count = all - items;
-        if (in_file + count > MOST_ITEMS) {
-            text_words(t, "5 +\r\n");
-            put_head(t, sheet, files++);
-            in_file = 0;
-        }
-        put_group(t, p, sheet, items, count);
-        items += count;
-        in_file += count;
-    }
-    text_words(t, "5 +\r\n");
+    return a < b ? a : b;
 }
 
-bool make_cost_file(struct text *file, unsigned sheet, const char *kind,
-                    size_t bytes)
+/* At least one group, and none that begins past `bytes`. */
+static void put_groups(struct bench_file *f, const struct pool *p,
+                       const struct kind *kind, unsigned sheet, size_t most,
+                       size_t bytes)
 {
+    size_t items = 0;
+    while (items < most && (items == 0 || f->bytes.len < bytes)) {
+        size_t count = smaller(kind->per_group, most - items);
+        put_group(&f->bytes, p, kind->single, sheet, f->items, count);
+        items += count;
+        f->items += count;
+        f->rows += 1 + count;
+    }
+}
+
+bool make_bench_file(struct bench_file *file, unsigned sheet, const char *name,
+                     size_t bytes)
+{
+    const struct kind *kind = kind_of(name, sheet);
     struct pool pool = {0};
-    text_clear(file);
-    for (size_t i = 0; i < COUNT_OF(kinds); i++)
-        if (strcmp(kinds[i].name, kind) == 0) {
-            fill_pool(&pool, &kinds[i], sheet);
-            fill_file(file, &pool, sheet, bytes);
-            text_free(&pool.lines);
-            return true;
-        }
-    return false;
+    struct text *t = &file->bytes;
+    size_t all = sheet == S ? MOST_ITEMS_OF_S : SIZE_MAX, files = 0;
+    if (kind == NULL)
+        return false;
+    fill_pool(&pool, kind, sheet);
+    file->items = file->rows = 0;
+    text_clear(t);
+    put_first(t, sheet);
+    do {
+        put_head(t, sheet, files++);
+        file->rows++;
+        put_groups(file, &pool, kind, sheet,
+                   smaller(kind->per_file, all - file->items), bytes);
+        text_words(t, "5 +\r\n");
+    } while (files < MOST_FILES && file->items < all && t->len < bytes);
+    text_free(&pool.lines);
+    return true;
 }

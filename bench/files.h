@@ -1,0 +1,32 @@
+/* Valid files of a wanted size, such as offices send them and such as are as
+   unlike them as the sheets allow, for measuring what a byte costs. */
+#ifndef BENCH_FILES_H
+#define BENCH_FILES_H
+
+#include <stdbool.h>
+
+#include "../host/text.h"
+
+struct bench_file {
+    struct text bytes;
+    size_t items, rows; /* a row for each account file, group and item */
+};
+
+/*
+ * Makes a file of about so many bytes.  Its kind is one of
+ *
+ *   wages      one payer, short lines, half of them with a word
+ *   invoices   each with its own payer, symbols and two parts of text
+ *   shortest   items of 17 bytes
+ *   longest    every field as long as it may be
+ *   groups     groups of one shortest item, 99,999 in an account file
+ *   files      account files of one such group
+ *   cut        C alone: parts of 4,000 bytes, which are cut to 35
+ *
+ * It ends sooner where the sheet does: at 1,000 items on S, at 1,000 account
+ * files on all.  Gives back false if the sheet has no such kind.
+ */
+bool make_bench_file(struct bench_file *file, unsigned sheet, const char *kind,
+                     size_t bytes);
+
+#endif

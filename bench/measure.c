@@ -1,0 +1,125 @@
+/*
+ * Makes a file and has it read, explained, or written again, to be counted or
+ * timed:
+ *
+ *   measure read|write|explain none|abo|peer SHEET KIND BYTES
+ *   measure read|write|explain TIMES SHEET KIND BYTES
+ *
+ * The first form is for a counter of instructions.  What a call executes is the
+ * difference of two counts, with it and with `none`, so nothing has to be told
+ * apart by names.  The second form runs the library and the second program
+ * TIMES times in turn, compares what they leave in the lent bytes, and gives
+ * the median time of each.  SHEET is K, S, C or E; files.h names the kinds.
+ */
+#define _POSIX_C_SOURCE 200809L
+#include <stdio.h>
+#include <stdlib.h>
+#include <string.h>
+#include <time.h>
+
+#include "calls.h"
+
+enum { MOST_TIMES = 99 };
+
+static int usage(void)
+{
+    fputs("measure read|write|explain none|abo|peer|TIMES SHEET KIND BYTES\n",
+          stderr);
+    return 2;
+}
+
+/* The place of a word in a list, or -1. */
+static int place_of(const char *word, const char *const *list, int n)
+{
+    for (int i = 0; i < n; i++)
+        if (strcmp(word, list[i]) == 0)
+            return i;
+    return -1;
+}
+
+static int by_size(const void *a, const void *b)
+{
+    double x = *(const double *)a, y = *(const double *)b;
+    return (x > y) - (x < y);
+}
+
+static double now(void)
+{
+    struct timespec t;
+    clock_gettime(CLOCK_MONOTONIC, &t);
+    return (double)t.tv_sec * 1e9 + (double)t.tv_nsec;
+}
+
+static int count(struct lent *l, enum call call, enum who who)
+{
+    size_t bytes = call_once(l, call, who);
+    printf("bytes %zu items %zu\n", bytes, l->file.items);
+    return bytes == 0;
+}
+
+/* What a call leaves: rows, or output. */
+static const uint8_t *left_by(const struct lent *l, enum call call,
+                              size_t bytes, size_t *len)
+{
+    *len = call == READ ? l->rows_len : call == WRITE ? bytes : 0;
+    return call == READ ? l->rows : l->out;
+}
+
+/* Runs both once, which also makes their memory be there before it is timed. */
+static bool same_left(struct lent *l, enum call call)
+{
+    size_t mine, other;
+    size_t bytes = call_once(l, call, ABO);
+    const uint8_t *left = left_by(l, call, bytes, &mine);
+    uint8_t *copy = malloc(mine + 1);
+    if (copy == NULL || bytes == 0)
+        return false;
+    memcpy(copy, left, mine);
+    bytes = call_once(l, call, PEER);
+    left = left_by(l, call, bytes, &other);
+    bool same = bytes != 0 && mine == other && memcmp(copy, left, mine) == 0;
+    free(copy);
+    return same;
+}
+
+static int take_time(struct lent *l, enum call call, int times)
+{
+    double took[2][MOST_TIMES];
+    if (!same_left(l, call)) {
+        puts("the library and the second program differ");
+        return 1;
+    }
+    size_t bytes = 0;
+    for (int i = 0; i < times; i++)
+        for (int who = ABO; who <= PEER; who++) {
+            double began = now();
+            bytes = call_once(l, call, (enum who)who);
+            took[who - ABO][i] = now() - began;
+        }
+    for (int i = 0; i < 2; i++)
+        qsort(took[i], (size_t)times, sizeof took[i][0], by_size);
+    printf("bytes %zu items %zu abo_ns %.0f peer_ns %.0f\n", bytes,
+           l->file.items, took[0][times / 2], took[1][times / 2]);
+    return 0;
+}
+
+int main(int argc, char **argv)
+{
+    static const char *const calls[] = {"read", "write", "explain"};
+    static const char *const whos[] = {"none", "abo", "peer"};
+    static const char *const sheets[] = {"K", "S", "C", "E"};
+    struct lent l;
+    if (argc != 6)
+        return usage();
+    int call = place_of(argv[1], calls, 3), who = place_of(argv[2], whos, 3);
+    int times = atoi(argv[2]), sheet = place_of(argv[3], sheets, 4) + 1;
+    if (call < 0 || sheet < 1 || (who < 0 && (times < 1 || times > MOST_TIMES)))
+        return usage();
+    if (!lend_for(&l, (enum call)call, (unsigned)sheet, argv[4],
+                  strtoul(argv[5], NULL, 10)))
+        return usage();
+    int status = who >= 0 ? count(&l, (enum call)call, (enum who)who)
+                          : take_time(&l, (enum call)call, times);
+    give_back(&l);
+    return status;
+}
