@@ -1,6 +1,7 @@
 # Builds the library's archive, the command-line tool and the order book; tests them and installs them.
 #
 #   make             build/libabo.a, build/abo and build/orderbook
+#   make demo        the order book at work on a small ledger, as README shows it
 #   make test        the tests of the C side (docs/TESTING.md); the last line is 'N passed, M failed'
 #   make install     header, archive, abo.pc and tool, below PREFIX (default /usr/local); DESTDIR comes before it
 #   make clean       removes build/
@@ -33,7 +34,7 @@ programs = $(wildcard host/abo.c host/orderbook.c)
 made = $(programs:host/%.c=$(BUILD)/%)
 tool = $(filter $(BUILD)/abo,$(made))
 
-.PHONY: all test install clean FORCE
+.PHONY: all demo test install clean FORCE
 all: $(archive) $(made)
 
 # What a file was made with is kept, so that another archive or other flags make it anew.
@@ -68,6 +69,9 @@ $(BUILD)/%: host/%.c $$(call objects,host/$$*.c) $(archive) $(BUILD)/link.used
 	$(link)
 $(BUILD)/%: bench/%.c $$(call objects,bench/$$*.c) $(archive) $(BUILD)/link.used
 	$(link)
+
+demo: all
+	@BUILD='$(BUILD)' MACHINE='$(MACHINE)' sh host/demo.sh
 
 test: all
 	+@LIB='$(archive)' BUILD='$(BUILD)' FILES='$(FILES)' sh host/run.sh

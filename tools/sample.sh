@@ -7,11 +7,7 @@ set -eu
 cd "$(dirname "$0")/.."
 if [ ! -x target/bin/rewrite ]; then echo "proving the rewriting program and all that it stands on: some minutes, once" >&2; fi
 rt check rewrite >/dev/null
-run=
-if [ "$(uname -m)" != x86_64 ]; then
-    kit=$(dirname "$(dirname "$(readlink -f "$(command -v rt)")")")
-    run=$(command -v qemu-x86_64 || echo "$kit/on/$(uname -m)/toolchain/bin/qemu-x86_64")
-fi
+. host/target.sh
 [ $# -gt 0 ] || set -- host/runs/sheet_k.in host/runs/sheet_s.in host/runs/sheet_c_joined.in host/runs/sheet_e.in host/runs/sheet_k_total.in
 for file in "$@"; do
     echo "== $file"

@@ -1,0 +1,29 @@
+#!/bin/sh
+# The order book at work, as README shows it: a ledger becomes the file for a bank, is read back and shown; two refusals, with the place
+# marked; and the tool on the same file. Each command is printed before what it says. `make demo` builds what it needs.
+#
+#   host/demo.sh
+set -u
+cd "$(dirname "$0")/.." || exit 2
+. host/target.sh
+out=$(mktemp -d) || exit 2
+trap 'rm -rf "$out"' EXIT
+
+shows() { # STATUS PROGRAM ARG ..: the command as it is typed, then what it prints; STATUS is the exit status that is due
+    due=$1 program=$2
+    shift 2
+    echo
+    echo "\$ build/$program $(echo "$*" | sed "s|$out/||g")"
+    # shellcheck disable=SC2086
+    $run "$build/$program" "$@" 2>&1
+    [ $? -eq "$due" ] || exit 1
+}
+
+shows 0 orderbook host/ledger/pond.txt --sheet K --day 2026-11-15 -o "$out/pond.kpc"
+echo
+echo '$ cat pond.kpc'
+tr -d '\r' <"$out/pond.kpc"
+shows 0 abo check "$out/pond.kpc" --sheet K --day 2026-11-15
+shows 1 abo check "$out/pond.kpc" --sheet S --day 2026-11-15
+shows 1 abo check host/ledger/bad_total.kpc --sheet K --day 2026-11-15
+shows 1 orderbook host/ledger/bad_account.txt --sheet K --day 2026-11-15 -o wages.kpc
