@@ -1,0 +1,3 @@
+pub mod Finding
+pub mod Walking
+pub mod Determined
