@@ -2,6 +2,7 @@
 // crate of its own.
 use explain::AboText;
 use read::AboAnswer;
+use reader::AboLine;
 use write::AboWritten;
 ghost use mathlib.Core.Path.{_≡_};
 ghost use lib.ListN.{length};
@@ -11,6 +12,7 @@ ghost use Rattle.paper.specs.Explaining.{explanation};
 ghost use Rattle.read.specs.Told.{told as toldRead};
 ghost use Rattle.write.specs.Told.{told as toldWritten, headerOf};
 ghost use Rattle.explain.specs.Told.{told as toldText, textAnswer};
+ghost use Rattle.reader.specs.Named.{told as toldLine, lineAnswer};
 
 // Reads a file on a sheet (1 K, 2 S, 3 C, 4 E) with today's date, YYYYMMDD, into lent rows. A refusal leaves the rows as they were.
 #[no_mangle]
@@ -48,4 +50,12 @@ pub extern "C" fn abo_explain(file: &[u8], sheet: u64, today: u64, out: &mut [u8
     ensures { λ _. ⌜ now (out .exit) ≡ outputAfter (now (out .entry)) (explanation sheet today (now (file .entry))) ⌝ }
 {
     explain::explain_file(file, sheet, today, out)
+}
+
+// Finds the line of a number, as refusals count lines: from 1, and the file's end is one more, empty.
+#[no_mangle]
+pub extern "C" fn abo_line(file: &[u8], line: u64) -> AboLine
+    ensures { λ r. ⌜ toldLine r ≡ lineAnswer line (now (file .entry)) ⌝ }
+{
+    reader::line_of(file, line)
 }
