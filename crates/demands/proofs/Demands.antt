@@ -33,6 +33,14 @@ use Rattle.write.specs.declared.AboWritten.{AboWritten}
 use Rattle.write.proofs.Determined as write
 use Rattle.explain.specs.declared.AboText.{AboText}
 use Rattle.explain.proofs.Determined as explain
+use Rattle.named.specs.Numbers.{Judged}
+use Rattle.reader.specs.declared.AboLine.{AboLine}
+use Rattle.reader.specs.Named.{lineAnswer}
+use Rattle.reader.proofs.Determined as reader
+use Rattle.shown.specs.Holding.{Holds}
+use Rattle.shown.proofs.Main as shown
+use Rattle.abo.proofs.abo_line.Statement as line-contract
+use Rattle.abo.proofs.abo_line.Met as line-call
 use Rattle.abo.proofs.abo_read.Statement as read-contract
 use Rattle.abo.proofs.abo_read.Met as read-call
 use Rattle.abo.proofs.abo_write.Statement as write-contract
@@ -50,6 +58,17 @@ abo-write = write-call.met
 
 pub abo-explain : {M : Type 1} → explain-contract.statement M
 abo-explain = explain-call.met
+
+pub abo-line : {M : Type 1} → line-contract.statement M
+abo-line = line-call.met
+
+pub one-line : (line : ℕ) (f : List ℕ) (a b : AboLine) → reader.Allowed line f a → reader.Allowed line f b → a ≡ b
+one-line = reader.determined
+
+-- what reading refuses in a file, abo_line shows: the refusal's byte lies in the line of its number
+pub refusal-shown : (sheet today : ℕ) (f lent : List ℕ) → Judged (readAnswer sheet today f lent .number)
+    → Holds (lineAnswer (readAnswer sheet today f lent .line) f) (readAnswer sheet today f lent .byte)
+refusal-shown = shown.read-shown
 
 pub one-reading : (sheet today : ℕ) (f lent : List ℕ) (a b : AboAnswer) (r q : List ℕ)
     → read.Allowed sheet today f lent a r → read.Allowed sheet today f lent b q → (a ≡ b) × (r ≡ q)
