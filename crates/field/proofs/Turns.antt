@@ -18,8 +18,14 @@ use Rattle.paper.specs.Read.{Field, value, fault}
 use Rattle.paper.specs.Bytes.{isDigit, space, fieldOf, null}
 use Rattle.paper.specs.Numerals.{digitsOn, digits}
 use Rattle.numeral.proofs.Digits.{in-range, more-digits, ten-le}
-use Rattle.field.specs.Digits.{front, run}
+use Rattle.field.specs.Digits.{front, run, Worth}
 use Rattle.field.proofs.Front.{run-most}
+
+-- ---- a byte that is no digit
+
+pub no-digit : (b : ℕ) → (48 ≤ b → 57 < b) → isDigit b ≡ false
+unfolding isDigit pick
+no-digit b h = by-lt b 48 (λ l. simp (lt-ltb b 48 l)) (λ l. simp (le-ltb b 48 l, lt-leb b 57 (h l)))
 
 -- ---- where it stops at the latest
 
@@ -91,17 +97,13 @@ module _ (s : List ℕ) (at most stop v i : ℕ) (inv : Reads s at most stop v i
         let z : stop - i ≡ suc (stop - (i + 1)) = omega arith in
         rw (z, add-one, drop-cons s i 0 k)
 
-    pub ahead-low : getD s i 0 < 48 → ahead s stop i ≡ []
-    unfolding isDigit pick
-    ahead-low lo = step ∙ simp (lt-ltb (getD s i 0) 48 lo)
+    pub ahead-other : (x : ℕ) → Worth (getD s i 0) x → 9 < x → ahead s stop i ≡ []
+    unfolding pick
+    ahead-other x k h = step ∙ rw (k .other h)
 
-    pub ahead-high : 57 < getD s i 0 → ahead s stop i ≡ []
-    unfolding isDigit pick
-    ahead-high hi = step ∙ simp (le-ltb (getD s i 0) 48 (omega arith), lt-leb (getD s i 0) 57 hi)
-
-    pub reads-next : 48 ≤ getD s i 0 → getD s i 0 ≤ 57 → Reads s at most stop (v * 10 + (getD s i 0 - 48)) (i + 1)
+    next : 48 ≤ getD s i 0 → getD s i 0 ≤ 57 → Reads s at most stop (v * 10 + (getD s i 0 - 48)) (i + 1)
     unfolding isDigit digitsOn pick
-    reads-next lo hi =
+    next lo hi =
         let d : isDigit (getD s i 0) ≡ true = simp (le-ltb (getD s i 0) 48 lo, le-leb (getD s i 0) 57 hi) in
         let a : ahead s stop i ≡ getD s i 0 ∷ ahead s stop (i + 1) = step ∙ rw d in
         let f = inv .from in
@@ -115,6 +117,9 @@ module _ (s : List ℕ) (at most stop v i : ℕ) (inv : Reads s at most stop v i
           says = inv .says ∙ rw (a, d);
         }
 
+    pub reads-next : (x : ℕ) → Worth (getD s i 0) x → x ≤ 9 → Reads s at most stop (v * 10 + x) (i + 1)
+    reads-next x k h = let w = k .digit h in rw (w .2) (next (w .0) (w .1))
+
     -- while 19 digits are not exceeded the number fits a word
     module _ (m : stop ≤ at + most) (c : most ≤ 19) where
       short : v * 10 + 9 < 10 ^ 19
@@ -125,10 +130,10 @@ module _ (s : List ℕ) (at most stop v i : ℕ) (inv : Reads s at most stop v i
       pub fits-times : Fits w64 (v * 10)
       fits-times = omega (arith, short)
 
-      pub fits-more : (x : ℕ) → x ≤ 57 → Fits w64 (v * 10 + (x - 48))
+      pub fits-more : (x : ℕ) → x ≤ 9 → Fits w64 (v * 10 + x)
       fits-more x k = omega (arith, short)
 
-pub ruleset turns = (stop-from, stop-within, stop-inside, stop-most, reads-start, reads-long, reads-value, ahead-end, ahead-low, ahead-high, reads-next, fits-times, fits-more)
+pub ruleset turns = (stop-from, stop-within, stop-inside, stop-most, reads-start, reads-long, reads-value, ahead-end, ahead-other, reads-next, fits-times, fits-more)
 
 -- ---- `ends`
 

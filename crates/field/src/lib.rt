@@ -8,7 +8,7 @@ ghost use Rattle.paper.specs.Read.{value};
 ghost use Rattle.paper.specs.Bytes.{fieldOf, null};
 ghost use Rattle.paper.specs.Numerals.{digits};
 ghost use Rattle.field.specs.At.{fieldAt};
-ghost use Rattle.field.specs.Digits.{run};
+ghost use Rattle.field.specs.Digits.{run, Worth};
 ghost use Rattle.field.specs.Told.{told};
 
 // Digits that were read: their number, and the place behind them.
@@ -28,6 +28,13 @@ pub fn stop_of(n: usize, at: usize, most: usize) -> usize
     at + most
 }
 
+// What the digit b stands for, and a number over 9 for any other byte: one test tells them apart.
+pub fn worth(b: u8) -> u64
+    ensures { λ r. ⌜ Worth b r ⌝ }
+{
+    std::num::wrapping_sub_u64(b as u64, 48)
+}
+
 // The digits from `at` on, up to `most` of them.
 pub fn digit_run(s: &[u8], at: usize, most: usize) -> Run
     requires { ⌜ (at ≤ length (now s)) × (most ≤ 19) ⌝ }
@@ -37,14 +44,11 @@ pub fn digit_run(s: &[u8], at: usize, most: usize) -> Run
     let mut v: u64 = 0;
     let mut i = at;
     while i < stop {
-        let b = s[i];
-        if b < 48 {
+        let d = worth(s[i]);
+        if 9 < d {
             return Run { value: v, end: i };
         }
-        if 57 < b {
-            return Run { value: v, end: i };
-        }
-        v = v * 10 + (b - 48) as u64;
+        v = v * 10 + d;
         i += 1;
     }
     Run { value: v, end: i }

@@ -35,14 +35,14 @@ module _ (s : List ℕ) (at most stop v i : ℕ) (inv : Reads s at most stop v i
   pub fits-double : Fits w64 (sum * 2)
   fits-double = omega (arith, sum-le, fits-times s at most stop v i inv l w m c)
 
-  pub fits-double-more : (x : ℕ) → x ≤ 57 → Fits w64 (sum * 2 + (x - 48))
+  pub fits-double-more : (x : ℕ) → x ≤ 9 → Fits w64 (sum * 2 + x)
   fits-double-more x k = omega (arith, sum-le, fits-more s at most stop v i inv l w m c x k)
 
-  pub sum-next : (x : ℕ) → x ≤ 57 → sum * 2 + (x - 48) ≡ doubled 19 (v * 10 + (x - 48))
+  pub sum-next : (x : ℕ) → x ≤ 9 → sum * 2 + x ≡ doubled 19 (v * 10 + x)
   sum-next x k =
       let f = inv .from in
       let b : v < 10 ^ 18 = omega (arith, inv .small, ten-le (i - at) 18 (omega arith)) in
-      sym (doubled-more 18 v (x - 48) b (omega arith) ∙ rw (← e))
+      sym (doubled-more 18 v x b (omega arith) ∙ rw (← e))
 
 pub ruleset sums = (sum-start, fits-double, fits-double-more, sum-next)
 

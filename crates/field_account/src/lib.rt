@@ -36,23 +36,16 @@ fn sum_run(s: &[u8], at: usize, most: usize) -> Sums
     let mut sum: u64 = 0;
     let mut i = at;
     while i < stop {
-        let b = s[i];
-        if b < 48 {
+        let d = field::worth(s[i]);
+        if 9 < d {
             return Sums {
                 value: v,
                 sum: sum,
                 end: i,
             };
         }
-        if 57 < b {
-            return Sums {
-                value: v,
-                sum: sum,
-                end: i,
-            };
-        }
-        v = v * 10 + (b - 48) as u64;
-        sum = sum * 2 + (b - 48) as u64;
+        v = v * 10 + d;
+        sum = sum * 2 + d;
         i += 1;
     }
     Sums {

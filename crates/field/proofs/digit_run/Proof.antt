@@ -8,6 +8,7 @@ use Rattle.field.proofs.digit_run.Tie as tie
 use Rattle.field.proofs.digit_run.Reads as reads
 use Rattle.field.proofs.digit_run.Lts as lts
 use Rattle.field.proofs.stop_of.Reads as stop-of-reads
+use Rattle.field.proofs.worth.Reads as worth-reads
 
 abbrev Inv-loop : tie.InvT-loop
 Inv-loop s at most stop v₀ i₀ v i = Reads s at most stop v i
@@ -15,53 +16,49 @@ Inv-loop s at most stop v₀ i₀ v i = Reads s at most stop v i
 abbrev μ-loop : tie.MeasureT-loop
 μ-loop s at most stop v₀ i₀ v i = stop - i
 
--- src/lib.rt:36:9
+-- src/lib.rt:43:9
 stop-of-requires : tie.Need-stop-of-requires Inv-loop μ-loop
 stop-of-requires c κs = search (turns, needs)
 
--- src/lib.rt:39:5
+-- src/lib.rt:46:5
 loop-holds : tie.Need-loop-holds Inv-loop μ-loop
 loop-holds c = search (turns, needs)
 
--- src/lib.rt:40:17
-shared-slice-read-b : tie.Need-shared-slice-read-b Inv-loop μ-loop
-shared-slice-read-b c = search (turns, needs)
+-- src/lib.rt:47:23
+shared-slice-read-worth : tie.Need-shared-slice-read-worth Inv-loop μ-loop
+shared-slice-read-worth c = search (turns, needs)
 
--- src/lib.rt:42:13
+-- src/lib.rt:47:13
+worth-requires : tie.Need-worth-requires Inv-loop μ-loop
+worth-requires c κs = search needs
+
+-- src/lib.rt:49:13
 returns : tie.Need-returns Inv-loop μ-loop
 returns c = search turns
 
--- src/lib.rt:45:13
-returns-2 : tie.Need-returns-2 Inv-loop μ-loop
-returns-2 c = search turns
-
--- src/lib.rt:47:13
+-- src/lib.rt:51:13
 mul-v : tie.Need-mul-v Inv-loop μ-loop
 mul-v c = search (turns, needs)
 
--- src/lib.rt:47:22
-cast-v : tie.Need-cast-v Inv-loop μ-loop
-cast-v c = search (turns, needs)
-
--- src/lib.rt:47:13
+-- src/lib.rt:51:13
 add-v : tie.Need-add-v Inv-loop μ-loop
 add-v c = search (turns, needs)
 
--- src/lib.rt:48:9
+-- src/lib.rt:52:9
 add-i : tie.Need-add-i Inv-loop μ-loop
 add-i c = search (turns, needs)
 
--- src/lib.rt:39:5
+-- src/lib.rt:46:5
 loop-less : tie.Need-loop-less Inv-loop μ-loop
 loop-less c = search (turns, needs)
 
--- src/lib.rt:39:5
+-- src/lib.rt:46:5
 loop-again : tie.Need-loop-again Inv-loop μ-loop
 loop-again c = search (turns, needs)
 
--- src/lib.rt:32:1
-returns-3 : tie.Need-returns-3 Inv-loop μ-loop
-returns-3 c = search turns
+-- src/lib.rt:39:1
+returns-2 : tie.Need-returns-2 Inv-loop μ-loop
+returns-2 c = search turns
 
 pub digit-run-spec : {M : Type 1} → statement M
 digit-run-spec =
@@ -71,13 +68,12 @@ digit-run-spec =
     μ-loop
     stop-of-requires
     loop-holds
-    shared-slice-read-b
+    shared-slice-read-worth
+    worth-requires
     returns
-    returns-2
     mul-v
-    cast-v
     add-v
     add-i
     loop-less
     loop-again
-    returns-3)
+    returns-2)

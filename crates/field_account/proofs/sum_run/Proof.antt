@@ -11,6 +11,7 @@ use Rattle.field_account.proofs.sum_run.Tie as tie
 use Rattle.field_account.proofs.sum_run.Reads as reads
 use Rattle.field_account.proofs.sum_run.Lts as lts
 use Rattle.field.proofs.stop_of.Reads as stop-of-reads
+use Rattle.field.proofs.worth.Reads as worth-reads
 
 abbrev Inv-loop : tie.InvT-loop
 Inv-loop s at most stop v₀ sum₀ i₀ v sum i = Reads s at most stop v i × (sum ≡ doubled 19 v)
@@ -27,24 +28,20 @@ loop-holds : tie.Need-loop-holds Inv-loop μ-loop
 loop-holds c = search (turns, sums, needs)
 
 -- src/lib.rt:39:17
-shared-slice-read-b : tie.Need-shared-slice-read-b Inv-loop μ-loop
-shared-slice-read-b c = search (turns, sums, needs)
+shared-slice-read-worth : tie.Need-shared-slice-read-worth Inv-loop μ-loop
+shared-slice-read-worth c = search (turns, sums, needs)
+
+-- src/lib.rt:41:13
+worth-requires : tie.Need-worth-requires Inv-loop μ-loop
+worth-requires c κs = search needs
 
 -- src/lib.rt:41:13
 returns : tie.Need-returns Inv-loop μ-loop
 returns c = search (turns, sums)
 
--- src/lib.rt:48:13
-returns-2 : tie.Need-returns-2 Inv-loop μ-loop
-returns-2 c = search (turns, sums)
-
 -- src/lib.rt:54:13
 mul-v : tie.Need-mul-v Inv-loop μ-loop
 mul-v c = search (turns, sums, needs)
-
--- src/lib.rt:54:22
-cast-v : tie.Need-cast-v Inv-loop μ-loop
-cast-v c = search (turns, sums, needs)
 
 -- src/lib.rt:54:13
 add-v : tie.Need-add-v Inv-loop μ-loop
@@ -53,10 +50,6 @@ add-v c = search (turns, sums, needs)
 -- src/lib.rt:55:15
 mul-sum : tie.Need-mul-sum Inv-loop μ-loop
 mul-sum c = search (turns, sums, needs)
-
--- src/lib.rt:55:25
-cast-sum : tie.Need-cast-sum Inv-loop μ-loop
-cast-sum c = search (turns, sums, needs)
 
 -- src/lib.rt:55:15
 add-sum : tie.Need-add-sum Inv-loop μ-loop
@@ -75,8 +68,8 @@ loop-again : tie.Need-loop-again Inv-loop μ-loop
 loop-again c = search (turns, sums, needs)
 
 -- src/lib.rt:30:1
-returns-3 : tie.Need-returns-3 Inv-loop μ-loop
-returns-3 c = search (turns, sums)
+returns-2 : tie.Need-returns-2 Inv-loop μ-loop
+returns-2 c = search (turns, sums)
 
 pub sum-run-spec : {M : Type 1} → statement M
 sum-run-spec =
@@ -86,16 +79,14 @@ sum-run-spec =
     μ-loop
     stop-of-requires
     loop-holds
-    shared-slice-read-b
+    shared-slice-read-worth
+    worth-requires
     returns
-    returns-2
     mul-v
-    cast-v
     add-v
     mul-sum
-    cast-sum
     add-sum
     add-i
     loop-less
     loop-again
-    returns-3)
+    returns-2)
