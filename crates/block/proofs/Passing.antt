@@ -1,18 +1,17 @@
 -- What is sought, counted or tested from a place on is the same from a later one, if nothing of it stands between. Assumes nothing.
 use mathlib.Core.Path.{_≡_, refl, sym, ap, _∙_}
-use mathlib.Core.Bool.{Bool, true, false}
+use mathlib.Core.Bool.{Bool, true, false, not}
 use mathlib.Core.List.{List, [], _∷_}
 use Prim.Native.Nat.{ℕ, zero, suc, _+_, _-_, _≤_, _<_}
 use native.Mathlib.Nat.{add-zero}
-use native.Mathlib.Numerals.{add-one}
 use native.Mathlib.Omega.{arith}
 use lib.Dec.{eqb}
 use lib.ListN.{length, take, drop, length-drop}
 use lib.Seq.{drop-drop}
-use borrow.Author.Tests.{not-true}
+use borrow.Author.Tests.{eq-eqb, not-true}
 use Rattle.base.specs.Pick.{pick}
-use Rattle.base.specs.Seek.{all, starts, seek}
-use Rattle.base.proofs.Seek.{all-head, all-tail}
+use Rattle.base.specs.Seek.{all, seek}
+use Rattle.base.proofs.Seek.{all-head, all-tail, seek-over}
 use Rattle.paper.specs.Texts.{others}
 use Rattle.block.specs.Blocks.{isOther, Skips}
 
@@ -24,14 +23,8 @@ all-behind p zero s h = refl
 all-behind p (suc k) [] h = refl
 all-behind p (suc k) (x ∷ s) h = simp (all-head p x (take k s) h) (all-behind p k s (all-tail p x (take k s) h))
 
-seek-behind : (b k : ℕ) (s : List ℕ) → k ≤ length s → all (isOther b) (take k s) ≡ true → seek (b ∷ []) s ≡ k + seek (b ∷ []) (drop k s)
-unfolding seek starts pick
-seek-behind b zero s l h = omega arith
-seek-behind b (suc k) [] l h = absurd (omega arith)
-seek-behind b (suc k) (x ∷ s) l h =
-    let n : eqb x b ≡ false = not-true (eqb x b) (all-head (isOther b) x (take k s) h) in
-    let r = seek-behind b k s (omega arith) (all-tail (isOther b) x (take k s) h) in
-    simp n (omega arith)
+itself : (b : ℕ) → isOther b b ≡ false
+itself b = ap not (eq-eqb b b refl)
 
 others-behind : (at k : ℕ) (s : List ℕ) → all (isOther 124) (take k s) ≡ true → length (others at s) ≡ length (others (at + k) (drop k s))
 unfolding others pick
@@ -57,7 +50,7 @@ module _ (s : List ℕ) (at r : ℕ) where
   seek-skipped b k =
       let f = k .from in
       let l = k .inside in
-      let e = seek-behind b (r - at) (drop at s) (omega (arith, length-drop at s)) (k .between) in
+      let e = seek-over (isOther b) b (itself b) (r - at) (drop at s) (omega (arith, length-drop at s)) (k .between) in
       let g = ap (seek (b ∷ [])) (drops (k .from)) in
       omega arith
 

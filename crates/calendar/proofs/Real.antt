@@ -1,13 +1,12 @@
 -- What a real day is made of, and in which years there is a 29 February. Assumes nothing.
-use mathlib.Core.Path.{_≡_, refl, sym, _∙_}
-use mathlib.Core.Bool.{Bool, true, false}
+use mathlib.Core.Path.{_≡_, _∙_}
+use mathlib.Core.Bool.{true}
 use Prim.Native.Nat.{ℕ, _-_, _%_, _≤_}
 use native.Mathlib.Omega.{arith}
 use lib.Dec.{eqb, leb}
 use borrow.Author.Tests.{ltb-false, leb-true, le-ltb, le-leb, eq-eqb, ne-eqb}
 use Rattle.base.specs.Pick.{pick}
-use Rattle.base.proofs.Cases.{by-eq, picks}
-use Rattle.base.proofs.Seek.{never}
+use Rattle.base.proofs.Cases.{by-eq, picks, pick-not}
 use Rattle.paper.specs.Days.{leap, monthDays, realDay, yearOf, monthOf, dayOf}
 
 -- the parts of a real day
@@ -19,20 +18,14 @@ pub record Parts (d : ℕ) : Type 0 where
   pub low : 1 ≤ dayOf d
   pub high : dayOf d ≤ monthDays (yearOf d) (monthOf d)
 
--- a test that must fail, before the rest
-refused : (t u : Bool) → pick t false u ≡ true → (t ≡ false) × (u ≡ true)
-unfolding pick
-refused true u e = never (sym e)
-refused false u e = (refl, e)
-
 pub parts : (d : ℕ) → realDay d ≡ true → Parts d
 unfolding realDay
 parts d r =
-    let a = refused _ _ r in
-    let b = refused _ _ (a .1) in
-    let e = refused _ _ (b .1) in
-    let f = refused _ _ (e .1) in
-    let g = refused _ _ (f .1) in
+    let a = pick-not _ _ r in
+    let b = pick-not _ _ (a .1) in
+    let e = pick-not _ _ (b .1) in
+    let f = pick-not _ _ (e .1) in
+    let g = pick-not _ _ (f .1) in
     record {
       from = ltb-false _ _ (a .0);
       to = ltb-false _ _ (b .0);

@@ -2,12 +2,10 @@
 use mathlib.Core.Path.{_≡_, refl, sym, ap, _∙_}
 use mathlib.Core.Bool.{Bool, true, false}
 use mathlib.Core.List.{List, [], _∷_}
-use Prim.Native.Nat.{ℕ, zero, suc, _+_, _≤_, _<_}
+use Prim.Native.Nat.{ℕ, zero, suc, _≤_, _<_}
 use native.Mathlib.Omega.{arith}
-use lib.Dec.{eqb}
-use lib.ListN.{length, getD, take, drop, length-take}
+use lib.ListN.{length, getD, take, length-take}
 use lib.Seq.{take-take, getD-take, length-take-le}
-use borrow.Author.Tests.{eqb-true}
 use Rattle.base.specs.Pick.{pick}
 use Rattle.base.specs.Seek.{all, starts, seek}
 use Rattle.base.proofs.Cases.{by-test}
@@ -59,19 +57,6 @@ pub all-at : (p : ℕ → Bool) (s : List ℕ) (i : ℕ) → all p s ≡ true �
 all-at p [] i h l = absurd (omega arith)
 all-at p (x ∷ s) zero h l = all-head p x s h
 all-at p (x ∷ s) (suc i) h l = all-at p s i (all-tail p x s h) (omega arith)
-
--- a byte b that is no digit is not among digits
-module _ (b : ℕ) (n : isDigit b ≡ false) where
-  other : (x : ℕ) → isDigit x ≡ true → eqb x b ≡ false
-  other x h = by-test (eqb x b) (λ e. never (sym h ∙ ap isDigit (eqb-true x b e) ∙ n)) (λ e. e)
-
-  pub seek-over : (k : ℕ) (s : List ℕ) → k ≤ length s → all isDigit (take k s) ≡ true → seek (b ∷ []) s ≡ k + seek (b ∷ []) (drop k s)
-  unfolding seek starts pick
-  seek-over zero [] l h = refl
-  seek-over zero (x ∷ s) l h = omega arith
-  seek-over (suc k) [] l h = absurd (omega arith)
-  seek-over (suc k) (x ∷ s) l h =
-      simp (other x (all-head isDigit x (take k s) h)) (omega (arith, seek-over k s (omega arith) (all-tail isDigit x (take k s) h)))
 
 -- a field that ends at once, or does not
 pub field-ends : (s : List ℕ) → null (fieldOf s) ≡ true → seek space s ≡ 0

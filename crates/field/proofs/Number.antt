@@ -3,13 +3,12 @@ use mathlib.Core.Path.{_≡_, refl, sym, ap, _∙_}
 use mathlib.Core.Bool.{Bool, true, false}
 use mathlib.Core.List.{List, [], _∷_}
 use Prim.Native.Nat.{ℕ, _+_, _-_, _^_, _≤_, _<_}
-use native.Mathlib.Nat.{add-zero}
 use native.Mathlib.Omega.{arith}
 use lib.ListN.{length, getD, take, drop, length-drop}
 use lib.Seq.{drop-drop, getD-take}
 use Rattle.base.specs.Pick.{pick}
 use Rattle.base.specs.Seek.{all, seek}
-use Rattle.base.proofs.Seek.{never, seek-le}
+use Rattle.base.proofs.Seek.{never, seek-le, seek-over}
 use Rattle.paper.specs.Read.{Field, value, fault}
 use Rattle.paper.specs.Bytes.{isDigit, space, fieldOf, null}
 use Rattle.paper.specs.Numerals.{digitsOn, digits}
@@ -17,7 +16,7 @@ use Rattle.numeral.proofs.Digits.{in-range, too-short}
 use Rattle.numeral.proofs.Sound.{read-on, digits-plain, digits-most, digits-sound, digits-fault}
 use Rattle.field.specs.At.{At, found, missed, ending, fieldAt}
 use Rattle.field.specs.Digits.{run}
-use Rattle.field.proofs.Front.{run-digits, run-within, run-most, run-is, run-stop, all-at, seek-over, field-ends, field-goes, field-long}
+use Rattle.field.proofs.Front.{run-digits, run-within, run-most, run-is, run-stop, all-at, field-ends, field-goes, field-long}
 
 -- what is known of a run's number v and end e
 module _ (s : List ℕ) (at most e v : ℕ) (h : e ≡ at + length (run most (drop at s))) where
@@ -38,7 +37,7 @@ module _ (s : List ℕ) (at most e v : ℕ) (h : e ≡ at + length (run most (dr
   run-over b n =
       let d : drop (length (run most (drop at s))) (drop at s) ≡ drop e s = rw h (drop-drop (length (run most (drop at s))) at s) in
       let a : all isDigit (take (length (run most (drop at s))) (drop at s)) ≡ true = rw (← (run-is most (drop at s))) (run-digits most (drop at s)) in
-      let o = seek-over b n (length (run most (drop at s))) (drop at s) (run-within most (drop at s)) a in
+      let o = seek-over isDigit b n (length (run most (drop at s))) (drop at s) (run-within most (drop at s)) a in
       let z = rw d at o in
       omega arith
 

@@ -1,18 +1,16 @@
 -- One step of an answer r through a reader of a line, for `search`: s is the line, and n what a callee answered. Assumes nothing.
-use mathlib.Core.Path.{_≡_, refl, sym, ap, _∙_}
-use mathlib.Core.Bool.{Bool, true, false}
-use mathlib.Core.List.{List, [], _∷_}
+use mathlib.Core.Path.{_≡_, sym, ap, _∙_}
+use mathlib.Core.List.{List}
 use Prim.Native.Nat.{ℕ, suc, _+_, _-_, _^_, _≤_, _<_}
 use native.Mathlib.Numerals.{add-one}
 use native.Mathlib.Omega.{arith}
-use lib.Dec.{ltb}
 use lib.ListN.{length, getD, take, drop, drop-of-length-le, length-drop}
-use lib.Seq.{drop-cons, drop-drop, take-all}
+use lib.Seq.{drop-cons, drop-drop}
 use borrow.Author.Tests.{lt-ltb, le-ltb}
-use Rattle.base.specs.Pick.{pick}
 use Rattle.base.specs.Seek.{seek}
 use Rattle.base.proofs.Cases.{pick-true, pick-false, picks}
 use Rattle.base.proofs.Seek.{seek-within}
+use Rattle.base.proofs.Lists.{drop-none}
 use Rattle.paper.specs.Read.{Field, value, fault, given}
 use Rattle.paper.specs.Bytes.{space, fieldOf, restOf}
 use Rattle.paper.specs.Numerals.{digits}
@@ -25,10 +23,6 @@ use Rattle.field.specs.At.{At, found, missed, ending, fieldAt}
 use Rattle.field.specs.declared.NumAt.{NumAt}
 use Rattle.field.specs.declared.NumAt.the-variants.{Value, Refused}
 use Rattle.field.specs.Told.{told}
-
-pub drop-none : (s : List ℕ) → drop 0 s ≡ s
-drop-none [] = refl
-drop-none (x ∷ s) = refl
 
 -- ---- a field that is read at its place
 
@@ -149,10 +143,4 @@ module _ {A : Type 0} (r : Said) (n : ℕ) (read : List ℕ → Field A) (s : Li
   unfolding place
   step-no-place l h q = q ∙ sym (pick-true _ _ (lt-ltb (length (drop at s)) n (omega (arith, length-drop at s))))
 
--- the rest of the line as a part of it
-pub rest-whole : (s : List ℕ) (at : ℕ) → take (length s - at) (drop at s) ≡ drop at s
-rest-whole s at = take-all (length s - at) (drop at s) (omega (arith, length-drop at s))
-
 pub ruleset steps = (step-value, step-refused, first-value, first-refused, step-gap, step-no-gap, step-end, step-no-end, picks)
-
-pub ruleset places = (step-place, step-no-place, step-known, step-unknown, step-given, step-fault, picks)

@@ -3,8 +3,6 @@ use mathlib.Core.Path.{_≡_, refl, sym, ap, _∙_}
 use mathlib.Core.Bool.{Bool, true, false}
 use mathlib.Core.List.{List, [], _∷_, _++_}
 use Prim.Native.Nat.{ℕ, zero, suc, _+_, _-_, _*_, _/_, _%_, _^_, _≤_, _<_}
-use native.Mathlib.Nat.{add-zero}
-use native.Mathlib.Numerals.{add-one}
 use native.Mathlib.Omega.{arith}
 use lib.Dec.{eqb, ltb}
 use lib.ListN.{length, take, drop, take-append-drop, length-take, length-drop, length-append}
@@ -13,8 +11,7 @@ use borrow.Author.Tests.{lt-ltb, le-ltb}
 use Rattle.base.specs.Pick.{pick}
 use Rattle.base.specs.Seek.{all, starts, seek, before}
 use Rattle.base.proofs.Cases.{by-test, by-lt, either, pick-true, pick-false}
-use Rattle.base.proofs.Seek.{all-take, all-drop, seek-join}
-use Rattle.given.proofs.Given.{given-on, given-not}
+use Rattle.base.proofs.Seek.{all-take, all-drop, seek-join, seek-over}
 use Rattle.paper.specs.Read.{Field, value, fault, given}
 use Rattle.paper.specs.Bytes.{isDigit, dash}
 use Rattle.paper.specs.Numerals.{digits}
@@ -22,7 +19,6 @@ use Rattle.paper.specs.Accounts.{Account, ruled, twoParts, onePart, readAccount
 use Rattle.numeral.proofs.Digits.{in-range, too-short, too-long}
 use Rattle.numeral.proofs.Sound.{same, read-on, digits-plain, digits-most, digits-sound, digits-reads}
 use Rattle.numeral.proofs.Split.{digits-split}
-use Rattle.field.proofs.Front.{seek-over}
 use Rattle.field_account.specs.Parts.{undashed, withBase}
 
 -- a number of so many digits, where other counts are allowed
@@ -43,7 +39,7 @@ module _ (d : List ℕ) (v : ℕ) (g : digits 0 16 d ≡ value v) where
   unfolding isDigit pick seek
   no-dash =
       let a : all isDigit (take (length d) d) ≡ true = rw take-length (digits-plain 0 16 d v g) in
-      seek-over 45 refl (length d) d (omega arith) a ∙ rw drop-length (omega arith)
+      seek-over isDigit 45 refl (length d) d (omega arith) a ∙ rw drop-length (omega arith)
 
   module _ (joined : Bool) (least : ℕ) where
     bare : readAccount joined least d ≡ pick (pick joined (ltb 10 (length d)) false) (twoParts 10 (take (length d - 10) d) (drop (length d - 10) d)) (onePart least d)

@@ -3,11 +3,12 @@ use mathlib.Core.Path.{_≡_, sym, _∙_}
 use mathlib.Core.List.{List}
 use Prim.Native.Nat.{ℕ, _≤_}
 use lib.ListN.{length, drop}
+use Rattle.base.proofs.Lists.{drop-none}
 use Rattle.paper.specs.Read.{Field}
 use Rattle.paper.specs.Accounts as paper
 use Rattle.paper.specs.Entries.{Said, no, field}
 use Rattle.field.specs.At.{fieldAt}
-use Rattle.field.proofs.Steps.{drop-none, step-found, step-missed, found-within}
+use Rattle.field.proofs.Steps.{step-found, step-missed, found-within}
 use Rattle.field_account.specs.declared.AcctAt.{AcctAt}
 use Rattle.field_account.specs.declared.AcctAt.the-variants.{Account, Refused}
 use Rattle.field_account.specs.Told.{told}

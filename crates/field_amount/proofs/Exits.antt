@@ -11,6 +11,7 @@ use borrow.Author.Tests.{le-ltb}
 use Rattle.base.specs.Pick.{pick}
 use Rattle.base.specs.Seek.{all, seek}
 use Rattle.base.proofs.Cases.{either, pick-false}
+use Rattle.base.proofs.Seek.{seek-over}
 use Rattle.paper.specs.Read.{Field, value, fault, given}
 use Rattle.paper.specs.Bytes.{isDigit, comma, fieldOf}
 use Rattle.paper.specs.Numerals.{digits}
@@ -20,7 +21,6 @@ use Rattle.field.specs.At.{At, found, ending, fieldAt}
 use Rattle.field.specs.declared.NumAt.{NumAt}
 use Rattle.field.specs.declared.NumAt.the-variants.{Value}
 use Rattle.field.specs.Told.{told}
-use Rattle.field.proofs.Front.{seek-over}
 use Rattle.field.proofs.Steps.{found-value, found-end}
 
 module _ (may : Bool) (most max : ℕ) where
@@ -29,7 +29,7 @@ module _ (may : Bool) (most max : ℕ) where
   unfolding readAmount isDigit pick seek
   plain-amount f v g =
       let a : all isDigit (take (length f) f) ≡ true = rw take-length (digits-plain 1 most f v g) in
-      let n : seek comma f ≡ length f = seek-over 44 refl (length f) f (omega arith) a ∙ rw drop-length (omega arith) in
+      let n : seek comma f ≡ length f = seek-over isDigit 44 refl (length f) f (omega arith) a ∙ rw drop-length (omega arith) in
       let o : pick may (ltb (seek comma f) (length f)) false ≡ false = either (λ x. x ≡ false) may (λ j. le-ltb (seek comma f) (length f) (omega arith)) (λ j. refl) in
       pick-false _ _ o ∙ g
 

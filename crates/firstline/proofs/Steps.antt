@@ -1,7 +1,7 @@
 -- One step of an answer r through the fields of a first line, for `search`. Assumes nothing.
 use mathlib.Core.Path.{_≡_, refl, sym, ap, _∙_}
 use mathlib.Core.Bool.{Bool, true, false}
-use mathlib.Core.List.{List, [], _∷_}
+use mathlib.Core.List.{List}
 use Prim.Native.Nat.{ℕ, _-_, _≤_, _<_}
 use native.Mathlib.Omega.{arith}
 use lib.Dec.{ltb}
@@ -10,6 +10,7 @@ use borrow.Author.Tests.{lt-ltb, le-ltb}
 use Rattle.base.specs.Pick.{pick}
 use Rattle.base.specs.Seek.{all}
 use Rattle.base.proofs.Cases.{pick-true, picks}
+use Rattle.base.proofs.Lists.{drop-none}
 use Rattle.paper.specs.Read.{Field, value, fault}
 use Rattle.paper.specs.Bytes.{isText}
 use Rattle.paper.specs.Days.{shortDay, readDay}
@@ -21,10 +22,6 @@ use Rattle.numeral.specs.Told.{told}
 use Rattle.given.proofs.Steps.{steps}
 use Rattle.field.proofs.Steps.{step-place, step-no-place, step-given, step-fault}
 use Rattle.firstline.specs.Stages.{restTaken}
-
-drop-none : (s : List ℕ) → drop 0 s ≡ s
-drop-none [] = refl
-drop-none (x ∷ s) = refl
 
 -- a line that ends before the date does
 pub step-no-date : {A : Type 0} (r : Said) (read : List ℕ → Field A) (s : List ℕ) (k : A → ℕ → List ℕ → Said) → length s < 10 → r ≡ no 4 4 → r ≡ place 6 read 4 (drop 4 s) k

@@ -5,6 +5,7 @@ use mathlib.Core.List.{List}
 use Prim.Native.Nat.{ℕ, _≤_}
 use native.Mathlib.Omega.{arith}
 use lib.ListN.{length, drop}
+use Rattle.base.proofs.Lists.{drop-none}
 use Rattle.sheet.specs.declared.Style.{Style}
 use Rattle.sheet.specs.declared.Sheet.{Sheet}
 use Rattle.paper.specs.Accounts as paper
@@ -21,7 +22,7 @@ use Rattle.field.specs.At.{fieldAt}
 use Rattle.field.specs.declared.NumAt.{NumAt}
 use Rattle.field.specs.declared.NumAt.the-variants as num
 use Rattle.field.specs.Told as number
-use Rattle.field.proofs.Steps.{drop-none, step-known, step-unknown, found-value, number-within, steps}
+use Rattle.field.proofs.Steps.{step-known, step-unknown, found-value, number-within, steps}
 use Rattle.field_account.proofs.Steps.{accounts, account-within}
 use Rattle.field_bank.specs.declared.BankAt.{BankAt}
 use Rattle.field_bank.specs.declared.BankAt.the-variants as bank
@@ -32,6 +33,7 @@ use Rattle.text.specs.declared.TextRead.the-variants as text
 use Rattle.text.specs.Told as texts
 use Rattle.span.specs.declared.Spans.{Spans}
 use Rattle.span.specs.Held.{Held, textsAt}
+use Rattle.wording.proofs.Warnings.{text-warnings}
 use Rattle.tail.specs.Told.{tailOf}
 use Rattle.tail.proofs.Steps.{onward, text-within}
 use Rattle.itemline.specs.declared.Front.{Front}
@@ -40,7 +42,6 @@ use Rattle.itemline.specs.declared.PayerRead.{PayerRead}
 use Rattle.itemline.specs.declared.PayerRead.the-variants as before
 use Rattle.itemline.specs.Told.{noSpans, told, Kept, toldPayer, InsidePayer}
 use Rattle.itemline.specs.Stages.{withTexts, says, withTail, fromBank, fromVariable, fromAmount, payerFirst, fromPayee, byPieces}
-use Rattle.itemline.proofs.Texts.{text-warnings}
 
 -- ---- the amount is low, and the bank field warns once at most
 

@@ -9,7 +9,7 @@ use lib.ListN.{length, getD}
 use borrow.Author.Tests.{ne-eqb}
 use Rattle.base.specs.Pick.{pick}
 use Rattle.base.specs.Seek.{starts}
-use Rattle.base.proofs.Cases.{by-test}
+use Rattle.base.proofs.Cases.{by-test, pick-same as same}
 use Rattle.paper.specs.Entries.{Kind, headLine, fileLine, groupLine, itemLine, groupEnd, fileEnd, kindOf}
 
 -- a test that is decided, whose two answers are the same, or that is its own answer
@@ -20,11 +20,6 @@ yes a b = refl
 not : {A : Type 0} (a b : A) → pick false a b ≡ b
 unfolding pick
 not a b = refl
-
-same : {A : Type 0} (t : Bool) (a : A) → pick t a a ≡ a
-unfolding pick
-same true a = refl
-same false a = refl
 
 as-is : (t : Bool) → pick t true false ≡ t
 unfolding pick

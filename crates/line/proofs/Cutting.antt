@@ -11,12 +11,12 @@ use borrow.Author.Tests.{eqb-true, leb-true, ne-eqb}
 use Rattle.base.specs.Pick.{pick}
 use Rattle.base.specs.Seek.{all}
 use Rattle.base.proofs.Cases.{by-test, by-lt}
-use Rattle.base.proofs.Seek.{never, all-cons, all-append}
+use Rattle.base.proofs.Seek.{never, all-cons, all-append, all-weaker}
 use Rattle.paper.specs.Lines.{line, startsLF, ended, behind, linesOf, linesFrom}
 use Rattle.block.specs.Blocks.{isHigh, Skips}
 use Rattle.line.specs.declared.Cut.{Cut}
 use Rattle.line.specs.Cutting.{isPlain, Cuts}
-use Rattle.line.proofs.Plain.{high-plain, all-weaker}
+use Rattle.line.proofs.Plain.{high-plain}
 use Rattle.line.proofs.Lines.{line-joined, line-last, at-end}
 
 abbrev cutAt : ℕ → ℕ → Cut

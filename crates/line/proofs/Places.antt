@@ -5,7 +5,8 @@ use Prim.Native.Nat.{ℕ, zero, suc, _+_, _-_, _≤_, _<_}
 use native.Mathlib.Omega.{arith}
 use lib.ListN.{length, take, drop, length-drop}
 use Rattle.base.proofs.Cases.{either}
-use Rattle.paper.specs.Lines.{Line, line, first, ended, behind, linesOf, linesFrom}
+use Rattle.base.proofs.Lists.{empty-cons}
+use Rattle.paper.specs.Lines.{Line, line, first, ended, behind, linesOf}
 
 -- the line t stands in f
 pub record Stands (f : List ℕ) (t : Line) : Type 0 where
@@ -25,9 +26,6 @@ From i (t ∷ ts) = t .start ≡ i
 record Good (f : List ℕ) (i : ℕ) (ts : List Line) : Type 0 where
   stand : Stand f ts
   from : From i ts
-
-empty-cons : {b : ℕ} {s : List ℕ} {A : Type 0} → [] ≡ b ∷ s → A
-empty-cons e = let z : _≡_ {A = ℕ} 0 1 = cc in absurd (omega arith)
 
 drop-next : (f : List ℕ) (i b : ℕ) (s : List ℕ) → drop i f ≡ b ∷ s → drop (suc i) f ≡ s
 drop-next [] zero b s e = empty-cons e
@@ -72,8 +70,3 @@ lines-good f (b ∷ s) i e =
 
 pub lines-stand : (f : List ℕ) → Stand f (linesOf 0 f)
 lines-stand f = lines-good f f 0 refl .stand
-
--- the same of the lines from any place on
-pub lines-stand-from : (f : List ℕ) (at : ℕ) → Stand f (linesFrom f at)
-unfolding linesFrom
-lines-stand-from f at = lines-good f (drop at f) at refl .stand

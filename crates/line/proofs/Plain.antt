@@ -1,7 +1,7 @@
 -- Bytes that end no line: text bytes and digits are such. Assumes nothing.
-use mathlib.Core.Path.{_≡_, refl, sym}
-use mathlib.Core.Bool.{Bool, true, false}
-use mathlib.Core.List.{List, [], _∷_}
+use mathlib.Core.Path.{_≡_, sym}
+use mathlib.Core.Bool.{true, false}
+use mathlib.Core.List.{List}
 use Prim.Native.Nat.{ℕ, _<_}
 use native.Mathlib.Omega.{arith}
 use lib.Dec.{eqb, ltb}
@@ -9,7 +9,7 @@ use borrow.Author.Tests.{ltb-false, ne-eqb, not-true}
 use Rattle.base.specs.Pick.{pick}
 use Rattle.base.specs.Seek.{all}
 use Rattle.base.proofs.Cases.{by-test}
-use Rattle.base.proofs.Seek.{never, all-head, all-tail, all-cons}
+use Rattle.base.proofs.Seek.{never, all-weaker}
 use Rattle.paper.specs.Bytes.{isText, isDigit}
 use Rattle.line.specs.Cutting.{isPlain}
 
@@ -39,12 +39,6 @@ pub digit-plain : (b : ℕ) → isDigit b ≡ true → isPlain b ≡ true
 unfolding isDigit pick
 digit-plain b t =
     by-test (ltb b 48) (λ e. never (sym (simp e at t))) (λ e. high-plain b (omega (arith, ltb-false b 48 e)))
-
--- what each byte has that passes one test, a text has whose bytes do
-pub all-weaker : (p q : ℕ → Bool) → ((b : ℕ) → p b ≡ true → q b ≡ true) → (s : List ℕ) → all p s ≡ true → all q s ≡ true
-unfolding all
-all-weaker p q w [] h = refl
-all-weaker p q w (b ∷ s) h = all-cons q b s (w b (all-head p b s h)) (all-weaker p q w s (all-tail p b s h))
 
 pub texts-plain : (s : List ℕ) → all isText s ≡ true → all isPlain s ≡ true
 texts-plain = all-weaker isText isPlain text-plain

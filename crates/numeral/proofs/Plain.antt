@@ -1,14 +1,14 @@
 -- Spelled numbers are digits alone, and digits hold no other byte. Assumes nothing.
-use mathlib.Core.Path.{_≡_, refl, sym, ap, _∙_}
+use mathlib.Core.Path.{_≡_, refl, sym}
 use mathlib.Core.Bool.{true, false}
 use mathlib.Core.List.{List, [], _∷_}
 use Prim.Native.Nat.{ℕ, zero, suc, _+_, _/_, _%_, _≤_}
 use native.Mathlib.Omega.{arith}
-use borrow.Author.Tests.{lt-ltb, le-ltb, le-leb, lt-leb, ne-eqb}
+use borrow.Author.Tests.{lt-ltb, le-ltb, le-leb, lt-leb}
 use Rattle.base.specs.Pick.{pick}
-use Rattle.base.specs.Seek.{all, starts, seek, Free}
+use Rattle.base.specs.Seek.{all, Free}
 use Rattle.base.proofs.Cases.{by-lt}
-use Rattle.base.proofs.Seek.{never, all-head, all-tail, all-cons, free-cons}
+use Rattle.base.proofs.Seek.{never, all-cons, free-all}
 use Rattle.paper.specs.Bytes.{isDigit}
 use Rattle.paper.specs.Numerals.{decOn, decimal, fixedOn, fixed}
 
@@ -26,12 +26,7 @@ range-digit x lo hi = simp (le-ltb x 48 lo, le-leb x 57 hi)
 
 -- a byte that is no digit stands nowhere among digits
 pub digit-free : (q : ℕ) (s : List ℕ) → all isDigit s ≡ true → isDigit q ≡ false → Free (q ∷ []) s
-unfolding seek starts pick
-digit-free q [] h n = refl
-digit-free q (x ∷ s) h n =
-    free-cons (q ∷ []) x s
-    (simp (ne-eqb x q (λ e. never (sym (all-head isDigit x s h) ∙ ap isDigit e ∙ n))))
-    (digit-free q s (all-tail isDigit x s h) n)
+digit-free q s h n = free-all isDigit q n s h
 
 fixed-on : (k n : ℕ) (s : List ℕ) → all isDigit s ≡ true → all isDigit (fixedOn k n s) ≡ true
 unfolding fixedOn

@@ -5,8 +5,8 @@ use mathlib.Core.List.{List}
 use Prim.Native.Nat.{ℕ, _+_, _*_, _-_, _≤_}
 use native.Mathlib.Omega.{arith}
 use lib.ListN.{length, take, drop, length-drop}
-use lib.Seq.{take-all}
 use Rattle.base.specs.Put.{Wrote}
+use Rattle.base.proofs.Lists.{rest-whole}
 use Rattle.sheet.specs.declared.Sheet.{Sheet}
 use Rattle.sheet.specs.declared.Known.the-variants as known
 use Rattle.sheet.specs.Sheets.{sheetOf}
@@ -81,9 +81,6 @@ module _ (f : List ℕ) (q : Request) (g : answer f q ≡ rewriting f) (sound : 
     said : Sound f (request.File sh today at)
     said = rw e at sound
 
-    rest : take (length f - at) (drop at f) ≡ drop at f
-    rest = take-all (length f - at) (drop at f) (omega (arith, length-drop at f))
-
     pub file-place : at ≤ length f
     file-place = said .2
 
@@ -94,12 +91,12 @@ module _ (f : List ℕ) (q : Request) (g : answer f q ≡ rewriting f) (sound : 
     file-day = said .1
 
     pub file-small : length (take (length f - at) (drop at f)) ≤ mostInput
-    file-small = rw rest (let l : length f ≤ 8192 = said .3 in omega (arith, l, length-drop at f))
+    file-small = rw (rest-whole f at) (let l : length f ≤ 8192 = said .3 in omega (arith, l, length-drop at f))
 
     pub file-rewritten : (o o′ : List ℕ) (r : ℕ) → Wrote o 0 (rewritten sh (judge sh today (take (length f - at) (drop at f)))) o′ r → Wrote o 0 (rewriting f) o′ r
     file-rewritten o o′ r w =
         let h : answer f (request.File sh today at) ≡ rewriting f = rw e at g in
-        let v : Wrote o 0 (rewritten sh (judge sh today (drop at f))) o′ r = rw rest at w in
+        let v : Wrote o 0 (rewritten sh (judge sh today (drop at f))) o′ r = rw (rest-whole f at) at w in
         wrote-same o (rewritten sh (judge sh today (drop at f))) (rewriting f) o′ r h v
 
 pub ruleset requests = (line-room, no-file, file-place, file-sheet, file-day, file-small, file-rewritten)

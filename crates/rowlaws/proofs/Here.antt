@@ -5,16 +5,14 @@ use Prim.Native.Nat.{ℕ, zero, suc, _+_, _≤_}
 use native.Mathlib.Omega.{arith}
 use lib.ListN.{length, take, drop, length-take, length-drop}
 use lib.Seq.{drop-drop, take-length}
+use Rattle.base.proofs.Lists.{empty-cons}
 use Rattle.rowlaws.specs.Places.{Here}
-
-nothing : {x : ℕ} {s : List ℕ} {A : Type 0} → [] ≡ x ∷ s → A
-nothing e = let z : _≡_ {A = ℕ} 0 1 = cc in absurd (omega arith)
 
 -- s is how u begins: so is what s begins with
 front : (n : ℕ) (s u : List ℕ) → take (length s) u ≡ s → take (length (take n s)) u ≡ take n s
 front zero s u e = refl
 front (suc n) [] u e = refl
-front (suc n) (x ∷ s) [] e = nothing e
+front (suc n) (x ∷ s) [] e = empty-cons e
 front (suc n) (x ∷ s) (y ∷ u) e =
     let a : y ≡ x = cc in
     let b : take (length s) u ≡ s = cc in
@@ -24,7 +22,7 @@ front (suc n) (x ∷ s) (y ∷ u) e =
 back : (n : ℕ) (s u : List ℕ) → take (length s) u ≡ s → take (length (drop n s)) (drop n u) ≡ drop n s
 back zero s u e = e
 back (suc n) [] u e = refl
-back (suc n) (x ∷ s) [] e = nothing e
+back (suc n) (x ∷ s) [] e = empty-cons e
 back (suc n) (x ∷ s) (y ∷ u) e = back n s u (cc)
 
 module _ (w : List ℕ) (at : ℕ) (s : List ℕ) (h : Here w at s) where

@@ -3,27 +3,21 @@ use mathlib.Core.Path.{_≡_, refl, sym, ap, _∙_}
 use mathlib.Core.Bool.{false}
 use mathlib.Core.List.{List, [], _∷_, map}
 use Prim.Native.Nat.{ℕ, zero, suc, _+_, _-_, _≤_, _<_}
-use native.Mathlib.Nat.{sub-zero, suc-sub-suc, zero-sub}
 use native.Mathlib.Omega.{arith}
 use lib.Dec.{eqb, ltb}
 use lib.ListN.{length, take, drop, drop-of-length-le, length-take, length-drop}
-use lib.Seq.{drop-drop, take-take, take-all, take-nil}
+use lib.Seq.{drop-drop, take-take, take-all}
 use borrow.Author.Tests.{ltb-true, ltb-false, eqb-true, eqb-false, lt-ltb, le-ltb}
 use Rattle.base.specs.Pick.{pick}
 use Rattle.base.specs.Seek.{starts, seek, before}
 use Rattle.base.proofs.Cases.{by-test, by-lt}
 use Rattle.base.proofs.Seek.{seek-le, seek-within}
+use Rattle.base.proofs.Lists.{drop-take}
 use Rattle.paper.specs.Bytes.{bar, null}
 use Rattle.paper.specs.Texts.{Piece, piece, Texts, others, divide, cut, over, overs, pad}
 use Rattle.span.specs.Held.{pieceAt, textsAt, Within, Held}
 use Rattle.span.specs.Places.{partTo, partAt, placed, longer, foundAt, fourFrom}
 use Rattle.span.proofs.Turns.{part-next}
-
-pub drop-take : (a e : ℕ) (t : List ℕ) → drop a (take e t) ≡ take (e - a) (drop a t)
-drop-take zero e t = rw (sub-zero e)
-drop-take (suc a) zero t = rw (zero-sub (suc a))
-drop-take (suc a) (suc e) [] = sym (take-nil (suc e - suc a))
-drop-take (suc a) (suc e) (x ∷ t) = rw (suc-sub-suc e a) (drop-take a e t)
 
 -- bytes within the beginning m of s
 within : (s m : List ℕ) (e a k : ℕ) → m ≡ take e s → a + k ≤ length m → take k (drop a m) ≡ take k (drop a s)

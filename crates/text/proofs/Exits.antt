@@ -1,17 +1,17 @@
 -- The ways out of the functions that read a text. Assumes nothing.
 use mathlib.Core.Path.{_≡_, refl, sym, _∙_}
 use mathlib.Core.Bool.{Bool, true, false}
-use mathlib.Core.List.{List, [], _∷_}
+use mathlib.Core.List.{List, []}
 use Prim.Native.Nat.{ℕ, _+_, _-_, _≤_, _<_}
 use native.Mathlib.Nat.{sub-zero}
 use native.Mathlib.Omega.{arith}
-use lib.Dec.{eqb}
 use lib.ListN.{length, take, drop, drop-of-length-le, length-take, length-drop}
 use lib.Seq.{drop-drop, take-all}
 use Rattle.base.specs.Pick.{pick}
 use Rattle.base.specs.Seek.{all, starts, seek}
-use Rattle.base.proofs.Cases.{by-test, either, pick-both, pick-true, pick-false}
-use Rattle.base.proofs.Seek.{never, seek-le}
+use Rattle.base.proofs.Cases.{either, pick-both, pick-true, pick-false}
+use Rattle.base.proofs.Seek.{seek-le, starts-long}
+use Rattle.base.proofs.Lists.{drop-take}
 use Rattle.sheet.specs.declared.Style.{Style}
 use Rattle.paper.specs.Read.{Field, fault}
 use Rattle.paper.specs.Bytes.{isText, av, np, mark, null}
@@ -20,7 +20,6 @@ use Rattle.text.specs.Told.{told, Inside, Tells}
 use Rattle.text.specs.Finish.{finishAt}
 use Rattle.text.specs.declared.TextRead.{TextRead}
 use Rattle.text.specs.declared.TextRead.the-variants as answer
-use Rattle.span.proofs.Right.{drop-take}
 use Rattle.text.proofs.Right.{tells-same, finish-right}
 
 -- an absent name may have any place
@@ -77,13 +76,6 @@ module _ (y : Style) (s : List ℕ) (from e : ℕ) (h : from ≤ length s) (g : 
         (behind y small s from (messageEnd y (drop from s)) (omega (arith, end-within)) (omega arith))
 
 pub ruleset messages = (end-within, message-bare, message-named)
-
-pub starts-long : (ps s : List ℕ) → starts ps s ≡ true → length ps ≤ length s
-unfolding starts pick
-starts-long [] s h = omega arith
-starts-long (p ∷ ps) [] h = never (sym h)
-starts-long (p ∷ ps) (x ∷ s) h =
-    by-test (eqb x p) (λ e. omega (arith, starts-long ps s (simp e at h))) (λ e. never (sym (simp e at h)))
 
 -- read_marked: b is what only_name answered, c what starts_at did
 module _ (y : Style) (s : List ℕ) (from : ℕ) (h : from ≤ length s) (b : Bool) (g : b ≡ pick (y .names) (starts np (drop from s)) false) where

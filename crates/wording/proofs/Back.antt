@@ -9,7 +9,7 @@ use lib.Seq.{take-all, take-append-seam, drop-append-add}
 use borrow.Author.Tests.{le-ltb}
 use Rattle.base.specs.Pick.{pick}
 use Rattle.base.specs.Seek.{all, starts, seek, Free}
-use Rattle.base.proofs.Cases.{by-test, pick-true, pick-false}
+use Rattle.base.proofs.Cases.{by-test, pick-true, pick-false, pick-same}
 use Rattle.base.proofs.Seek.{never, all-append, all-cons, free-join, starts-self, seek-join}
 use Rattle.sheet.specs.declared.Style.{Style}
 use Rattle.paper.specs.Read.{Field}
@@ -69,12 +69,6 @@ end-back y [] j g f = rw append-nil (by-test (y .names) (λ e. simp e (f e)) (λ
 end-back y (x ∷ n) j g f =
     by-test (y .names) (λ e. simp e (seek-join 32 np refl j (x ∷ n) (f e))) (λ e. let h = g e in cc)
 
--- names are looked for only where names are, and `AV:` is no `NP:`
-no-choice : {A : Type 0} (b : Bool) (a : A) → pick b a a ≡ a
-unfolding pick
-no-choice true a = refl
-no-choice false a = refl
-
 not-name : (t : List ℕ) → starts np (av ++ t) ≡ false
 unfolding starts pick
 not-name t = refl
@@ -87,7 +81,7 @@ module _ (y : Style) (at : ℕ) (t : List ℕ) where
   marked-message : marked y at (av ++ t) ≡ message y (at + 3) t
   unfolding marked
   marked-message =
-      pick-false _ _ (ap (λ (b : Bool). pick (y .names) b false) (not-name t) ∙ no-choice (y .names) false)
+      pick-false _ _ (ap (λ (b : Bool). pick (y .names) b false) (not-name t) ∙ pick-same (y .names) false)
       ∙ pick-true _ _ (starts-self av t)
 
 every-bars : (y : Style) {ps : List (List ℕ)} → Every (Fit y) ps → Every (Free bar) ps
@@ -101,7 +95,7 @@ module _ (y : Style) (n : List ℕ) (short : length n ≤ 35) (some : 0 < y .mos
   finish-back ps q {bs = bs} e f h l =
       record {
         texts = record { parts = pad 4 (map cut ps); name = cut q; warnings = overs ps + over q };
-        reads = pick-false _ _ (le-ltb (y .most) (length ps) many) ∙ pick-true _ _ (rw zero-cut (no-choice (y .cuts) true));
+        reads = pick-false _ _ (le-ltb (y .most) (length ps) many) ∙ pick-true _ _ (rw zero-cut (pick-same (y .cuts) true));
         parts-back = bytes-pad 4 (map cut ps) ∙ ap (fill 4) (bytes-cuts ps ∙ (ap (map (take 35)) e ∙ cut-all y h));
         name-back = bytes-cut (q .place) (q .bytes) ∙ (ap (take 35) f ∙ take-all 35 n short);
         no-warning = zero-cut;
