@@ -5,7 +5,7 @@ use mathlib.Core.List.{List, [], _∷_}
 use Prim.Native.Nat.{ℕ, _+_, _-_, _/_, _≤_, _<_}
 use native.Mathlib.Omega.{arith}
 use lib.Dec.{eqb}
-use lib.ListN.{length, take, drop}
+use lib.ListN.{length, drop}
 use Rattle.base.specs.Pick.{pick}
 use Rattle.base.proofs.Cases.{by-test}
 use Rattle.sheet.specs.declared.Sheet.{Sheet}
@@ -15,6 +15,7 @@ use Rattle.paper.specs.Batch.{Header}
 use Rattle.paper.specs.Lines.{linesFrom}
 use Rattle.paper.specs.Entries.{file, Said, got, no, Kind, headLine, fileLine, groupLine, itemLine, groupEnd, fileEnd, kindOf, onField, field, gap, lineEnd}
 use Rattle.paper.specs.FileLine.{series, numberAllowed, readKind, readNumber, readCode, readFile}
+use Rattle.paper.proofs.Starts.{kind-long}
 use Rattle.numeral.proofs.Sound.{digits-sound}
 use Rattle.given.proofs.Given.{given-value, value-same, value-fault}
 use Rattle.line.specs.declared.Cut.{Cut}
@@ -34,16 +35,12 @@ use Rattle.tally.proofs.Small.{file-limits}
 use Rattle.group.specs.declared.Counts.{Counts}
 use Rattle.group.specs.Stands.{bookOf, lineIn}
 use Rattle.group.proofs.Inside.{file-inside, inside-off}
-use Rattle.group.proofs.Turns.{kind-long, within}
+use Rattle.group.proofs.Turns.{cut as cut-of, within}
 use Rattle.group.proofs.Going.{run-stop, run-on}
 use Rattle.accountfile.specs.declared.Left.{Left}
 use Rattle.accountfile.specs.declared.Left.the-variants as left
 use Rattle.accountfile.specs.Resume.{resume, AtFile, fileMore, endAs, Moved, Stepped}
 use Rattle.accountfile.proofs.Steps.{file-other, file-full, file-got, file-no}
-
--- a line's bytes in the file
-abbrev cut-of : List ℕ → ℕ → ℕ → List ℕ
-cut-of f at stop = take (stop - at) (drop at f)
 
 -- ---- a number has six digits
 
@@ -102,21 +99,17 @@ series-low sh allowed s r t kind number e =
     let u : got (file kind number) 0 [] ≡ readFile sh allowed s = rw e at t in
     omega (arith, low-of (rw (← u) at (line-low sh allowed s)))
 
--- a refusal's place
-item-is-no-file : itemLine ≡ fileLine → ⊥
-item-is-no-file e = let z : _≡_ {A = ℕ} 0 1 = cc in omega arith
-
 pub file-within : (sh : Sheet) (allowed : ℕ → Bool) (f : List ℕ) (at : ℕ) (cut : Cut) → Cuts f at cut → kindOf (cut-of f at (cut .stop)) ≡ fileLine
     → (r : FileRead) → files.told r ≡ readFile sh allowed (cut-of f at (cut .stop)) → (n off : ℕ) → r ≡ reads.Refused n off → at + off ≤ cut .stop
 file-within sh allowed f at cut cuts e r t n off q =
     let s = cut-of f at (cut .stop) in
     let u : no n off ≡ readFile sh allowed s = rw q at t in
     within f at (cut .stop) off (cuts .from) (omega (arith, cuts .to, cuts .inside))
-    (inside-off (rw (← u) at (file-inside sh allowed s (kind-long s fileLine e item-is-no-file))))
+    (inside-off (rw (← u) at (file-inside sh allowed s (kind-long s fileLine e))))
 
 -- the line has its first bytes
 pub file-long : (f : List ℕ) (at stop : ℕ) → kindOf (cut-of f at stop) ≡ fileLine → 2 ≤ length (cut-of f at stop)
-file-long f at stop e = kind-long (cut-of f at stop) fileLine e item-is-no-file
+file-long f at stop e = kind-long (cut-of f at stop) fileLine e
 
 -- r is the kind that was found
 pub is-file : (f : List ℕ) (at stop : ℕ) (r : LineKind) → kinds.told r ≡ kindOf (cut-of f at stop) → r ≡ line-kind.File → kindOf (cut-of f at stop) ≡ fileLine

@@ -4,7 +4,7 @@ use mathlib.Core.Bool.{Bool, false}
 use mathlib.Core.List.{List, [], _∷_}
 use Prim.Native.Nat.{ℕ, _+_, _-_, _≤_}
 use native.Mathlib.Omega.{arith}
-use lib.ListN.{length, take, drop}
+use lib.ListN.{length}
 use Rattle.base.specs.Pick.{pick}
 use Rattle.sheet.specs.declared.Sheet.{Sheet}
 use Rattle.paper.specs.Accounts.{account, isNobody}
@@ -13,6 +13,7 @@ use Rattle.paper.specs.Lines.{linesFrom}
 use Rattle.paper.specs.Entries.{Entry, group, closeFile, got, no, Kind, headLine, fileLine, groupLine, itemLine, groupEnd, fileEnd, kindOf}
 use Rattle.paper.specs.GroupLine.{readGroup}
 use Rattle.paper.specs.ClosingLine.{readClose}
+use Rattle.paper.proofs.Starts.{kind-long}
 use Rattle.line.specs.declared.Cut.{Cut}
 use Rattle.line.specs.Cutting.{Cuts}
 use Rattle.line.proofs.Lines.{at-end}
@@ -33,27 +34,17 @@ use Rattle.group.specs.declared.GroupEnd.{GroupEnd}
 use Rattle.group.specs.declared.GroupEnd.the-variants as end
 use Rattle.group.specs.Stands.{bookOf, shelfOf, inGroup, inFile, lineIn, resumeGroup, Begun, Ended}
 use Rattle.group.proofs.Inside.{a-file-end, group-inside, close-inside, inside-off, inside-total}
-use Rattle.group.proofs.Turns.{kind-long, within}
+use Rattle.group.proofs.Turns.{cut as cut-of, within}
 use Rattle.group.proofs.Going.{run-stop, run-on}
 use Rattle.accountfile.specs.declared.Left.{Left}
 use Rattle.accountfile.specs.declared.Left.the-variants as left
 use Rattle.accountfile.specs.Resume.{resume, AtGroup, groupMore, groupOpen, Grouped, Moved}
 use Rattle.accountfile.proofs.Steps.{group-other, group-got, group-no, end-empty, end-got, end-no}
 
--- a line's bytes in the file
-abbrev cut-of : List ℕ → ℕ → ℕ → List ℕ
-cut-of f at stop = take (stop - at) (drop at f)
-
 -- ---- places in a line
 
-item-is-no-group : itemLine ≡ groupLine → ⊥
-item-is-no-group e = let z : _≡_ {A = ℕ} 0 1 = cc in omega arith
-
-item-is-no-end : itemLine ≡ fileEnd → ⊥
-item-is-no-end e = let z : _≡_ {A = ℕ} 0 1 = cc in omega arith
-
 pub group-long : (f : List ℕ) (at stop : ℕ) → kindOf (cut-of f at stop) ≡ groupLine → 2 ≤ length (cut-of f at stop)
-group-long f at stop e = kind-long (cut-of f at stop) groupLine e item-is-no-group
+group-long f at stop e = kind-long (cut-of f at stop) groupLine e
 
 -- r is the kind that was found
 module _ (f : List ℕ) (at stop : ℕ) (r : LineKind) (t : kinds.told r ≡ kindOf (cut-of f at stop)) where
@@ -64,9 +55,6 @@ module _ (f : List ℕ) (at stop : ℕ) (r : LineKind) (t : kinds.told r ≡ kin
   is-file-end e = sym (rw e at t)
 
 module _ (f : List ℕ) (at : ℕ) (cut : Cut) (cuts : Cuts f at cut) where
-  pub two-bytes : (kind : Kind) → kindOf (cut-of f at (cut .stop)) ≡ kind → (itemLine ≡ kind → ⊥) → 2 ≤ length (cut-of f at (cut .stop))
-  two-bytes kind e n = kind-long (cut-of f at (cut .stop)) kind e n
-
   in-file : (off : ℕ) → off ≤ length (cut-of f at (cut .stop)) → at + off ≤ cut .stop
   in-file off h = within f at (cut .stop) off (cuts .from) (omega (arith, cuts .to, cuts .inside)) h
 
@@ -75,18 +63,18 @@ module _ (f : List ℕ) (at : ℕ) (cut : Cut) (cuts : Cuts f at cut) where
     pub group-within : (n off : ℕ) → r ≡ reads.Refused n off → at + off ≤ cut .stop
     group-within n off q =
         let u : no n off ≡ readGroup sh today (cut-of f at (cut .stop)) = rw q at t in
-        in-file off (inside-off (rw (← u) at (group-inside sh today (cut-of f at (cut .stop)) (two-bytes groupLine e item-is-no-group))))
+        in-file off (inside-off (rw (← u) at (group-inside sh today (cut-of f at (cut .stop)) (kind-long (cut-of f at (cut .stop)) groupLine e))))
 
     pub total-within : (prefix base total date warnings spot : ℕ) → r ≡ reads.Group prefix base total date warnings spot → at + spot ≤ cut .stop
     total-within prefix base total date warnings spot q =
         let u : got (group (account prefix base) total date) warnings (spot ∷ []) ≡ readGroup sh today (cut-of f at (cut .stop)) = rw q at t in
-        in-file spot (inside-total (rw (← u) at (group-inside sh today (cut-of f at (cut .stop)) (two-bytes groupLine e item-is-no-group))))
+        in-file spot (inside-total (rw (← u) at (group-inside sh today (cut-of f at (cut .stop)) (kind-long (cut-of f at (cut .stop)) groupLine e))))
 
   pub end-within : (near : Bool) → kindOf (cut-of f at (cut .stop)) ≡ fileEnd → (r : CloseRead)
       → ((x : Entry) → closes.told x r ≡ readClose near x (cut-of f at (cut .stop))) → (n off : ℕ) → r ≡ closing.Refused n off → at + off ≤ cut .stop
   end-within near e r t n off q =
       let u : no n off ≡ readClose near closeFile (cut-of f at (cut .stop)) = rw q at (t closeFile) in
-      in-file off (inside-off (rw (← u) at (close-inside near closeFile (cut-of f at (cut .stop)) (two-bytes fileEnd e item-is-no-end) a-file-end)))
+      in-file off (inside-off (rw (← u) at (close-inside near closeFile (cut-of f at (cut .stop)) (kind-long (cut-of f at (cut .stop)) fileEnd e) a-file-end)))
 
 -- ---- behind a group
 

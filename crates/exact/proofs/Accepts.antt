@@ -9,8 +9,8 @@ use Rattle.paper.specs.Batch.{Batch, Header}
 use Rattle.paper.specs.Lines.{Line}
 use Rattle.paper.specs.Spells.{itemDues, groupDues, fileDues, dues, fileItems}
 use Rattle.paper.specs.Judge.{Accepted, revOn, State, atFirst, atFile, atGroup, atItem, stop, step, endOf, run}
+use Rattle.paper.proofs.Lists.{length-rev, null-some, some-null}
 use Rattle.exact.proofs.Moves.{Next, on, halted, stays, next}
-use Rattle.exact.proofs.Counts.{length-rev, null-some, some-null}
 use Rattle.exact.proofs.Completes.{refused, Completes, back, forth}
 
 module _ (sh : Sheet) (today : ℕ) (h : Header) (b : Batch) (w : ℕ) where

@@ -14,9 +14,10 @@ use Rattle.paper.specs.FileLine.{series}
 use Rattle.paper.specs.Entries.{group, got}
 use Rattle.paper.specs.Spells.{itemDues, groupDues, fileDues, dues, differs, Each, groupItems, fileItems, GroupRules, FileRules, Rules}
 use Rattle.paper.specs.Judge.{Refused, Accepted, revOn, State, atFirst, atFile, atGroup, atItem, stop, seen, contextOf, groupOf, fileOf, step}
+use Rattle.paper.proofs.Lists.{length-rev, items-rev, null-some, some-null}
 use Rattle.exact.proofs.Told.{told-line, spot-group}
 use Rattle.exact.proofs.Moves.{Moves, heads, opens, begins, more, closes, finishes, moves-step, stays-step}
-use Rattle.exact.proofs.Counts.{length-rev, items-rev, null-some, some-null, room, has-room, taken, takes}
+use Rattle.exact.proofs.Counts.{room, has-room, taken, takes}
 
 pub refused : {n l p w : ℕ} {h : Header} {b : Batch} {A : Type 0} → Refused n l p ≡ Accepted h b w → A
 refused e = let z : _≡_ {A = ℕ} 0 1 = cc in absurd (omega arith)

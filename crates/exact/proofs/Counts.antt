@@ -1,7 +1,7 @@
 -- Counts and totals: what the judge's tests say in numbers. Assumes nothing.
 use mathlib.Core.Path.{_≡_, refl, sym, _∙_}
 use mathlib.Core.Bool.{Bool, true, false}
-use mathlib.Core.List.{List, [], _∷_}
+use mathlib.Core.List.{List}
 use Prim.Native.Nat.{ℕ, _+_, _<_, _≤_}
 use native.Mathlib.Omega.{arith}
 use lib.Dec.{eqb, leb, ltb}
@@ -10,36 +10,14 @@ use borrow.Author.Tests.{leb-false, lt-leb, ltb-false, le-ltb, eqb-true, eq-eqb}
 use Rattle.base.specs.Pick.{pick}
 use Rattle.base.proofs.Cases.{by-test}
 use Rattle.sheet.specs.declared.Sheet.{Sheet}
-use Rattle.paper.specs.Bytes.{null}
 use Rattle.paper.specs.Batch.{Item, Group, AccountFile, Header, most14}
 use Rattle.paper.specs.Entries.{itemLine}
 use Rattle.paper.specs.Spells.{groupItems, fileItems}
-use Rattle.paper.specs.Judge.{revOn, FileHead, GroupHead, atItem, isFull, totalBroken}
+use Rattle.paper.specs.Judge.{FileHead, GroupHead, atItem, isFull, totalBroken}
 
 -- no test has both answers
 pub wrong : {t : Bool} {A : Type 0} → t ≡ true → t ≡ false → A
 wrong p q = let y : true ≡ false = sym p ∙ q in let z : _≡_ {A = ℕ} 0 1 = cc in absurd (omega arith)
-
--- ---- lists that are kept last one first
-
-pub length-rev : {A : Type 0} (a m : List A) → length (revOn a m) ≡ length a + length m
-length-rev [] m = omega arith
-length-rev (y ∷ a) m = omega (arith, length-rev a (y ∷ m))
-
-pub items-rev : (a m : List Group) → groupItems (revOn a m) ≡ groupItems a + groupItems m
-unfolding groupItems
-items-rev [] m = omega arith
-items-rev (y ∷ a) m = omega (arith, items-rev a (y ∷ m))
-
-pub null-some : {A : Type 0} (a : List A) → null a ≡ false → 1 ≤ length a
-unfolding null
-null-some [] e = wrong refl e
-null-some (x ∷ a) e = omega arith
-
-pub some-null : {A : Type 0} (a : List A) → 1 ≤ length a → null a ≡ false
-unfolding null
-some-null [] e = absurd (omega arith)
-some-null (x ∷ a) e = refl
 
 -- ---- one item more
 

@@ -11,17 +11,12 @@ use Rattle.base.specs.Pick.{pick}
 use Rattle.base.proofs.Seek.{never}
 use Rattle.paper.specs.Bytes.{null, av, np, mark}
 use Rattle.paper.specs.Texts.{joinOn, joined, trim, keep, spellName, spellMarked, noText}
+use Rattle.paper.proofs.Lists.{empty-null}
 use Rattle.extent.specs.Four.{four}
 
 pub none-left : (p : List ℕ) → length p ≡ 0 → p ≡ []
 none-left [] h = refl
 none-left (x ∷ p) h = absurd (omega arith)
-
--- the code's test of an empty text
-pub empty-null : (p : List ℕ) → eqb (length p) 0 ≡ null p
-unfolding null
-empty-null [] = refl
-empty-null (x ∷ p) = ne-eqb (suc (length p)) 0 (λ e. absurd (omega arith))
 
 keep-some : (p q : List ℕ) (qs : List (List ℕ)) → keep p (q ∷ qs) ≡ p ∷ q ∷ qs
 unfolding keep

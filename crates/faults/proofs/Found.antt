@@ -11,8 +11,8 @@ use Rattle.paper.specs.Bytes.{null}
 use Rattle.paper.specs.Lines.{Line}
 use Rattle.paper.specs.Judge.{Answer, Refused, revOn, State, atFirst, atFile, atGroup, atItem, stop, step, endOf, run}
 use Rattle.paper.specs.FirstFault.{Lawful, Broken, ends-first, ends-none, ends-file, ends-group}
+use Rattle.paper.proofs.Lists.{length-rev, some-null}
 use Rattle.exact.proofs.Moves.{Next, on, halted, stays, next}
-use Rattle.exact.proofs.Counts.{length-rev, some-null}
 use Rattle.exact.proofs.Completes.{refused}
 use Rattle.faults.proofs.Reached.{lawful-on, going}
 

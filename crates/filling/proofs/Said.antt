@@ -1,19 +1,14 @@
 -- What a line says, by the reader of its kind; and the lines that have no row. Assumes nothing.
 use mathlib.Core.Path.{_≡_, refl, sym, ap, _∙_}
-use mathlib.Core.Bool.{Bool, true, false}
+use mathlib.Core.Bool.{Bool, false}
 use mathlib.Core.List.{List, [], _∷_}
 use Prim.Native.Nat.{ℕ, _≤_}
-use native.Mathlib.Omega.{arith}
-use lib.Dec.{eqb}
 use lib.ListN.{length}
 use Rattle.base.specs.Pick.{pick}
-use Rattle.base.specs.Seek.{starts}
 use Rattle.base.proofs.Cases.{either}
-use Rattle.base.proofs.Seek.{never}
 use Rattle.sheet.specs.declared.Sheet.{Sheet}
 use Rattle.sheet.specs.Sheets.{kindAllowed, bankAllowed}
 use Rattle.paper.specs.Read.{Field, value, fault}
-use Rattle.paper.specs.Bytes.{bytes}
 use Rattle.paper.specs.Entries.{Entry, closeGroup, closeFile, Said, got, no, fileLine, groupLine, kindOf, onField, place, lineEnd}
 use Rattle.paper.specs.FirstLine.{readFirst}
 use Rattle.paper.specs.FileLine.{readKind, readCode, readFile}
@@ -22,27 +17,20 @@ use Rattle.paper.specs.ItemLine.{readItem}
 use Rattle.paper.specs.ClosingLine.{plusAt, readClose}
 use Rattle.paper.specs.Spells.{forItem, allowedIn, singleIn, readAs, readLine}
 use Rattle.paper.specs.Rows.{entryRow, lineRow, singleAfter, singleBehind}
+use Rattle.paper.proofs.Starts.{kind-long}
 use Rattle.kind.specs.declared.LineKind.{LineKind}
 use Rattle.kind.specs.declared.LineKind.the-variants as kind
 use Rattle.kind.specs.Told as kinds
-use Rattle.kind.proofs.Laws.{kind-sound}
 use Rattle.fileline.specs.Free.{numberFree}
 use Rattle.filling.specs.Stepped.{anyNumber}
-
--- a line that begins with two bytes has two
-two-bytes : (a b : ℕ) (s : List ℕ) → starts (a ∷ b ∷ []) s ≡ true → 2 ≤ length s
-unfolding starts pick
-two-bytes a b [] e = never (sym e)
-two-bytes a b (x ∷ []) e = either (λ t. t ≡ true → 2 ≤ 1) (eqb x a) {a = false} {b = false} (λ _ f. never (sym f)) (λ _ f. never (sym f)) e
-two-bytes a b (x ∷ y ∷ s) e = omega arith
 
 -- the line is of the kind that was told, and the reader of this kind is asked
 module _ (sh : Sheet) (today : ℕ) (single : Bool) (s : List ℕ) (k : LineKind) (g : kinds.told k ≡ kindOf s) where
   pub file-long : k ≡ kind.File → 2 ≤ length s
-  file-long e = two-bytes 49 32 s (let z : kindOf s ≡ fileLine = sym g ∙ ap kinds.told e in rw z at (kind-sound s))
+  file-long e = kind-long s fileLine (sym g ∙ ap kinds.told e)
 
   pub group-long : k ≡ kind.Group → 2 ≤ length s
-  group-long e = two-bytes 50 32 s (let z : kindOf s ≡ groupLine = sym g ∙ ap kinds.told e in rw z at (kind-sound s))
+  group-long e = kind-long s groupLine (sym g ∙ ap kinds.told e)
 
   pub said-file : k ≡ kind.File → (from to : ℕ) (words : List ℕ) → readLine sh today (forItem single) s ≡ readFile (anyNumber sh) (numberFree false from to words) s
   unfolding readLine readAs allowedIn readFile readKind readCode kindAllowed bankAllowed numberFree pick

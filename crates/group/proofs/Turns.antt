@@ -1,24 +1,22 @@
 -- The answers of the readers of one line of a group, with what the code knows at each. Assumes nothing.
-use mathlib.Core.Path.{_≡_, refl, sym, ap, _∙_}
+use mathlib.Core.Path.{_≡_, refl, sym, ap}
 use mathlib.Core.Bool.{Bool, true, false}
 use mathlib.Core.List.{List, []}
 use Prim.Native.Nat.{ℕ, _+_, _-_, _≤_, _<_}
 use native.Mathlib.Omega.{arith}
 use lib.ListN.{length, take, drop, length-take, length-drop}
-use lib.Dec.{eqb}
 use Rattle.base.specs.Pick.{pick}
-use Rattle.base.proofs.Cases.{by-test, by-lt}
 use Rattle.sheet.specs.declared.Sheet.{Sheet}
-use Rattle.paper.specs.Entries.{Entry, closeGroup, no, Kind, itemLine, groupEnd, kindOf}
+use Rattle.paper.specs.Entries.{Entry, closeGroup, no, itemLine, groupEnd, kindOf}
 use Rattle.paper.specs.ItemLine.{readItem}
 use Rattle.paper.specs.ClosingLine.{readClose}
 use Rattle.paper.specs.Spells.{differs}
 use Rattle.paper.specs.Judge.{totalBroken}
-use Rattle.tally.proofs.Small.{item-limits}
+use Rattle.paper.proofs.Starts.{kind-long}
+use Rattle.tally.proofs.Small.{item-limits, differs-one}
 use Rattle.kind.specs.declared.LineKind.{LineKind}
 use Rattle.kind.specs.declared.LineKind.the-variants as line-kind
 use Rattle.kind.specs.Told as kinds
-use Rattle.kind.proofs.Starts.{kind-short}
 use Rattle.closing.specs.declared.CloseRead.{CloseRead}
 use Rattle.closing.specs.declared.CloseRead.the-variants as closing
 use Rattle.closing.specs.Told as closes
@@ -35,19 +33,12 @@ use Rattle.group.specs.Stands.{bookOf, shelfOf, openOf, LowItem, lineIn,
 use Rattle.group.proofs.Inside.{a-group-end, item-inside, close-inside, inside-off}
 use Rattle.group.proofs.Steps.{group-not-head, group-not-file, group-not-group, group-not-file-end, item-full-file, item-full, item-more, item-no, end-empty, end-closed, end-no}
 
--- a line that is no item has two bytes or more
-pub kind-long : (s : List ℕ) (kind : Kind) → kindOf s ≡ kind → (itemLine ≡ kind → ⊥) → 2 ≤ length s
-kind-long s kind e n = by-lt (length s) 2 (λ l. absurd (n (kind-short s l ∙ e))) (λ l. l)
-
-item-is-no-end : itemLine ≡ groupEnd → ⊥
-item-is-no-end e = let z : _≡_ {A = ℕ} 0 1 = cc in omega arith
-
 -- a place in the bytes from `at` to `stop` is a place in the file
 pub within : (f : List ℕ) (at stop off : ℕ) → at ≤ stop → stop ≤ length f → off ≤ length (take (stop - at) (drop at f)) → at + off ≤ stop
 within f at stop off p q h = omega (arith, length-take (stop - at) (drop at f), length-drop at f)
 
 -- a line's bytes in the file
-abbrev cut : List ℕ → ℕ → ℕ → List ℕ
+abbrev pub cut : List ℕ → ℕ → ℕ → List ℕ
 cut f at stop = take (stop - at) (drop at f)
 
 -- a refused line's offset stays in the file
@@ -55,7 +46,7 @@ pub close-within : (near : Bool) (f : List ℕ) (at stop : ℕ) → kindOf (cut 
     → ((x : Entry) → closes.told x r ≡ readClose near x (cut f at stop)) → (n off : ℕ) → r ≡ closing.Refused n off → at ≤ stop → stop ≤ length f → at + off ≤ stop
 close-within near f at stop e r t n off q a b =
     let u : no n off ≡ readClose near closeGroup (cut f at stop) = rw q at (t closeGroup) in
-    let two = kind-long (cut f at stop) groupEnd e item-is-no-end in
+    let two = kind-long (cut f at stop) groupEnd e in
     within f at stop off a b (inside-off (rw (← u) at (close-inside near closeGroup (cut f at stop) two a-group-end)))
 
 pub item-within : (sh : Sheet) (single : Bool) (f : List ℕ) (at stop : ℕ) (r : ItemRead) → items.told (cut f at stop) r ≡ readItem sh single (cut f at stop)
@@ -128,10 +119,6 @@ module _ (strict : Bool) (at k : ℕ) (c : Counts) (s : Shelf) (o : Open) (t : B
       ≡ closedAs strict at k c s o
   unfolding closedAs pick
   end-more q d w = rw (← e, q, w)
-
-differs-one : (t s : ℕ) → differs t s ≤ 1
-unfolding differs pick
-differs-one t s = by-test (eqb t s) (λ e. simp e (omega arith)) (λ e. simp e (omega arith))
 
 pub end-fits : (c : Counts) (s : Shelf) (o : Open) (d : ℕ) → LowItem c s o → d ≡ differs (o .total) (o .sum) → c .warnings + d ≤ 800000000
 end-fits c s o d low e = omega (arith, item-limits _ _ _ low .warnings, differs-one (o .total) (o .sum))

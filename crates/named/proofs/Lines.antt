@@ -1,18 +1,14 @@
 -- A line of each kind: it is read, or refused with a number of its own, inside it. Assumes nothing.
-use mathlib.Core.Path.{_≡_, sym}
-use mathlib.Core.Bool.{Bool, true}
+use mathlib.Core.Path.{refl}
+use mathlib.Core.Bool.{Bool}
 use mathlib.Core.List.{List, [], _∷_}
 use Prim.Native.Nat.{ℕ, _+_, _≤_}
 use native.Mathlib.Omega.{arith}
 use lib.Dec.{eqb}
 use lib.ListN.{length, drop, length-drop}
-use Rattle.base.specs.Pick.{pick}
-use Rattle.base.specs.Seek.{starts}
-use Rattle.base.proofs.Cases.{either, by-test}
-use Rattle.base.proofs.Seek.{never}
+use Rattle.base.proofs.Cases.{either}
 use Rattle.sheet.specs.declared.Sheet.{Sheet}
 use Rattle.sheet.specs.declared.Style.{Style}
-use Rattle.paper.specs.Bytes.{bytes}
 use Rattle.paper.specs.Accounts.{Account, nobody}
 use Rattle.paper.specs.Texts.{Texts}
 use Rattle.paper.specs.Entries.{Entry, closeGroup, closeFile, Said, Kind, headLine, fileLine, groupLine, itemLine, groupEnd, fileEnd, kindOf}
@@ -23,6 +19,7 @@ use Rattle.paper.specs.ItemLine.{fixedTail, afterSymbol, openTail, tail, fromPa
 use Rattle.paper.specs.ClosingLine.{plusAt, readClose}
 use Rattle.paper.specs.Spells.{Context, allowedIn, singleIn, readAs, readLine}
 use Rattle.paper.specs.Judge.{firstOr0}
+use Rattle.paper.proofs.Starts.{least, kind-long}
 use Rattle.named.proofs.Fields.{own4, digits-named, symbol-named, account-named, payer-named, total-named, item-amount-named, kind-named, number-named, code-named, text-field-named, to-named, rest-named, short-named, due-named, bank-named, text-named}
 use Rattle.named.proofs.Named.{Spotted, Named, says, refuses, gap-named, end-named, on-named, field-named, place-named}
 
@@ -150,39 +147,6 @@ close-named near e s p h =
 
 -- ---- any line
 
--- what its start takes of a line
-abbrev least : Kind → ℕ
-least headLine = 4
-least fileLine = 2
-least groupLine = 2
-least itemLine = 0
-least groupEnd = 2
-least fileEnd = 2
-
-abbrev Long : List ℕ → Kind → Type 0
-Long s k = least k ≤ length s
-
-starts-long : (ps s : List ℕ) → starts ps s ≡ true → length ps ≤ length s
-unfolding starts pick
-starts-long [] s e = omega arith
-starts-long (p ∷ ps) [] e = never (sym e)
-starts-long (p ∷ ps) (x ∷ s) e = by-test (eqb x p) (λ g. omega (arith, starts-long ps s (rw g at e))) (λ g. never (sym (rw g at e)))
-
--- one of two starts
-one-long : (p q r t : ℕ) (z : List ℕ) → pick (starts (p ∷ q ∷ []) z) true (starts (r ∷ t ∷ []) z) ≡ true → 2 ≤ length z
-unfolding pick
-one-long p q r t z e =
-    by-test (starts (p ∷ q ∷ []) z) (λ g. starts-long (p ∷ q ∷ []) z g) (λ g. starts-long (r ∷ t ∷ []) z (rw g at e))
-
-kind-long : (s : List ℕ) → least (kindOf s) ≤ length s
-unfolding kindOf
-kind-long s =
-    either (Long s) _ (λ e. starts-long (bytes "UHL1") s e)
-    (λ _. either (Long s) _ (λ e. starts-long (bytes "1 ") s e)
-    (λ _. either (Long s) _ (λ e. starts-long (bytes "2 ") s e)
-    (λ _. either (Long s) _ (λ e. one-long _ _ _ _ s e)
-    (λ _. either (Long s) _ (λ e. one-long _ _ _ _ s e) (λ _. omega arith)))))
-
 module _ (sh : Sheet) (today : ℕ) (c : Context) where
   as-named : (k : Kind) (s : List ℕ) → least k ≤ length s → Named (length s) (readAs sh today c k s)
   unfolding readAs
@@ -195,4 +159,4 @@ module _ (sh : Sheet) (today : ℕ) (c : Context) where
 
   pub any-named : (s : List ℕ) → Named (length s) (readLine sh today c s)
   unfolding readLine
-  any-named s = as-named (kindOf s) s (kind-long s)
+  any-named s = as-named (kindOf s) s (kind-long s (kindOf s) refl)

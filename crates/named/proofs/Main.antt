@@ -10,7 +10,7 @@ use Rattle.paper.specs.Lines.{Line, linesOf}
 use Rattle.paper.specs.Spells.{Context, readLine}
 use Rattle.paper.specs.Judge.{Answer, Refused, Accepted, State, contextOf, judge}
 use Rattle.paper.specs.FirstFault.{Broken, ends-first, ends-none, ends-file, ends-group, not-due, full, in-line, total}
-use Rattle.exact.proofs.Counts.{length-rev}
+use Rattle.paper.proofs.Lists.{length-rev}
 use Rattle.faults.proofs.Main.{refused}
 use Rattle.named.specs.Numbers.{Own, Judged}
 use Rattle.named.proofs.Named.{named-no}

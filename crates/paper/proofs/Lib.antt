@@ -1,2 +1,6 @@
 pub mod Cases
+pub mod Lists
+pub mod Starts
+pub mod Trees
+pub mod Verdicts
 pub mod WholeRun

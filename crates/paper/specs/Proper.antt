@@ -1,6 +1,6 @@
 -- Which rows and headers are as "The batch" says, and where they first are not: refusal 20, with row and field. Assumes nothing.
 -- Field numbers are docs/ROWS.md's: the number of the word in its row; 0 is the row's kind.
-use Prim.Native.Nat.{ℕ, suc, _+_, _*_}
+use Prim.Native.Nat.{ℕ, suc, _+_}
 use mathlib.Core.Bool.{Bool, true, false}
 use mathlib.Core.List.{List, [], _∷_}
 use lib.Dec.{eqb, ltb, leb}
@@ -81,6 +81,16 @@ pub record Before : Type 0 where
 abbrev pub atTop : Before
 atTop = record { stage = needFile; files = 0; items = 0; single = false; sum = 0 }
 
+-- what stands before the next row, behind an account file's row, a group's and an item's
+abbrev pub afterFile : Before → Before
+afterFile b = record { stage = needGroup; files = b .files + 1; items = 0; single = false; sum = 0 }
+
+abbrev pub afterGroup : Before → Account → Before
+afterGroup b payer = record { stage = needItem; files = b .files; items = b .items; single = isNobody payer; sum = 0 }
+
+abbrev pub afterItem : Before → Item → Before
+afterItem b x = record { stage = any; files = b .files; items = b .items + 1; single = b .single; sum = b .sum + x .amount }
+
 -- a kind is 1501 to 1504
 unfoldable pub kindProper : ℕ → Bool
 kindProper k = pick (ltb k 1501) false (leb k 1504)
@@ -118,17 +128,14 @@ rowsProper k b [] = check k 0 (mayStop (b .stage)) fine
 rowsProper k b (aFile kind number ∷ ts) =
     check k 0 (pick (fileDue (b .stage)) (ltb (b .files) 1000) false)
     (check k 1 (kindProper kind)
-    (check k 2 (ltb number 1000000)
-    (rowsProper (suc k) (record { stage = needGroup; files = b .files + 1; items = 0; single = false; sum = 0 }) ts)))
+    (check k 2 (ltb number 1000000) (rowsProper (suc k) (afterFile b) ts)))
 rowsProper k b (aGroup date payer ∷ ts) =
     check k 0 (groupDue (b .stage))
     (check k 1 (realDay date)
-    (check k 2 (payerProper payer)
-    (rowsProper (suc k) (record { stage = needItem; files = b .files; items = b .items; single = isNobody payer; sum = 0 }) ts)))
+    (check k 2 (payerProper payer) (rowsProper (suc k) (afterGroup b payer) ts)))
 rowsProper k b (anItem x ∷ ts) =
     check k 0 (pick (itemDue (b .stage)) (ltb (b .items) 99999) false)
-    (itemProper k (b .single) (b .sum) x
-    (rowsProper (suc k) (record { stage = any; files = b .files; items = b .items + 1; single = b .single; sum = b .sum + x .amount }) ts))
+    (itemProper k (b .single) (b .sum) x (rowsProper (suc k) (afterItem b x) ts))
 rowsProper k b (strange ∷ ts) = wrong k 0
 
 -- "The batch", whole: 1 to 1,000 account files of one or more groups, each of one or more items

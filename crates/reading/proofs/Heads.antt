@@ -2,17 +2,18 @@
 use mathlib.Core.Path.{_≡_, refl, sym, ap, _∙_}
 use mathlib.Core.Bool.{true, false}
 use mathlib.Core.List.{List, [], _∷_}
-use Prim.Native.Nat.{ℕ, zero, suc, _+_, _-_, _≤_}
-use native.Mathlib.Nat.{sub-zero, suc-sub-suc, not-suc-le-zero, le-of-suc-le-suc}
+use Prim.Native.Nat.{ℕ, _+_, _-_, _≤_}
 use native.Mathlib.Omega.{arith}
 use lib.ListN.{length, take, drop, length-take}
-use lib.Seq.{take-take, take-nil}
+use lib.Seq.{take-take}
 use Rattle.base.specs.Pick.{pick}
+use Rattle.base.proofs.Lists.{drop-take}
 use Rattle.sheet.specs.declared.Sheet.{Sheet}
 use Rattle.paper.specs.Batch.{Header, noHeader}
 use Rattle.paper.specs.Lines.{linesOf, linesFrom}
-use Rattle.paper.specs.Entries.{no, Kind, headLine, fileLine, groupLine, itemLine, groupEnd, fileEnd, kindOf}
+use Rattle.paper.specs.Entries.{Kind, headLine, fileLine, groupLine, itemLine, groupEnd, fileEnd, kindOf}
 use Rattle.paper.specs.FirstLine.{readFirst}
+use Rattle.paper.proofs.Starts.{kind-long}
 use Rattle.line.specs.declared.Cut.{Cut}
 use Rattle.line.specs.Cutting.{Cuts}
 use Rattle.kind.specs.declared.LineKind.{LineKind}
@@ -24,7 +25,6 @@ use Rattle.firstline.specs.Stages.{nameIn}
 use Rattle.firstline.specs.Told as firsts
 use Rattle.tally.specs.Tally.{No, Tally, tFirst, tFile, tStop, newBook, isDue, endOf, step, run, tally}
 use Rattle.group.specs.Stands.{lineIn}
-use Rattle.group.proofs.Turns.{kind-long}
 use Rattle.group.proofs.Going.{run-stop, run-on}
 use Rattle.reading.specs.declared.Head.{Head}
 use Rattle.reading.specs.Answer.{fromFirst}
@@ -42,17 +42,11 @@ no-line sh today (x ∷ f) e = absurd (omega arith)
 
 -- ---- the name
 
-drop-take : (j m : ℕ) (l : List ℕ) → j ≤ m → drop j (take m l) ≡ take (m - j) (drop j l)
-drop-take zero m l h = rw sub-zero
-drop-take (suc j) zero l h = absurd (not-suc-le-zero h)
-drop-take (suc j) (suc m) [] h = sym (take-nil (suc m - suc j))
-drop-take (suc j) (suc m) (x ∷ l) h = drop-take j m l (le-of-suc-le-suc h) ∙ ap (λ (n : ℕ). take n (drop j l)) (sym (suc-sub-suc m j))
-
 -- in the line, and in the file
 name-same : (f : List ℕ) (cut : Cut) → 46 ≤ length (top f cut) → nameIn (top f cut) ≡ take 20 (drop 10 f)
 name-same f cut h =
     let n : 46 ≤ cut .stop - 0 = omega (arith, length-take (cut .stop - 0) f) in
-    ap (take 20) (drop-take 10 (cut .stop - 0) f (omega arith)) ∙ take-take 20 (cut .stop - 0 - 10) (drop 10 f) (omega arith)
+    ap (take 20) (drop-take 10 (cut .stop - 0) f) ∙ take-take 20 (cut .stop - 0 - 10) (drop 10 f) (omega arith)
 
 pub header-long : (s : List ℕ) (r : FirstRead) → firsts.Sound s r → (date client from to : ℕ) → r ≡ reads.Header date client from to → 46 ≤ length s
 header-long s r sound date client from to e = let x : firsts.Sound s (reads.Header date client from to) = rw e at sound in x .0
@@ -61,9 +55,6 @@ pub name-inside : (f : List ℕ) (cut : Cut) → 46 ≤ length (top f cut) → 3
 name-inside f cut h = omega (arith, length-take (cut .stop - 0) f)
 
 -- ---- the line
-
-item-is-no-head : itemLine ≡ headLine → ⊥
-item-is-no-head e = let z : _≡_ {A = ℕ} 0 1 = cc in omega arith
 
 module _ (sh : Sheet) (today : ℕ) (f : List ℕ) (cut : Cut) (cuts : Cuts f 0 cut) where
   -- it leads to c
@@ -105,7 +96,7 @@ module _ (sh : Sheet) (today : ℕ) (f : List ℕ) (cut : Cut) (cuts : Cuts f 0 
     pub head-long : 2 ≤ cut .next
     head-long =
         omega
-        (arith, kind-long (top f cut) headLine e item-is-no-head, length-take (cut .stop - 0) f, cuts .to)
+        (arith, kind-long (top f cut) headLine e, length-take (cut .stop - 0) f, cuts .to)
 
     module _ (r : FirstRead) (t : firsts.told (top f cut) r ≡ readFirst sh (top f cut)) where
       pub head-refused : (n off : ℕ) → r ≡ reads.Refused n off → No n 1 off ≡ tally sh today f

@@ -2,16 +2,15 @@
 use mathlib.Core.Path.{_≡_, refl, sym, _∙_}
 use mathlib.Core.Bool.{Bool, true, false}
 use mathlib.Core.List.{List, [], _∷_}
-use Prim.Native.Nat.{suc, _+_}
+use Prim.Native.Nat.{_+_}
 use native.Mathlib.Omega.{arith}
 use lib.Dec.{eqb}
 use lib.ListN.{length}
-use borrow.Author.Tests.{ne-eqb}
 use Rattle.base.specs.Pick.{pick}
 use Rattle.paper.specs.Bytes.{null}
 use Rattle.paper.specs.Batch.{Item, Group, AccountFile, Batch, Thing, sum, itemThings, groupThings, things}
-use Rattle.paper.specs.Spells.{groupItems}
 use Rattle.paper.specs.Judge.{revOn}
+use Rattle.paper.proofs.Lists.{empty-null, length-rev}
 use Rattle.tally.specs.Abs.{groupRows, fileRows}
 
 pub map-pick : {A B : Type 0} (f : A → B) (t : Bool) (a b : A) → f (pick t a b) ≡ pick t (f a) (f b)
@@ -21,19 +20,10 @@ map-pick f false a b = refl
 
 -- ---- the order does not matter
 
-pub length-rev : {A : Type 0} (a m : List A) → length (revOn a m) ≡ length a + length m
-length-rev [] m = omega arith
-length-rev (x ∷ a) m = omega (arith, length-rev a (x ∷ m))
-
 pub sum-rev : (a m : List Item) → sum (revOn a m) ≡ sum a + sum m
 unfolding sum
 sum-rev [] m = omega arith
 sum-rev (x ∷ a) m = omega (arith, sum-rev a (x ∷ m))
-
-pub groupItems-rev : (a m : List Group) → groupItems (revOn a m) ≡ groupItems a + groupItems m
-unfolding groupItems
-groupItems-rev [] m = omega arith
-groupItems-rev (g ∷ a) m = omega (arith, groupItems-rev a (g ∷ m))
 
 pub groupRows-rev : (a m : List Group) → groupRows (revOn a m) ≡ groupRows a + groupRows m
 unfolding groupRows
@@ -47,15 +37,10 @@ fileRows-rev (f ∷ a) m = omega (arith, fileRows-rev a (f ∷ m))
 
 -- ---- empty
 
-pub null-length : {A : Type 0} (a : List A) → null a ≡ eqb (length a) 0
-unfolding null
-null-length [] = refl
-null-length (x ∷ a) = sym (ne-eqb (suc (length a)) 0 (omega arith))
-
 pub null-rev : {A : Type 0} (a : List A) → null (revOn a []) ≡ eqb (length a) 0
 null-rev a =
     let e : length (revOn a []) ≡ length a = omega (arith, length-rev a []) in
-    null-length (revOn a []) ∙ rw e
+    sym (empty-null (revOn a [])) ∙ rw e
 
 -- ---- rows: the batch as one list is as long as there are account files, groups and items
 

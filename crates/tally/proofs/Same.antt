@@ -11,10 +11,11 @@ use Rattle.paper.specs.Entries.{Entry, head, file, group, item, closeGroup, clo
 use Rattle.paper.specs.Spells.{readAs, differs, groupItems, fileItems}
 use Rattle.paper.specs.Judge.{FileHead, GroupHead, State, atFirst, atFile, atGroup, atItem, stop, seen, revOn, onHead, onFile, onGroup, onItem}
 use Rattle.paper.specs.Judge as judge
+use Rattle.paper.proofs.Lists.{empty-null, length-rev, items-rev}
 use Rattle.tally.specs.Tally.{brief}
 use Rattle.tally.specs.Tally as numbers
 use Rattle.tally.specs.Abs.{groupRows, fileRows, openBook, openShelf, openGroup, abs}
-use Rattle.tally.proofs.Abs.{map-pick, length-rev, sum-rev, groupItems-rev, groupRows-rev, fileRows-rev, null-length, null-rev, things-rows}
+use Rattle.tally.proofs.Abs.{map-pick, sum-rev, groupRows-rev, fileRows-rev, null-rev, things-rows}
 
 -- ---- what is due, and when it is full
 
@@ -30,8 +31,8 @@ dues : (kind : Kind) (st : State) → judge.isDue st kind ≡ numbers.isDue (abs
 unfolding abs judge.isDue numbers.isDue
 dues kind atFirst = refl
 dues kind (atFile h fs w) = refl
-dues kind (atGroup h fs f gs w) = rw (null-length gs)
-dues kind (atItem h fs f gs g xs w) = rw (null-length xs)
+dues kind (atGroup h fs f gs w) = rw (← (empty-null gs))
+dues kind (atItem h fs f gs g xs w) = rw (← (empty-null xs))
 dues kind (stop a) = refl
 
 fulls : (sh : Sheet) (kind : Kind) (st : State) → judge.isFull sh st kind ≡ numbers.isFull sh (abs st) kind
@@ -88,7 +89,7 @@ module _ (sh : Sheet) (k at : ℕ) where
   meets closeGroup v spots (atGroup h fs f gs w) = refl
   meets closeFile v spots (atGroup h fs f gs w) =
       let n : suc (length fs) ≡ length fs + 1 = omega arith in
-      let i : groupItems (revOn gs []) ≡ groupItems gs = omega (arith, groupItems-rev gs []) in
+      let i : groupItems (revOn gs []) ≡ groupItems gs = omega (arith, items-rev gs []) in
       let r : 1 + groupRows (revOn gs []) + fileRows fs ≡ fileRows fs + 1 + groupRows gs = omega (arith, groupRows-rev gs []) in
       cc
   meets (head _) v spots (atItem h fs f gs g xs w) = refl

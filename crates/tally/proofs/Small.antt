@@ -21,16 +21,12 @@ use Rattle.tally.specs.Tally.{Book, Shelf, Open, Tally, tFirst, tFile, t
 use Rattle.tally.specs.Small.{SmallFile, SmallGroup, SmallItem, Small, Limits}
 use Rattle.tally.proofs.Light.{Light, a-head, a-file, a-group, an-item, a-group-end, a-file-end, refused, line-light}
 
-pub small-start : Small tFirst
-unfolding Small
-small-start = tt
-
 -- a line that is refused
 small-stop : (n l p : ℕ) → Small (tStop (No n l p))
 unfolding Small
 small-stop n l p = tt
 
-differs-one : (t s : ℕ) → differs t s ≤ 1
+pub differs-one : (t s : ℕ) → differs t s ≤ 1
 unfolding differs pick
 differs-one t s = by-test (eqb t s) (λ e. simp e (omega arith)) (λ e. simp e (omega arith))
 
@@ -174,11 +170,5 @@ module _ (sh : Sheet) (sane : Sane sh) (today k : ℕ) (t : Line) where
 pub file-limits : (b : Book) → SmallFile b → Limits b
 file-limits b small = record { files = small .files; items = omega arith; rows = omega arith; warnings = omega arith }
 
-pub group-limits : (b : Book) (s : Shelf) → SmallGroup b s → Limits b
-group-limits b s small = record { files = small .files; items = omega arith; rows = omega arith; warnings = omega arith }
-
 pub item-limits : (b : Book) (s : Shelf) (o : Open) → SmallItem b s o → Limits b
 item-limits b s o small = record { files = small .files; items = omega arith; rows = omega arith; warnings = omega arith }
-
-pub sum-limit : (b : Book) (s : Shelf) (o : Open) → SmallItem b s o → o .sum ≤ 9999899999999900001
-sum-limit b s o small = omega arith

@@ -1,6 +1,6 @@
 -- `fits::has_place` meets its contract. Assumes nothing.
 use Rattle.base.proofs.Cases.{picks}
-use Rattle.fits.proofs.Empty.{empty-null}
+use Rattle.paper.proofs.Lists.{empty-null}
 use Rattle.fits.proofs.has_place.Statement.{statement}
 use Rattle.fits.proofs.has_place.Tie as tie
 

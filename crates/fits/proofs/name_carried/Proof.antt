@@ -1,7 +1,7 @@
 -- `fits::name_carried` meets its contract. Assumes nothing.
 use Rattle.base.proofs.Cases.{picks}
 use Rattle.paper.specs.Texts.{nameCarried}
-use Rattle.fits.proofs.Empty.{empty-null}
+use Rattle.paper.proofs.Lists.{empty-null}
 use Rattle.fits.proofs.name_carried.Statement.{statement}
 use Rattle.fits.proofs.name_carried.Tie as tie
 
