@@ -1,44 +1,38 @@
 -- How long a canonical file is at most by its rows, and so by the file that it was read from. Assumes nothing.
 use mathlib.Core.Path.{_≡_, sym, ap, _∙_}
-use mathlib.Core.Bool.{Bool, false}
+use mathlib.Core.Bool.{Bool}
 use mathlib.Core.List.{List, [], _∷_}
 use Prim.Native.Nat.{ℕ, suc, _+_, _*_, _≤_}
 use native.Mathlib.Omega.{arith}
-use lib.Dec.{eqb}
 use lib.ListN.{length, length-append}
-use borrow.Author.Tests.{eqb-true}
 use Rattle.base.specs.Pick.{pick}
-use Rattle.base.specs.Seek.{all}
-use Rattle.base.proofs.Cases.{by-test, either, pick-both, pick-true, pick-false}
+use Rattle.base.proofs.Cases.{by-test, either, pick-true, pick-false}
 use Rattle.sheet.specs.declared.Sheet.{Sheet}
 use Rattle.sheet.proofs.Laws.{Sane}
-use Rattle.paper.specs.Bytes.{bytes, isText}
-use Rattle.paper.specs.Days.{realDay, spellDay}
+use Rattle.paper.specs.Bytes.{bytes}
+use Rattle.paper.specs.Days.{spellDay}
 use Rattle.paper.specs.Accounts.{Account, isNobody}
 use Rattle.paper.specs.Batch.{Batch, Header, Thing, aFile, aGroup, anItem, strange, things, batchOf}
-use Rattle.paper.specs.Proper.{Stage, needFile, needGroup, needItem, any, Before, atTop, fine, headerProper, rowsProper, batchProper}
+use Rattle.paper.specs.Proper.{Stage, needFile, needGroup, needItem, any, Before, atTop, fine, headerProper, rowsProper, batchProper, afterFile, afterGroup, afterItem}
 use Rattle.paper.specs.FirstLine.{spellFirst}
 use Rattle.paper.specs.GroupLine.{spellPayer}
 use Rattle.paper.specs.Judge.{Accepted, judge}
 use Rattle.paper.specs.Reading.{rowCount}
 use Rattle.paper.specs.Canonical.{canon}
+use Rattle.paper.proofs.Trees.{batch-things}
+use Rattle.paper.proofs.Verdicts.{headed}
 use Rattle.calendar.proofs.Back.{spell-day-length}
-use Rattle.linesound.proofs.Checks.{check-only}
+use Rattle.linesound.proofs.Rows.{file-proper, group-proper, item-proper, strange-proper}
 use Rattle.flat.specs.Count.{groupFront, groupClosing, fileClosing, count}
-use Rattle.flat.proofs.Order.{afterFile, afterGroup, afterItem, file-proper, group-proper, item-proper, strange-proper}
 use Rattle.flat.proofs.Lengths.{canon-length}
 use Rattle.whole.specs.Carries.{FourParts, Carries}
-use Rattle.whole.proofs.Trees.{batch-things}
 use Rattle.whole.proofs.Main.{sound}
 use Rattle.linelen.proofs.Lengths.{decimal-twenty, first-full, file-long}
 use Rattle.explain.proofs.Many.{count-eighth}
 use Rattle.bounds.specs.Most.{mostInput, mostRows, mostOutput}
-use Rattle.bounds.proofs.Items.{proper-short, payer-most, item-most}
+use Rattle.bounds.proofs.Items.{Within, proper-short, payer-most, item-most}
 
 -- ---- what a row brings
-
-abbrev Within : ℕ → List ℕ → Type 0
-Within n s = length s ≤ n
 
 file-closing : (st : Stage) (sum : ℕ) → fileClosing st sum ≤ 30
 unfolding fileClosing
@@ -85,19 +79,11 @@ count-most sh k b (strange ∷ ts) e four = absurd (strange-proper k b ts e)
 
 -- ---- the whole file
 
--- a header that passes refusal 20 has a name of 20 bytes
-header-name : (h : Header) → headerProper h ≡ fine → length (h .name) ≡ 20
-unfolding headerProper
-header-name h e =
-    let t1 = check-only 0 1 (realDay (h .date)) _ e in
-    let t2 = check-only 0 2 (pick (eqb (length (h .name)) 20) (all isText (h .name)) false) _ (t1 .1) in
-    eqb-true (length (h .name)) 20 (pick-both _ _ (t2 .0) .0)
-
 first-most : (sh : Sheet) (h : Header) → pick (sh .header) (headerProper h) fine ≡ fine → length (spellFirst sh h) ≤ 58
 unfolding spellFirst
 first-most sh h e =
     by-test (sh .header)
-    (λ on. omega (arith, first-full sh h on (header-name h (sym (pick-true _ _ on) ∙ e))))
+    (λ on. omega (arith, first-full sh h on (headed h (sym (pick-true _ _ on) ∙ e) .long)))
     (λ off. let q : spellFirst sh h ≡ bytes "UHL1" = pick-false _ _ off in omega (arith, ap length q))
 
 pub canon-most : (sh : Sheet) (today : ℕ) (h : Header) (b : Batch) → Carries sh today h b → length (canon sh h b) ≤ 90 + 345 * rowCount b

@@ -1,46 +1,36 @@
 -- How long an item's line is at most. Assumes nothing.
 use mathlib.Core.Path.{_≡_}
-use mathlib.Core.Bool.{Bool, false}
+use mathlib.Core.Bool.{Bool}
 use mathlib.Core.List.{List, [], _∷_, _++_}
 use Prim.Native.Nat.{ℕ, _+_, _≤_}
 use native.Mathlib.Omega.{arith}
-use lib.Dec.{eqb, leb, ltb}
+use lib.Dec.{eqb}
 use lib.ListN.{length, length-append}
 use Rattle.base.specs.Pick.{pick}
 use Rattle.base.proofs.Cases.{either}
 use Rattle.sheet.specs.declared.Sheet.{Sheet}
 use Rattle.paper.specs.Numerals.{decimal}
-use Rattle.paper.specs.Accounts.{Account, accountProper, isNobody, spellAccount}
-use Rattle.paper.specs.Amounts.{amountProper}
-use Rattle.paper.specs.BankField.{bankProper, priorityProper, spellBank}
-use Rattle.paper.specs.Texts.{nameProper, spellText, noText}
-use Rattle.paper.specs.Batch.{Item, most14}
-use Rattle.paper.specs.Proper.{Verdict, fine, itemPayerProper, itemProper}
+use Rattle.paper.specs.Accounts.{Account, isNobody, spellAccount}
+use Rattle.paper.specs.BankField.{spellBank}
+use Rattle.paper.specs.Texts.{spellText, noText}
+use Rattle.paper.specs.Batch.{Item}
+use Rattle.paper.specs.Proper.{Verdict, fine, itemProper}
 use Rattle.paper.specs.ItemLine.{spellTail, spellItem}
+use Rattle.paper.proofs.Verdicts.{name-short}
 use Rattle.bank.proofs.Spelled.{spell-bank-most}
-use Rattle.linesound.proofs.Checks.{check-only, parts-only}
+use Rattle.linesound.proofs.Items.{tested}
 use Rattle.linelen.proofs.Lengths.{decimal-twenty, account-most}
-use Rattle.bounds.proofs.Texts.{Short, parts-short, name-short, text-most}
+use Rattle.bounds.proofs.Texts.{Short, parts-short, text-most}
 
 -- an item that passes refusal 20 has short texts
 pub proper-short : (k : ℕ) (single : Bool) (before : ℕ) (x : Item) (rest : Verdict) → itemProper k single before x rest ≡ fine
     → Short (x .parts) × (length (x .name) ≤ 35)
-unfolding itemProper
 proper-short k single before x rest e =
-    let t1 = check-only k 1 (itemPayerProper single (x .payer)) _ e in
-    let t2 = check-only k 3 (accountProper (x .payee)) _ (t1 .1) in
-    let t3 = check-only k 5 (bankProper (x .bank)) _ (t2 .1) in
-    let t4 = check-only k 6 (pick (amountProper most14 (x .amount)) (leb (before + x .amount) most14) false) _ (t3 .1) in
-    let t5 = check-only k 7 (ltb (x .variable) 10000000000) _ (t4 .1) in
-    let t6 = check-only k 8 (ltb (x .specific) 10000000000) _ (t5 .1) in
-    let t7 = check-only k 9 (ltb (x .constant) 10000) _ (t6 .1) in
-    let t8 = check-only k 10 (priorityProper (x .priority)) _ (t7 .1) in
-    let t9 = parts-only k 11 (x .parts) _ (t8 .1) in
-    let t0 = check-only k 19 (nameProper (x .name)) rest (t9 .1) in
-    (parts-short (x .parts) (t9 .0), name-short (x .name) (t0 .0))
+    let (t, _) = tested k single before x rest e in
+    (parts-short (x .parts) (t .parts), name-short (x .name) (t .name))
 
 -- a list of bytes has at most n
-abbrev Within : ℕ → List ℕ → Type 0
+abbrev pub Within : ℕ → List ℕ → Type 0
 Within n s = length s ≤ n
 
 -- the payer, with the space behind him

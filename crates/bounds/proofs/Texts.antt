@@ -1,23 +1,17 @@
 -- How long the text of an item is, whose parts and name have at most 35 bytes each. Assumes nothing.
 use mathlib.Core.Path.{_≡_}
-use mathlib.Core.Bool.{true, false}
+use mathlib.Core.Bool.{true}
 use mathlib.Core.List.{List, [], _∷_, _++_}
 use Prim.Native.Nat.{ℕ, suc, _+_, _*_, _≤_}
 use native.Mathlib.Omega.{arith}
-use lib.Dec.{ltb}
 use lib.ListN.{length, length-append}
-use borrow.Author.Tests.{ltb-false}
-use Rattle.base.specs.Pick.{pick}
-use Rattle.base.proofs.Cases.{by-test, either, pick-both}
+use Rattle.base.proofs.Cases.{either, pick-both}
 use Rattle.sheet.specs.declared.Style.{Style}
 use Rattle.paper.specs.Bytes.{bar, av, np, mark}
 use Rattle.paper.specs.Texts.{lacks, nameProper, partProper, partsProper, keep, trim, joinOn, joined, spellName, spellMarked, spellText}
+use Rattle.paper.proofs.Verdicts.{name-short}
 
 -- ---- 35 bytes
-
-pub name-short : (n : List ℕ) → nameProper n ≡ true → length n ≤ 35
-unfolding nameProper pick
-name-short n e = by-test (ltb 35 (length n)) (λ t. absurd (let z : _≡_ {A = ℕ} 0 1 = let f : false ≡ true = rw t at e in cc in omega arith)) (λ t. ltb-false 35 (length n) t)
 
 -- every part has at most so many
 abbrev pub Short : List (List ℕ) → Type 0

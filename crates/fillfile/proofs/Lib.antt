@@ -1,5 +1,4 @@
 pub mod Sum
-pub mod Sized
 pub mod Passing
 pub mod Lines
 pub mod Ends

@@ -5,17 +5,18 @@ use Prim.Native.Nat.{ℕ, suc, _≤_}
 use native.Mathlib.Omega.{arith}
 use Rattle.paper.specs.Accounts.{Account}
 use Rattle.paper.specs.Batch.{Thing, aFile, aGroup, anItem, strange, most14}
-use Rattle.paper.specs.Proper.{atTop, fine, batchProper}
+use Rattle.paper.specs.Proper.{atTop, fine, batchProper, afterFile, afterGroup, afterItem}
 use Rattle.paper.specs.Rows.{thingsIn}
+use Rattle.linesound.proofs.Rows.{file-proper, group-proper, item-proper, strange-proper}
 use Rattle.flat.specs.Flat.{groupSum}
-use Rattle.flat.proofs.Order.{afterFile, afterGroup, afterItem, file-proper, group-proper, item-proper, strange-proper, sum-small, proper-ordered}
+use Rattle.flat.proofs.Order.{sum-small, proper-ordered}
 use Rattle.rowread.specs.declared.ItemRow.{ItemRow}
 use Rattle.rowread.specs.Told.{itemOf}
 use Rattle.rowread.specs.Sized.{Sized}
+use Rattle.rowproper.proofs.Laws.{item-sized}
 use Rattle.fillfile.specs.Sum.{itemSum}
 use Rattle.fillfile.specs.Passing.{Passing}
 use Rattle.fillfile.proofs.Sum.{item-sum}
-use Rattle.fillfile.proofs.Sized.{proper-sized}
 
 pub pass-top : (ts : List Thing) → batchProper ts ≡ fine → Passing ts
 unfolding batchProper
@@ -42,7 +43,7 @@ pass-known ts p = strange-proper (p .k) (p .before) ts (p .rest)
 pub pass-sized : (t : List ℕ) (x : ItemRow) (ts : List Thing) → Passing (anItem (itemOf t x) ∷ ts) → Sized t x
 pass-sized t x ts p =
     let (_, _, _, e, _) = item-proper (p .k) (p .before) (itemOf t x) ts (p .rest) in
-    proper-sized t x (p .before .single) (p .before .sum) (p .k) _ e
+    item-sized t x (p .before .single) (p .before .sum) (p .k) _ e .0
 
 -- behind a group's row stand its items, whose sum has at most 14 digits
 module _ (date : ℕ) (payer : Account) where

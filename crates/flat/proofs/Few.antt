@@ -6,9 +6,8 @@ use native.Mathlib.Omega.{arith}
 use Rattle.base.proofs.Seek.{never}
 use Rattle.paper.specs.Accounts.{Account}
 use Rattle.paper.specs.Batch.{Item}
-use Rattle.paper.specs.Proper.{Stage, needFile, needGroup, needItem, any, fileDue, groupDue, itemDue, Before, atTop}
+use Rattle.paper.specs.Proper.{Stage, needFile, needGroup, needItem, any, fileDue, groupDue, itemDue, Before, atTop, afterFile, afterGroup, afterItem}
 use Rattle.flat.specs.Few.{AtMost, Few}
-use Rattle.flat.proofs.Order.{afterFile, afterGroup, afterItem}
 
 -- before the first row
 pub few-top : Few atTop 0
@@ -62,5 +61,3 @@ module _ (b : Before) (n : ℕ) (f : Few b n) where
   pub few-item : (x : Item) → itemDue (b .stage) ≡ true → b .items < 99999 → Few (afterItem b x) (suc n)
   few-item x d l =
       record { files = f .files; items = omega (arith, l); rows = item-at-most (b .stage) (b .files) (b .items) n d (f .rows) }
-
-pub ruleset fewer = (few-top, few-rows, few-file, few-group, few-item)

@@ -1,25 +1,14 @@
--- A field that passes its test, and all parts of a message: both ways. Assumes nothing.
+-- All parts of a message that pass their tests: both ways. Assumes nothing.
 use mathlib.Core.Path.{_≡_, refl, _∙_}
-use mathlib.Core.Bool.{Bool, true, false}
+use mathlib.Core.Bool.{true}
 use mathlib.Core.List.{List, [], _∷_}
 use Prim.Native.Nat.{ℕ, suc, _+_}
-use native.Mathlib.Omega.{arith}
-use Rattle.base.specs.Pick.{pick}
-use Rattle.base.proofs.Cases.{pick-true, pick-both, both-pick}
+use Rattle.base.proofs.Cases.{pick-both, both-pick}
 use Rattle.sheet.specs.declared.Style.{Style}
 use Rattle.paper.specs.Texts.{partProper, partsProper, partCarried, partsCarried}
-use Rattle.paper.specs.Proper.{Verdict, fine, check, partsFrom}
+use Rattle.paper.specs.Proper.{Verdict, fine, partsFrom}
 use Rattle.paper.specs.Carried.{partsCarriedFrom}
-
--- what passes is judged on, and what is fine has passed
-pub check-on : (k n : ℕ) (ok : Bool) (rest : Verdict) → ok ≡ true → check k n ok rest ≡ rest
-unfolding check
-check-on k n ok rest e = pick-true _ _ e
-
-pub check-only : (k n : ℕ) (ok : Bool) (rest : Verdict) → check k n ok rest ≡ fine → (ok ≡ true) × (rest ≡ fine)
-unfolding check pick
-check-only k n true rest e = (refl, e)
-check-only k n false rest e = absurd (let z : _≡_ {A = ℕ} 0 1 = cc in omega arith)
+use Rattle.paper.proofs.Verdicts.{check-on, check-only}
 
 -- the parts of a message, as a batch may hold them
 pub parts-on : (k n : ℕ) (ps : List (List ℕ)) (rest : Verdict) → partsProper ps ≡ true → partsFrom k n ps rest ≡ rest

@@ -20,12 +20,12 @@ use Rattle.paper.specs.Proper.{fine, headerProper}
 use Rattle.paper.specs.Carried.{headerCarried}
 use Rattle.paper.specs.Entries.{Entry, head}
 use Rattle.paper.specs.FirstLine.{textField, readTo, readRest, readFirst}
+use Rattle.paper.proofs.Verdicts.{check-on}
 use Rattle.numeral.proofs.Sound.{digits-sound}
 use Rattle.given.proofs.Given.{given-value}
 use Rattle.calendar.proofs.Sound.{day-sound}
 use Rattle.linesound.specs.Fits.{HeadFits}
 use Rattle.linesound.proofs.Fine.{Fine, fits, on-fine, place-fine, passed, kept}
-use Rattle.linesound.proofs.Checks.{check-on}
 
 -- ---- its fields
 

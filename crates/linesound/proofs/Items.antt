@@ -14,9 +14,10 @@ use Rattle.paper.specs.Texts.{partsProper, partsCarried, nameProper, nameCarrie
 use Rattle.paper.specs.Batch.{Item, most14}
 use Rattle.paper.specs.Proper.{Verdict, fine, itemPayerProper, itemProper}
 use Rattle.paper.specs.Carried.{itemCarried}
+use Rattle.paper.proofs.Verdicts.{check-on, check-only}
 use Rattle.account.proofs.Proper.{nobody-is}
 use Rattle.linesound.specs.Fits.{ItemFits}
-use Rattle.linesound.proofs.Checks.{check-on, check-only, parts-on, parts-only, carried-on, carried-only}
+use Rattle.linesound.proofs.Checks.{parts-on, parts-only, carried-on, carried-only}
 
 module _ (sh : Sheet) (single : Bool) (x : Item) (f : ItemFits sh single x) where
   -- row k, behind items of the group that amount to `before`
@@ -48,20 +49,20 @@ module _ (sh : Sheet) (single : Bool) (x : Item) (f : ItemFits sh single x) wher
   fits-nobody e = nobody-is (x .payer) (rw (pick-false (accountProper (x .payer)) (isNobody (x .payer)) e) at (f .payer-proper))
 
 -- what `itemProper` tests
-record Tested (single : Bool) (before : ℕ) (x : Item) : Type 0 where
-  payer : itemPayerProper single (x .payer) ≡ true
-  payee : accountProper (x .payee) ≡ true
-  bank : bankProper (x .bank) ≡ true
-  amount : amountProper most14 (x .amount) ≡ true
-  sum : leb (before + x .amount) most14 ≡ true
-  variable : ltb (x .variable) 10000000000 ≡ true
-  specific : ltb (x .specific) 10000000000 ≡ true
-  constant : ltb (x .constant) 10000 ≡ true
-  priority : priorityProper (x .priority) ≡ true
-  parts : partsProper (x .parts) ≡ true
-  name : nameProper (x .name) ≡ true
+pub record Tested (single : Bool) (before : ℕ) (x : Item) : Type 0 where
+  pub payer : itemPayerProper single (x .payer) ≡ true
+  pub payee : accountProper (x .payee) ≡ true
+  pub bank : bankProper (x .bank) ≡ true
+  pub amount : amountProper most14 (x .amount) ≡ true
+  pub sum : leb (before + x .amount) most14 ≡ true
+  pub variable : ltb (x .variable) 10000000000 ≡ true
+  pub specific : ltb (x .specific) 10000000000 ≡ true
+  pub constant : ltb (x .constant) 10000 ≡ true
+  pub priority : priorityProper (x .priority) ≡ true
+  pub parts : partsProper (x .parts) ≡ true
+  pub name : nameProper (x .name) ≡ true
 
-tested : (k : ℕ) (single : Bool) (before : ℕ) (x : Item) (rest : Verdict) → itemProper k single before x rest ≡ fine → Tested single before x × (rest ≡ fine)
+pub tested : (k : ℕ) (single : Bool) (before : ℕ) (x : Item) (rest : Verdict) → itemProper k single before x rest ≡ fine → Tested single before x × (rest ≡ fine)
 unfolding itemProper
 tested k single before x rest e =
     let t1 = check-only k 1 (itemPayerProper single (x .payer)) _ e in

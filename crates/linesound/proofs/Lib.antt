@@ -1,6 +1,7 @@
 pub mod Fine
 pub mod Checks
 pub mod Items
+pub mod Rows
 pub mod FirstLine
 pub mod FileLine
 pub mod GroupLine

@@ -18,12 +18,11 @@ use Rattle.paper.specs.GroupLine.{spellGroup}
 use Rattle.paper.specs.FileLine.{series, numberAllowed, spellFile}
 use Rattle.paper.specs.ItemLine.{spellItem}
 use Rattle.paper.specs.Batch.{Item, Header, Thing, aFile, aGroup, anItem, strange}
-use Rattle.paper.specs.Proper.{Verdict, fine, wrong, check, fileDue, groupDue, itemDue, kindProper, payerProper, itemProper, rowsProper}
+use Rattle.paper.specs.Proper.{Verdict, fine, wrong, check, fileDue, groupDue, itemDue, kindProper, payerProper, itemProper, rowsProper, afterFile, afterGroup, afterItem}
 use Rattle.paper.specs.Carried.{itemCarried, rowsCarried}
-use Rattle.linesound.proofs.Checks.{check-only}
+use Rattle.paper.proofs.Verdicts.{check-only}
 use Rattle.flat.specs.Count.{groupFront, groupClosing, fileClosing, count}
 use Rattle.flat.proofs.Lengths.{group-length}
-use Rattle.flat.proofs.Order.{afterFile, afterGroup, afterItem}
 use Rattle.rowread.specs.declared.Check.{Check}
 use Rattle.rowread.specs.declared.Check.the-variants.{Fine, Wrong}
 use Rattle.rowread.specs.After.{after}

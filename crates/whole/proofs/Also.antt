@@ -10,10 +10,10 @@ use Rattle.paper.specs.Accounts.{Account, isNobody}
 use Rattle.paper.specs.Batch.{Item, Group, AccountFile, Header, sum, most14, Thing, aFile, aGroup, itemThings, groupThings, things}
 use Rattle.paper.specs.FileLine.{series}
 use Rattle.paper.specs.Entries.{file, group}
-use Rattle.paper.specs.Proper.{any, fileDue, groupDue, itemDue, mayStop, Before}
+use Rattle.paper.specs.Proper.{any, fileDue, groupDue, itemDue, mayStop, Before, afterFile, afterGroup, afterItem}
 use Rattle.paper.specs.Spells.{forFile, forGroup, singleIn, Due, due, itemDues, groupDues, fileDues, groupItems, fileItems, GroupRules, FileRules}
 use Rattle.whole.proofs.Lines.{Every, Told}
-use Rattle.whole.proofs.Good.{Good, afterFile, afterGroup, afterItem, end-also, file-also, group-also, item-also}
+use Rattle.whole.proofs.Good.{Good, end-also, file-also, group-also, item-also}
 
 module _ (sh : Sheet) (today : ℕ) (h : Header) where
   abbrev Tell : List Due → Type 0

@@ -17,8 +17,8 @@ use Rattle.paper.specs.Rows.{word, rowsIn, thingIn, thingsIn}
 use Rattle.paper.specs.Carried.{headerCarried, batchCarried}
 use Rattle.paper.specs.Canonical.{canon}
 use Rattle.paper.specs.Writing.{Draft, drafted, refusal, onVerdict, draftOf, draftWith, draft}
+use Rattle.paper.proofs.Trees.{batch-things}
 use Rattle.whole.specs.Carries.{FourParts, Passes, Carries, Refuses}
-use Rattle.whole.proofs.Trees.{batch-things}
 
 -- ---- a file, or a refusal
 

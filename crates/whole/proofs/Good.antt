@@ -1,37 +1,27 @@
 -- Rows that pass from some row on: what the tests of each kind of row ask, both ways. Assumes nothing.
 use mathlib.Core.Path.{_≡_, refl, sym, _∙_}
-use mathlib.Core.Bool.{true, false}
+use mathlib.Core.Bool.{true}
 use mathlib.Core.List.{List, [], _∷_}
 use Prim.Native.Nat.{ℕ, suc, _+_, _≤_, _<_}
 use native.Mathlib.Omega.{arith}
 use lib.Dec.{ltb}
-use borrow.Author.Tests.{ltb-true, lt-ltb, leb-true, le-leb}
-use Rattle.base.specs.Pick.{pick}
-use Rattle.base.proofs.Cases.{pick-both, both-pick}
+use borrow.Author.Tests.{ltb-true, lt-ltb, le-leb}
+use Rattle.base.proofs.Cases.{both-pick}
 use Rattle.base.proofs.Seek.{never}
 use Rattle.sheet.specs.declared.Sheet.{Sheet}
 use Rattle.sheet.specs.Sheets.{kindAllowed}
-use Rattle.paper.specs.Days.{realDay, dueAllowed}
-use Rattle.paper.specs.Accounts.{Account, isNobody}
+use Rattle.paper.specs.Days.{dueAllowed}
+use Rattle.paper.specs.Accounts.{Account}
 use Rattle.paper.specs.Batch.{Item, Group, AccountFile, Header, most14, Thing, aFile, aGroup, anItem, groupThings, things}
 use Rattle.paper.specs.FileLine.{series, numberAllowed}
-use Rattle.paper.specs.Proper.{fine, needGroup, needItem, any, fileDue, groupDue, itemDue, mayStop, Before, kindProper, payerProper, itemProper, rowsProper}
+use Rattle.paper.specs.Proper.{fine, needGroup, needItem, fileDue, groupDue, itemDue, mayStop, Before, rowsProper, afterFile, afterGroup, afterItem}
 use Rattle.paper.specs.Carried.{itemCarried, rowsCarried}
 use Rattle.paper.specs.Spells.{forFile, allowedIn}
+use Rattle.paper.proofs.Verdicts.{check-on, check-only}
 use Rattle.linesound.specs.Fits.{FileFits, GroupFits, ItemFits}
-use Rattle.linesound.proofs.Checks.{check-on, check-only}
-use Rattle.linesound.proofs.Items.{fits-proper, fits-carried, proper-rest, proper-sum, carried-rest, tests-fit}
+use Rattle.linesound.proofs.Items.{fits-proper, fits-carried, carried-rest, tests-fit}
+use Rattle.linesound.proofs.Rows.{end-proper, file-proper, group-proper, item-proper}
 use Rattle.whole.specs.Carries.{FourParts}
-
--- what stands before the next row, behind an account file's row, a group's and an item's
-abbrev pub afterFile : Before → Before
-afterFile b = record { stage = needGroup; files = b .files + 1; items = 0; single = false; sum = 0 }
-
-abbrev pub afterGroup : Before → Account → Before
-afterGroup b payer = record { stage = needItem; files = b .files; items = b .items; single = isNobody payer; sum = 0 }
-
-abbrev pub afterItem : Before → Item → Before
-afterItem b x = record { stage = any; files = b .files; items = b .items + 1; single = b .single; sum = b .sum + x .amount }
 
 module _ (sh : Sheet) (today : ℕ) (h : Header) where
   -- the rows from row k on pass: m items stand before them in the file, and account files with numbers that begin with `seen`
@@ -44,8 +34,7 @@ module _ (sh : Sheet) (today : ℕ) (h : Header) where
     -- ---- no row
 
     pub end-only : Good k b m seen [] → mayStop (b .stage) ≡ true
-    unfolding rowsProper
-    end-only g = check-only k 0 (mayStop (b .stage)) fine (g .is-proper) .0
+    end-only g = end-proper k b (g .is-proper)
 
     pub end-also : mayStop (b .stage) ≡ true → Good k b m seen []
     unfolding rowsProper rowsCarried
@@ -58,16 +47,13 @@ module _ (sh : Sheet) (today : ℕ) (h : Header) where
         × Good (suc k) (afterFile b) m (series number ∷ seen) ts
     unfolding rowsProper rowsCarried allowedIn
     file-only kind number ts g =
-        let (p0, p1) = check-only k 0 (pick (fileDue (b .stage)) (ltb (b .files) 1000) false) _ (g .is-proper) in
-        let (p2, p3) = check-only k 1 (kindProper kind) _ p1 in
-        let (p4, p5) = check-only k 2 (ltb number 1000000) _ p3 in
+        let (d, few, kind-is, low, rest) = file-proper k b kind number ts (g .is-proper) in
         let (c0, c1) = check-only k 1 (kindAllowed sh kind) _ (g .is-carried) in
-        let (c2, c3) = check-only k 2 (numberAllowed (sh .interval) h seen number) _ c1 in
-        let (d, few) = pick-both (fileDue (b .stage)) (ltb (b .files) 1000) p0 in (
+        let (c2, c3) = check-only k 2 (numberAllowed (sh .interval) h seen number) _ c1 in (
           d,
-          ltb-true (b .files) 1000 few,
-          record { kind-proper = p2; kind-allowed = c0; number-low = omega (arith, ltb-true number 1000000 p4); number-allowed = c2 },
-          record { is-proper = p5; is-carried = c3; has-parts = g .has-parts },
+          few,
+          record { kind-proper = kind-is; kind-allowed = c0; number-low = omega arith; number-allowed = c2 },
+          record { is-proper = rest; is-carried = c3; has-parts = g .has-parts },
         )
 
     pub file-also : (kind number : ℕ) (ts : List Thing) → fileDue (b .stage) ≡ true → b .files < 1000
@@ -91,13 +77,11 @@ module _ (sh : Sheet) (today : ℕ) (h : Header) where
         → (groupDue (b .stage) ≡ true) × ((total : ℕ) → total ≤ most14 → GroupFits sh today payer total date) × Good (suc k) (afterGroup b payer) m seen ts
     unfolding rowsProper rowsCarried
     group-only date payer ts g =
-        let (p0, p1) = check-only k 0 (groupDue (b .stage)) _ (g .is-proper) in
-        let (p2, p3) = check-only k 1 (realDay date) _ p1 in
-        let (p4, p5) = check-only k 2 (payerProper payer) _ p3 in
+        let (d, real, payer-is, rest) = group-proper k b date payer ts (g .is-proper) in
         let (c0, c1) = check-only k 1 (dueAllowed (sh .early) (sh .ahead) today date) _ (g .is-carried) in (
-          p0,
-          λ total low. record { payer-proper = p4; total-low = omega arith; date-real = p2; date-allowed = c0 },
-          record { is-proper = p5; is-carried = c1; has-parts = g .has-parts },
+          d,
+          λ total low. record { payer-proper = payer-is; total-low = omega arith; date-real = real; date-allowed = c0 },
+          record { is-proper = rest; is-carried = c1; has-parts = g .has-parts },
         )
 
     pub group-also : (date : ℕ) (payer : Account) (ts : List Thing) → groupDue (b .stage) ≡ true
@@ -121,18 +105,13 @@ module _ (sh : Sheet) (today : ℕ) (h : Header) where
     item-only x ts g =
         let after = rowsProper (suc k) (afterItem b x) ts in
         let others = rowsCarried sh today h (suc k) (suc m) seen ts in
-        let (p0, p1) = check-only k 0 (pick (itemDue (b .stage)) (ltb (b .items) 99999) false) (itemProper k (b .single) (b .sum) x after) (g .is-proper) in
-        let (c0, c1) = check-only k 0 (ltb m (sh .fileitems)) (itemCarried sh k x others) (g .is-carried) in
-        let (d, few) = pick-both (itemDue (b .stage)) (ltb (b .items) 99999) p0 in (
-          ltb-true (b .items) 99999 few,
-          leb-true (b .sum + x .amount) most14 (proper-sum k (b .single) (b .sum) x after p1),
+        let (_, few, small, p, rest) = item-proper k b x ts (g .is-proper) in
+        let (c0, c1) = check-only k 0 (ltb m (sh .fileitems)) (itemCarried sh k x others) (g .is-carried) in (
+          few,
+          small,
           ltb-true m (sh .fileitems) c0,
-          tests-fit sh (b .single) x (g .has-parts .0) k (b .sum) after p1 k others c1,
-          record {
-            is-proper = proper-rest k (b .single) (b .sum) x after p1;
-            is-carried = carried-rest sh k x others c1;
-            has-parts = g .has-parts .1;
-          },
+          tests-fit sh (b .single) x (g .has-parts .0) k (b .sum) after p k others c1,
+          record { is-proper = rest; is-carried = carried-rest sh k x others c1; has-parts = g .has-parts .1 },
         )
 
     pub item-also : (x : Item) (ts : List Thing) → itemDue (b .stage) ≡ true → b .items < 99999 → b .sum + x .amount ≤ most14 → m < sh .fileitems

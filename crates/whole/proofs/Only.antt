@@ -8,11 +8,11 @@ use Rattle.sheet.specs.declared.Sheet.{Sheet}
 use Rattle.paper.specs.Accounts.{Account}
 use Rattle.paper.specs.Batch.{Item, Group, AccountFile, Header, sum, most14, Thing, itemThings, groupThings, things}
 use Rattle.paper.specs.FileLine.{series}
-use Rattle.paper.specs.Proper.{Before}
+use Rattle.paper.specs.Proper.{Before, afterFile, afterGroup, afterItem}
 use Rattle.paper.specs.Spells.{singleIn, Due, itemDues, groupDues, fileDues, groupItems, fileItems, GroupRules, FileRules}
 use Rattle.linesound.specs.Fits.{Fits}
 use Rattle.whole.proofs.Lines.{Every}
-use Rattle.whole.proofs.Good.{Good, afterFile, afterGroup, afterItem, file-only, group-only, item-only, none-item, none-group}
+use Rattle.whole.proofs.Good.{Good, file-only, group-only, item-only, none-item, none-group}
 
 module _ (sh : Sheet) (today : ℕ) (h : Header) where
   abbrev Fit : List Due → Type 0

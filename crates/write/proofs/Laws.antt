@@ -5,24 +5,19 @@ use mathlib.Core.List.{List}
 use Prim.Native.Nat.{ℕ, _+_, _≤_, _<_}
 use native.Mathlib.Nat.{zero-add}
 use native.Mathlib.Omega.{arith}
-use lib.Dec.{eqb}
 use lib.ListN.{length, length-append}
-use borrow.Author.Tests.{eqb-true, lt-ltb, le-ltb}
+use borrow.Author.Tests.{lt-ltb, le-ltb}
 use Rattle.base.specs.Pick.{pick}
 use Rattle.base.specs.Put.{put, Wrote}
-use Rattle.base.specs.Seek.{all}
-use Rattle.base.proofs.Cases.{pick-both}
 use Rattle.base.proofs.Put.{length-put, _then_}
 use Rattle.sheet.specs.declared.Sheet.{Sheet}
-use Rattle.paper.specs.Bytes.{isText}
-use Rattle.paper.specs.Days.{realDay}
 use Rattle.paper.specs.Batch.{Header, Thing, batchOf, noHeader}
 use Rattle.paper.specs.Proper.{needFile, Verdict, fine, wrong, headerProper, batchProper}
 use Rattle.paper.specs.Carried.{headerCarried, batchCarried}
 use Rattle.paper.specs.FirstLine.{spellFirst}
 use Rattle.paper.specs.Canonical.{canon}
 use Rattle.paper.specs.Writing.{Draft, drafted, refusal, onVerdict, draftOf, writtenIn, outputAfter}
-use Rattle.linesound.proofs.Checks.{check-only}
+use Rattle.paper.proofs.Verdicts.{headed}
 use Rattle.flat.specs.Flat.{lineOf, flat}
 use Rattle.flat.proofs.Canon.{canon-flat}
 use Rattle.flat.proofs.Lengths.{canon-length}
@@ -60,17 +55,9 @@ fit-rows fine fine n c e = let x : c ≡ n = cc in (refl, refl, x)
 
 -- ---- the header
 
--- a header that is as "The batch" says has a name of 20 bytes
-pub proper-name : (h : Header) → headerProper h ≡ fine → length (h .name) ≡ 20
-unfolding headerProper
-proper-name h e =
-    let (d, rest) = check-only 0 1 (realDay (h .date)) _ e in
-    let (n, _) = check-only 0 2 (pick (eqb (length (h .name)) 20) (all isText (h .name)) false) _ rest in
-    eqb-true (length (h .name)) 20 (pick-both (eqb (length (h .name)) 20) (all isText (h .name)) n .0)
-
 fine-named : (t : Bool) (h : Header) → fine ≡ pick t (headerProper h) fine → t ≡ true → length (h .name) ≡ 20
 unfolding pick
-fine-named true h e _ = proper-name h (sym e)
+fine-named true h e _ = headed h (sym e) .long
 fine-named false h e t = absurd (let z : _≡_ {A = ℕ} 0 1 = cc in omega arith)
 
 module _ (sh : Sheet) (h : Header) where
