@@ -12,7 +12,7 @@ use Rattle.sheet.specs.declared.Sheet.{Sheet}
 use Rattle.sheet.specs.declared.Known.{Known}
 use Rattle.sheet.specs.declared.Known.the-variants as known
 use Rattle.sheet.specs.Sheets.{sheetOf}
-use Rattle.sheet.proofs.Laws.{Sane, sane}
+use Rattle.sheet.proofs.Laws.{sheet-sane}
 use Rattle.paper.specs.Days.{realDay}
 use Rattle.paper.specs.Reading.{refusedAt, readWith}
 use Rattle.paper.specs.Writing.{drafted, writtenIn, outputAfter}
@@ -52,9 +52,6 @@ pub ruleset verdicts = (real-known, no-day, refused, accepted)
 
 -- r is the sheet that the number names
 module _ (r : Known) (n : ℕ) (g : r ≡ sheetOf n) where
-  pub sheet-sane : (sh : Sheet) → r ≡ known.Sheet sh → Sane sh
-  sheet-sane sh e = sane n sh (sym g ∙ e)
-
   module _ (today : ℕ) (f : List ℕ) where
     pub on-sheet : (v : Verdict) (sh : Sheet) → r ≡ known.Sheet sh → v ≡ verdictOf (readWith (known.Sheet sh) today f (length f))
         → v ≡ verdictOf (readWith (sheetOf n) today f (length f))

@@ -3,12 +3,11 @@ use mathlib.Core.Path.{_≡_, refl, ap, _∙_}
 use mathlib.Core.Bool.{Bool, true, false}
 use mathlib.Core.List.{List, [], _++_}
 use Prim.Native.Nat.{ℕ, _^_, _<_}
-use lib.Dec.{eqb, ltb, leb}
-use lib.ListN.{length}
-use borrow.Author.Tests.{ltb-true, leb-true, le-ltb, eqb-true}
+use lib.Dec.{ltb, leb}
+use borrow.Author.Tests.{leb-true, le-ltb}
 use Rattle.base.specs.Pick.{pick}
 use Rattle.base.specs.Seek.{all, starts}
-use Rattle.base.proofs.Cases.{either, pick-true, pick-false, pick-both}
+use Rattle.base.proofs.Cases.{either, pick-true, pick-false}
 use Rattle.sheet.specs.declared.Sheet.{Sheet}
 use Rattle.paper.specs.Read.{value, given}
 use Rattle.paper.specs.Bytes.{bytes, isText}
@@ -19,39 +18,11 @@ use Rattle.paper.specs.Proper.{fine, headerProper}
 use Rattle.paper.specs.Carried.{headerCarried}
 use Rattle.paper.specs.Entries.{head, got, headLine, kindOf}
 use Rattle.paper.specs.FirstLine.{textField, readTo, restLength, readRest, readFirst, spellFirst}
+use Rattle.paper.proofs.Verdicts.{check-only, Headed, headed}
 use Rattle.numeral.proofs.Fixed.{fixed-length}
 use Rattle.numeral.proofs.Back.{fixed-back}
 use Rattle.calendar.proofs.Back.{day-back, spell-day-length}
-use Rattle.linesound.proofs.Checks.{check-only}
 use Rattle.lineback.proofs.Fields.{on-back, place-back}
-
--- ---- what a header has
-
-pub record Tested (h : Header) : Type 0 where
-  pub date : realDay (h .date) ≡ true
-  pub long : length (h .name) ≡ 20
-  pub name : all isText (h .name) ≡ true
-  pub client : h .client < 10 ^ 10
-  pub from : h .from < 10 ^ 3
-  pub to : h .to < 10 ^ 3
-
-pub tested : (h : Header) → headerProper h ≡ fine → Tested h
-unfolding headerProper
-tested h e =
-    let t1 = check-only 0 1 (realDay (h .date)) _ e in
-    let t2 = check-only 0 2 (pick (eqb (length (h .name)) 20) (all isText (h .name)) false) _ (t1 .1) in
-    let t3 = check-only 0 3 (ltb (h .client) 10000000000) _ (t2 .1) in
-    let t4 = check-only 0 4 (ltb (h .from) 1000) _ (t3 .1) in
-    let t5 = check-only 0 5 (ltb (h .to) 1000) _ (t4 .1) in
-    let n = pick-both (eqb (length (h .name)) 20) (all isText (h .name)) (t2 .0) in
-    record {
-      date = t1 .0;
-      long = eqb-true (length (h .name)) 20 (n .0);
-      name = n .1;
-      client = ltb-true (h .client) 10000000000 (t3 .0);
-      from = ltb-true (h .from) 1000 (t4 .0);
-      to = ltb-true (h .to) 1000 (t5 .0);
-    }
 
 ordered-in : (ordered : Bool) (h : Header) → headerCarried ordered h ≡ fine → pick ordered (ltb (h .to) (h .from)) false ≡ false
 unfolding headerCarried pick
@@ -90,7 +61,7 @@ pub first-is : (sh : Sheet) → sh .header ≡ true → (h : Header) → spellFi
 unfolding spellFirst
 first-is sh on h = pick-true (line58 h) (bytes "UHL1") on
 
-fields-back : (sh : Sheet) → sh .header ≡ true → (h : Header) → Tested h → headerCarried (sh .interval) h ≡ fine → readFirst sh (line58 h) ≡ got (head h) 0 []
+fields-back : (sh : Sheet) → sh .header ≡ true → (h : Header) → Headed h → headerCarried (sh .interval) h ≡ fine → readFirst sh (line58 h) ≡ got (head h) 0 []
 unfolding readFirst
 fields-back sh on h t c =
     pick-true _ _ on
@@ -104,7 +75,7 @@ fields-back sh on h t c =
 
 pub first-back : (sh : Sheet) → sh .header ≡ true → (h : Header) → headerProper h ≡ fine → headerCarried (sh .interval) h ≡ fine
     → readFirst sh (spellFirst sh h) ≡ got (head h) 0 []
-first-back sh on h p c = ap (readFirst sh) (first-is sh on h) ∙ fields-back sh on h (tested h p) c
+first-back sh on h p c = ap (readFirst sh) (first-is sh on h) ∙ fields-back sh on h (headed h p) c
 
 -- where the first line has no fields, every header reads back as none
 pub none-back : (sh : Sheet) → sh .header ≡ false → (h : Header) → readFirst sh (spellFirst sh h) ≡ got (head noHeader) 0 []

@@ -25,7 +25,6 @@ use Rattle.amount.proofs.Back.{amount-back}
 use Rattle.bank.proofs.Back.{bank-back, spell-bank-plain}
 use Rattle.linesound.specs.Fits.{ItemFits}
 use Rattle.linesound.proofs.Items.{fits-nobody}
-use Rattle.lineback.specs.Apt.{Apt}
 use Rattle.lineback.proofs.Fields.{at-space, digits-field, field-back, onward}
 use Rattle.lineback.proofs.Starts.{kind-account}
 use Rattle.lineback.proofs.Tail.{symbol-field, symbol-back, tail-back, tail-stops}
@@ -61,7 +60,7 @@ same-item x payer t e f g = rw (e, f, g)
 got-same : (i x : Item) (w : ℕ) (spots : List ℕ) → i ≡ x → w ≡ 0 → got (item i) w spots ≡ got (item x) 0 spots
 got-same i x w spots e f = rw (e, f)
 
-module _ (sh : Sheet) (sane : Sane sh) (apt : Apt sh) (single : Bool) (x : Item) (f : ItemFits sh single x) where
+module _ (sh : Sheet) (sane : Sane sh) (single : Bool) (x : Item) (f : ItemFits sh single x) where
   abbrev Reads : Said → Type 0
   Reads r = (spots : List ℕ) × (r ≡ got (item x) 0 spots)
 
@@ -69,7 +68,7 @@ module _ (sh : Sheet) (sane : Sane sh) (apt : Apt sh) (single : Bool) (x : Item)
       → Reads (tail sh at (spellTail sh (x .specific) (x .parts) (x .name)) λ specific texts.
       got (item (itemOf payer (x .payee) (x .amount) (x .variable) specific (bankOf x) texts)) (0 + texts .warnings) (places texts))
   tail-said payer e at =
-      let t = tail-back sh sane (x .specific) (ltb-true (x .specific) 10000000000 (f .specific-low)) (x .parts) (x .name) (f .texts) at apt in (
+      let t = tail-back sh sane (x .specific) (ltb-true (x .specific) 10000000000 (f .specific-low)) (x .parts) (x .name) (f .texts) at in (
         places (t .texts),
         t .reads _
             ∙ got-same _ x _ _ (same-item x payer (t .texts) e (t .parts-back) (t .name-back)) (omega (arith, t .no-warning)),
@@ -106,17 +105,17 @@ kind-of sh true x f =
     ap kindOf (single-is sh x (proper-somebody (x .payer) p)) ∙ kind-account (x .payer) p _
 kind-of sh false x f = ap kindOf (collective-is sh x (payer-none (x .payer) (f .payer-proper))) ∙ kind-account (x .payee) (f .payee-proper) _
 
-pub item-back : (sh : Sheet) → Sane sh → Apt sh → (single : Bool) (x : Item) → ItemFits sh single x
+pub item-back : (sh : Sheet) → Sane sh → (single : Bool) (x : Item) → ItemFits sh single x
     → (spots : List ℕ) × (readItem sh single (spellItem sh x) ≡ got (item x) 0 spots)
 unfolding readItem gap pick
-item-back sh sane apt true x f =
+item-back sh sane true x f =
     let p = payer-is (x .payer) (f .payer-proper) in
     onward
     (ap (readItem sh true) (single-is sh x (proper-somebody (x .payer) p))
     ∙ field-back (readAccount (sh .joined) (sh .basemin)) 0 (spellAccount (x .payer)) (x .payer) _ _ (spell-account-field (x .payer)) at-space
     (account-back (x .payer) p (sh .joined) (sh .basemin) (sane .base-few)))
-    (payee-said sh sane apt true x f (x .payer) refl _)
-item-back sh sane apt false x f =
+    (payee-said sh sane true x f (x .payer) refl _)
+item-back sh sane false x f =
     onward
     (ap (readItem sh false) (collective-is sh x (payer-none (x .payer) (f .payer-proper))))
-    (payee-said sh sane apt false x f nobody (sym (fits-nobody sh false x f refl)) 0)
+    (payee-said sh sane false x f nobody (sym (fits-nobody sh false x f refl)) 0)

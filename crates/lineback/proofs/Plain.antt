@@ -8,7 +8,7 @@ use lib.Dec.{eqb}
 use Rattle.base.specs.Pick.{pick}
 use Rattle.base.specs.Seek.{all}
 use Rattle.base.proofs.Cases.{either}
-use Rattle.base.proofs.Seek.{all-cons, all-append}
+use Rattle.base.proofs.Seek.{all-cons, all-append, all-weaker}
 use Rattle.sheet.specs.declared.Sheet.{Sheet}
 use Rattle.sheet.proofs.Laws.{Sane}
 use Rattle.paper.specs.Bytes.{bytes}
@@ -22,6 +22,7 @@ use Rattle.paper.specs.FirstLine.{spellFirst}
 use Rattle.paper.specs.FileLine.{spellFile}
 use Rattle.paper.specs.GroupLine.{spellPayer, spellGroup}
 use Rattle.paper.specs.ItemLine.{spellTail, spellItem}
+use Rattle.paper.proofs.Verdicts.{headed}
 use Rattle.numeral.proofs.Plain.{fixed-plain, decimal-plain}
 use Rattle.calendar.proofs.Back.{spell-day-plain}
 use Rattle.account.specs.Bytes.{isAccountByte}
@@ -30,10 +31,9 @@ use Rattle.bank.proofs.Back.{spell-bank-plain}
 use Rattle.wording.specs.Wording.{Sendable}
 use Rattle.wording.proofs.Laws.{spell-text-plain}
 use Rattle.line.specs.Cutting.{isPlain}
-use Rattle.line.proofs.Plain.{high-plain, all-weaker, texts-plain, digits-plain}
+use Rattle.line.proofs.Plain.{high-plain, texts-plain, digits-plain}
 use Rattle.linesound.specs.Fits.{ItemFits}
 use Rattle.lineback.proofs.Starts.{account-range}
-use Rattle.lineback.proofs.FirstLine.{tested}
 
 abbrev Plain : List ℕ → Type 0
 Plain s = all isPlain s ≡ true
@@ -77,7 +77,7 @@ first-plain sh h p =
     (λ on.
     both-plain (bytes "UHL1") _ uhl
     (both-plain (spellDay (h .date)) _ (day-is (h .date))
-    (both-plain (h .name) _ (texts-plain (h .name) ((tested h (p on)) .name))
+    (both-plain (h .name) _ (texts-plain (h .name) ((headed h (p on)) .name))
     (both-plain (fixed 10 (h .client)) _ (fixed-is 10 (h .client))
     (both-plain (fixed 3 (h .from)) _ (fixed-is 3 (h .from)) (both-plain (fixed 3 (h .to)) _ (fixed-is 3 (h .to)) (fixed-is 12 0)))))))
     (λ _. uhl)

@@ -2,7 +2,7 @@
 use mathlib.Core.Path.{_≡_, refl, sym, ap, _∙_}
 use mathlib.Core.Bool.{Bool, true, false}
 use mathlib.Core.List.{List, [], _∷_, _++_, append-nil}
-use Prim.Native.Nat.{ℕ, _+_, _^_, _<_, _≤_}
+use Prim.Native.Nat.{ℕ, _+_, _^_, _<_}
 use native.Mathlib.Omega.{arith}
 use lib.Dec.{eqb}
 use lib.ListN.{length}
@@ -19,6 +19,7 @@ use Rattle.paper.specs.Numerals.{decimal}
 use Rattle.paper.specs.Texts.{Texts, readText, trim, spellText, noText}
 use Rattle.paper.specs.Entries.{Said, gap}
 use Rattle.paper.specs.ItemLine.{noTexts, readSymbol, readSymbolOrNone, isValue, fixedTail, afterSymbol, openTail, tail, partBytes, spellTail}
+use Rattle.paper.proofs.Lists.{some-null}
 use Rattle.numeral.proofs.Back.{decimal-back}
 use Rattle.numeral.proofs.Plain.{decimal-plain}
 use Rattle.numeral.proofs.Long.{decimal-some}
@@ -26,7 +27,6 @@ use Rattle.wording.specs.Wording.{Sendable, Back}
 use Rattle.wording.proofs.Parts.{fill, fill-trim}
 use Rattle.wording.proofs.Fit.{null-is}
 use Rattle.wording.proofs.Laws.{text-back}
-use Rattle.lineback.specs.Apt.{Apt}
 use Rattle.lineback.proofs.Fields.{Stops, at-end, at-space, digits-field, field-is, on-back, field-back}
 
 -- ---- the symbol
@@ -36,11 +36,6 @@ symbol-field n = digits-field (decimal n) (decimal-plain n)
 
 pub symbol-back : (n : ℕ) → n < 10 ^ 10 → readSymbol (decimal n) ≡ value n
 symbol-back n h = decimal-back 10 n (omega arith) (omega arith) h
-
-some : (s : List ℕ) → 1 ≤ length s → null s ≡ false
-unfolding null
-some [] h = absurd (omega arith)
-some (x ∷ s) h = refl
 
 -- S: empty if it is 0
 abbrev orNone : ℕ → List ℕ
@@ -55,7 +50,7 @@ unfolding readSymbolOrNone null pick
 none-back n h =
     either (λ s. readSymbolOrNone s ≡ value n) (eqb n 0)
     (λ e. ap value (sym (eqb-true n 0 e)))
-    (λ _. pick-false _ _ (some (decimal n) (decimal-some n)) ∙ symbol-back n h)
+    (λ _. pick-false _ _ (some-null (decimal n) (decimal-some n)) ∙ symbol-back n h)
 
 -- ---- no text
 
@@ -163,10 +158,10 @@ module _ (sh : Sheet) (sane : Sane sh) (specific : ℕ) (low : specific < 10 ^ 1
       unfolding tail openTail
       nothing-back z = none-texts [] (λ k. pick-false _ _ off ∙ ap (λ (n : ℕ). k n noTexts) (sym z))
 
-  pub tail-back : Apt sh → Reads (spellTail sh specific parts name)
+  pub tail-back : Reads (spellTail sh specific parts name)
   unfolding spellTail
-  tail-back apt =
-      either Reads (sh .fixedtail) (λ on. fixed-back on (apt .as-stands on))
+  tail-back =
+      either Reads (sh .fixedtail) (λ on. fixed-back on (sane .as-stands on))
       (λ off.
       either Reads (noText parts name)
       (λ e. either Reads (eqb specific 0) (λ z. nothing-back off e (eqb-true specific 0 z)) (λ _. alone-back off e))

@@ -9,7 +9,7 @@ use Rattle.sheet.specs.declared.Sheet.{Sheet}
 use Rattle.sheet.specs.declared.Known.{Known}
 use Rattle.sheet.specs.declared.Known.the-variants as known
 use Rattle.sheet.specs.Sheets.{sheetOf}
-use Rattle.sheet.proofs.Laws.{Sane, sane}
+use Rattle.sheet.proofs.Laws.{Sane, sheet-sane}
 use Rattle.paper.specs.Days.{realDay}
 use Rattle.paper.specs.Batch.{Header, most14}
 use Rattle.paper.specs.Lines.{linesOf}
@@ -26,9 +26,6 @@ use Rattle.read.proofs.Laws as laws
 
 -- r is the sheet that the number names
 module _ (r : Known) (n : ℕ) (g : r ≡ sheetOf n) where
-  pub sheet-sane : (sh : Sheet) → r ≡ known.Sheet sh → Sane sh
-  sheet-sane sh e = sane n sh (sym g ∙ e)
-
   module _ (today : ℕ) (f lent : List ℕ) (a : ReadAnswer) (o : List ℕ) where
     pub on-sheet : (sh : Sheet) → r ≡ known.Sheet sh → a ≡ readWith (known.Sheet sh) today f (length lent / rowSize) → a ≡ readAnswer n today f lent
     unfolding readAnswer

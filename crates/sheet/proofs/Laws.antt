@@ -1,5 +1,5 @@
 -- What holds of every sheet that a number or a letter names. Assumes nothing.
-use mathlib.Core.Path.{_≡_, refl, sym, subst}
+use mathlib.Core.Path.{_≡_, refl, sym, subst, _∙_}
 use mathlib.Core.Bool.{Bool, true, false}
 use Prim.Native.Nat.{ℕ, _^_, _≤_, _<_}
 use native.Mathlib.Omega.{arith}
@@ -87,13 +87,16 @@ number-same = every-letter (λ s. sheetOf (s .number) ≡ known.Sheet s) (named-
 
 -- ---- its parameters
 
--- the bounds that every sheet keeps to
+-- the bounds that every sheet keeps to. A tail that always has its text, which may be empty, has it as it stands. Where no header is read, none
+-- limits the numbers of account files.
 pub record Sane (s : Sheet) : Type 0 where
   pub base-some : 1 ≤ s .basemin
   pub base-few : s .basemin ≤ 2
   pub parts-some : 0 < s .text .most
   pub parts-few : s .text .most ≤ 4
   pub names-av : s .text .av ≡ false → s .text .names ≡ false
+  pub as-stands : s .fixedtail ≡ true → s .text .av ≡ false
+  pub no-interval : s .header ≡ false → s .interval ≡ false
   pub digits-some : 1 ≤ s .itemdigits
   pub digits-few : s .itemdigits ≤ 14
   pub item-low : s .itemmax ≤ 99999999999999
@@ -104,84 +107,27 @@ pub record Sane (s : Sheet) : Type 0 where
   pub bank-low : s .bank ≤ 9999
   pub items-low : s .fileitems ≤ 99999000
 
-pub sane-k : Sane sheetK
-sane-k =
-    record {
-      base-some = lit≤ tt;
-      base-few = lit≤ tt;
-      parts-some = lit< tt;
-      parts-few = lit≤ tt;
-      names-av = λ _. refl;
-      digits-some = lit≤ tt;
-      digits-few = lit≤ tt;
-      item-low = lit≤ tt;
-      item-fits = lit< tt;
-      days = lit≤ tt;
-      kind-first = lit≤ tt;
-      kind-last = lit≤ tt;
-      bank-low = lit≤ tt;
-      items-low = lit≤ tt;
-    }
-
-pub sane-s : Sane sheetS
-sane-s =
-    record {
-      base-some = lit≤ tt;
-      base-few = lit≤ tt;
-      parts-some = lit< tt;
-      parts-few = lit≤ tt;
-      names-av = λ _. refl;
-      digits-some = lit≤ tt;
-      digits-few = lit≤ tt;
-      item-low = lit≤ tt;
-      item-fits = lit< tt;
-      days = lit≤ tt;
-      kind-first = lit≤ tt;
-      kind-last = lit≤ tt;
-      bank-low = lit≤ tt;
-      items-low = lit≤ tt;
-    }
-
-pub sane-c : Sane sheetC
-sane-c =
-    record {
-      base-some = lit≤ tt;
-      base-few = lit≤ tt;
-      parts-some = lit< tt;
-      parts-few = lit≤ tt;
-      names-av = λ e. never e;
-      digits-some = lit≤ tt;
-      digits-few = lit≤ tt;
-      item-low = lit≤ tt;
-      item-fits = lit< tt;
-      days = lit≤ tt;
-      kind-first = lit≤ tt;
-      kind-last = lit≤ tt;
-      bank-low = lit≤ tt;
-      items-low = lit≤ tt;
-    }
-
-pub sane-e : Sane sheetE
-sane-e =
-    record {
-      base-some = lit≤ tt;
-      base-few = lit≤ tt;
-      parts-some = lit< tt;
-      parts-few = lit≤ tt;
-      names-av = λ _. refl;
-      digits-some = lit≤ tt;
-      digits-few = lit≤ tt;
-      item-low = lit≤ tt;
-      item-fits = lit< tt;
-      days = lit≤ tt;
-      kind-first = lit≤ tt;
-      kind-last = lit≤ tt;
-      bank-low = lit≤ tt;
-      items-low = lit≤ tt;
-    }
-
 pub sane : (n : ℕ) (s : Sheet) → sheetOf n ≡ known.Sheet s → Sane s
-sane = every-sheet Sane sane-k sane-s sane-c sane-e
+sane n s h =
+    record {
+      base-some = every-sheet (λ x. 1 ≤ x .basemin) (lit≤ tt) (lit≤ tt) (lit≤ tt) (lit≤ tt) n s h;
+      base-few = every-sheet (λ x. x .basemin ≤ 2) (lit≤ tt) (lit≤ tt) (lit≤ tt) (lit≤ tt) n s h;
+      parts-some = every-sheet (λ x. 0 < x .text .most) (lit< tt) (lit< tt) (lit< tt) (lit< tt) n s h;
+      parts-few = every-sheet (λ x. x .text .most ≤ 4) (lit≤ tt) (lit≤ tt) (lit≤ tt) (lit≤ tt) n s h;
+      names-av = every-sheet (λ x. x .text .av ≡ false → x .text .names ≡ false) (λ _. refl) (λ _. refl) (λ e. never e) (λ _. refl) n s h;
+      as-stands = every-sheet (λ x. x .fixedtail ≡ true → x .text .av ≡ false) (λ e. never (sym e)) (λ _. refl) (λ e. never (sym e)) (λ e. never (sym e)) n s h;
+      no-interval = every-sheet (λ x. x .header ≡ false → x .interval ≡ false) (λ e. never e) (λ _. refl) (λ _. refl) (λ _. refl) n s h;
+      digits-some = every-sheet (λ x. 1 ≤ x .itemdigits) (lit≤ tt) (lit≤ tt) (lit≤ tt) (lit≤ tt) n s h;
+      digits-few = every-sheet (λ x. x .itemdigits ≤ 14) (lit≤ tt) (lit≤ tt) (lit≤ tt) (lit≤ tt) n s h;
+      item-low = every-sheet (λ x. x .itemmax ≤ 99999999999999) (lit≤ tt) (lit≤ tt) (lit≤ tt) (lit≤ tt) n s h;
+      item-fits = every-sheet (λ x. x .itemmax < 10 ^ x .itemdigits) (lit< tt) (lit< tt) (lit< tt) (lit< tt) n s h;
+      days = every-sheet (λ x. x .ahead ≤ 36525) (lit≤ tt) (lit≤ tt) (lit≤ tt) (lit≤ tt) n s h;
+      kind-first = every-sheet (λ x. 1501 ≤ x .lastkind) (lit≤ tt) (lit≤ tt) (lit≤ tt) (lit≤ tt) n s h;
+      kind-last = every-sheet (λ x. x .lastkind ≤ 1504) (lit≤ tt) (lit≤ tt) (lit≤ tt) (lit≤ tt) n s h;
+      bank-low = every-sheet (λ x. x .bank ≤ 9999) (lit≤ tt) (lit≤ tt) (lit≤ tt) (lit≤ tt) n s h;
+      items-low = every-sheet (λ x. x .fileitems ≤ 99999000) (lit≤ tt) (lit≤ tt) (lit≤ tt) (lit≤ tt) n s h;
+    }
 
-pub sane-by : (b : ℕ) (s : Sheet) → sheetBy b ≡ known.Sheet s → Sane s
-sane-by = every-letter Sane sane-k sane-s sane-c sane-e
+-- the same of a sheet that was looked up
+pub sheet-sane : (r : Known) (n : ℕ) → r ≡ sheetOf n → (s : Sheet) → r ≡ known.Sheet s → Sane s
+sheet-sane r n g s e = sane n s (sym g ∙ e)

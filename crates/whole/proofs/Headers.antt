@@ -5,6 +5,7 @@ use mathlib.Core.List.{List, [], _∷_, _++_}
 use Prim.Native.Nat.{ℕ, suc}
 use Rattle.base.proofs.Cases.{by-test, pick-true, pick-false}
 use Rattle.sheet.specs.declared.Sheet.{Sheet}
+use Rattle.sheet.proofs.Laws.{Sane}
 use Rattle.paper.specs.Batch.{Item, Group, AccountFile, Batch, Header, noHeader, Thing, aFile, aGroup, anItem, strange}
 use Rattle.paper.specs.FileLine.{series}
 use Rattle.paper.specs.Entries.{item, closeGroup, closeFile}
@@ -12,7 +13,6 @@ use Rattle.paper.specs.FirstLine.{spellFirst}
 use Rattle.paper.specs.Carried.{rowsCarried, batchCarried}
 use Rattle.paper.specs.Spells.{Due, itemDues, groupDues, fileDues, dues}
 use Rattle.paper.specs.Canonical.{spell, textOf, canon}
-use Rattle.lineback.specs.Apt.{Apt}
 use Rattle.lineback.proofs.Main.{number-any}
 use Rattle.whole.specs.Carries.{Passes, headRead}
 
@@ -48,7 +48,7 @@ module _ (sh : Sheet) where
 
   -- ---- the tests
 
-  module _ (q : Apt sh) (off : sh .header ≡ false) (today : ℕ) (h h′ : Header) where
+  module _ (q : Sane sh) (off : sh .header ≡ false) (today : ℕ) (h h′ : Header) where
     rows-same : (k n : ℕ) (seen : List ℕ) (ts : List Thing) → rowsCarried sh today h k n seen ts ≡ rowsCarried sh today h′ k n seen ts
     unfolding rowsCarried
     rows-same k n seen [] = refl
@@ -83,7 +83,7 @@ module _ (sh : Sheet) where
   canon-read h b =
       by-test (sh .header) (λ on. ap (λ (x : Header). canon sh x b) (head-on on h)) (λ off. canon-same (headRead sh h) h off b)
 
-  module _ (q : Apt sh) (today : ℕ) (h : Header) (ts : List Thing) where
+  module _ (q : Sane sh) (today : ℕ) (h : Header) (ts : List Thing) where
     pub passes-read : Passes sh today h ts → Passes sh today (headRead sh h) ts
     passes-read p = by-test (sh .header) (λ on. rw (head-on on h) p) (λ off. passes-same q off today h (headRead sh h) ts p)
 

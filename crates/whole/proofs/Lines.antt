@@ -15,7 +15,6 @@ use Rattle.paper.specs.Canonical.{spell, textOf}
 use Rattle.line.proofs.Lines.{line-first}
 use Rattle.linesound.specs.Fits.{GroupFits, Fits, warnings}
 use Rattle.linesound.proofs.Main.{line-sound}
-use Rattle.lineback.specs.Apt.{Apt}
 use Rattle.lineback.proofs.Main.{line-back, line-plain}
 use Rattle.whole.specs.Carries.{Exactly}
 
@@ -85,15 +84,15 @@ module _ (sh : Sheet) (today : ℕ) where
   unfolding differs
   same-total n = pick-true _ _ (eq-eqb n n refl)
 
-  module _ (sane : Sane sh) (q : Apt sh) where
+  module _ (sane : Sane sh) where
     fits-says : (c : Context) (e : Entry) → Fits sh today c e → SaysEntry sh today (spell sh e) c e (warnings sh today e)
     fits-says c (group payer exact date) f =
-        (exact, _, line-back sh today c sane q (group payer exact date) f, λ _. refl, omega (arith, same-total exact))
-    fits-says c (head h) f = line-back sh today c sane q (head h) f
-    fits-says c (file kind number) f = line-back sh today c sane q (file kind number) f
-    fits-says c (item x) f = line-back sh today c sane q (item x) f
-    fits-says c closeGroup f = line-back sh today c sane q closeGroup f
-    fits-says c closeFile f = line-back sh today c sane q closeFile f
+        (exact, _, line-back sh today c sane (group payer exact date) f, λ _. refl, omega (arith, same-total exact))
+    fits-says c (head h) f = line-back sh today c sane (head h) f
+    fits-says c (file kind number) f = line-back sh today c sane (file kind number) f
+    fits-says c (item x) f = line-back sh today c sane (item x) f
+    fits-says c closeGroup f = line-back sh today c sane closeGroup f
+    fits-says c closeFile f = line-back sh today c sane closeFile f
 
     pub lines-back : (i : ℕ) (ds : List Due) → Every (Fits sh today) ds → Each sh today (linesOf i (textOf sh ds)) ds (warned ds)
     unfolding textOf linesOf warned

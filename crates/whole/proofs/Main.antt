@@ -1,6 +1,6 @@
 -- The laws of a whole file: reading and writing agree on what a sheet carries. Assumes nothing.
 use mathlib.Core.Path.{_≡_, refl, sym, ap, _∙_}
-use mathlib.Core.Bool.{true, false}
+use mathlib.Core.Bool.{true}
 use mathlib.Core.List.{List}
 use mathlib.Core.Logic.{_↔_}
 use Prim.Native.Nat.{ℕ, _≤_}
@@ -19,13 +19,10 @@ use Rattle.paper.specs.Canonical.{canon}
 use Rattle.paper.specs.Writing.{drafted, draftOf, draft}
 use Rattle.paper.specs.Rewriting.{rewritten}
 use Rattle.exact.proofs.Main.{exact}
-use Rattle.lineback.specs.Apt.{Apt}
-use Rattle.lineback.proofs.Main as lines
-use Rattle.whole.specs.Carries.{FourParts, WellFormed, Passes, Carries, Refuses, headRead, pastWarnings, Exactly}
+use Rattle.whole.specs.Carries.{FourParts, Passes, Carries, Refuses, headRead, pastWarnings, Exactly}
 use Rattle.whole.proofs.Lines.{each-exactly}
 use Rattle.whole.proofs.Trees.{things-batch}
 use Rattle.whole.proofs.Headers.{head-off, canon-read, passes-read, passes-written}
-use Rattle.whole.proofs.Warnings.{none-past}
 use Rattle.whole.proofs.Whole.{spelled-carries, spelled-header, spelled-warnings, carries-spells}
 use Rattle.whole.proofs.Drafts.{by-draft, not-both, draft-only, draft-also, draft-batch, rows-four, draft-known}
 
@@ -51,32 +48,21 @@ strict-totals sh on today f h b w e = each-exactly sh today on (linesOf 0 f) (du
 
 -- ---- what writing does not refuse
 
--- Equal batches with equal headers have the same canonical file.
-pub same-file : (sh : Sheet) (h h′ : Header) (b b′ : Batch) → h ≡ h′ → b ≡ b′ → canon sh h b ≡ canon sh h′ b′
-same-file sh h h′ b b′ i e = rw (i, e) refl
-
-module _ (sh : Sheet) (sane : Sane sh) (apt : Apt sh) (today : ℕ) where
+module _ (sh : Sheet) (sane : Sane sh) (today : ℕ) where
   -- The canonical file of what a sheet carries is read as that batch, with that header where the sheet has one; it gives one warning for
   -- each group due on a past day, where the sheet warns of it.
   pub back : (h : Header) (b : Batch) → Carries sh today h b → judge sh today (canon sh h b) ≡ Accepted (headRead sh h) b (pastWarnings sh today b)
   back h b p =
       let g = headRead sh h in
-      let s = carries-spells sh today g b sane apt (passes-read sh apt today h (things b) p) (λ off. head-off sh off h) in
+      let s = carries-spells sh today g b sane (passes-read sh sane today h (things b) p) (λ off. head-off sh off h) in
       rw (canon-read sh h b) at (exact sh today (canon sh g b) g b (pastWarnings sh today b) .1 s)
 
-  pub back-quiet : sh .warnpast ≡ false → (h : Header) (b : Batch) → Carries sh today h b → judge sh today (canon sh h b) ≡ Accepted (headRead sh h) b 0
-  back-quiet off h b p = rw (none-past sh today off b) at (back h b p)
-
-  -- A sheet carries a batch with a header exactly if some file is read as them,
+  -- A sheet carries a batch with a header exactly if some file is read as them.
   pub carried : (h : Header) (b : Batch) → Carries sh today h b ↔ ((f : List ℕ) × (w : ℕ) × (judge sh today f ≡ Accepted (headRead sh h) b w))
   carried h b = (
     λ p. (canon sh h b, pastWarnings sh today b, back h b p),
-    λ (f, w, e). passes-written sh apt today h (things b) (sound sh sane today f (headRead sh h) b w e),
+    λ (f, w, e). passes-written sh sane today h (things b) (sound sh sane today f (headRead sh h) b w e),
   )
-
-  -- and does not exactly if no file at all is.
-  pub not-carried : (h : Header) (b : Batch) → (Carries sh today h b → ⊥) ↔ ((f : List ℕ) (w : ℕ) → judge sh today f ≡ Accepted (headRead sh h) b w → ⊥)
-  not-carried h b = (λ no f w e. no (carried h b .1 (f, w, e)), λ none p. none (canon sh h b) _ (back h b p))
 
   -- ---- the same of the answer that writing gives
 
@@ -100,20 +86,6 @@ module _ (sh : Sheet) (sane : Sane sh) (apt : Apt sh) (today : ℕ) where
         (λ r. r),
   )
 
-  -- Of the rows of a batch it answers with the canonical file exactly if the sheet carries it, and refuses exactly if no file is read as it.
-  pub written-batch : (h : Header) (b : Batch) → WellFormed b → Carries sh today h b ↔ draftOf sh today h (things b) ≡ drafted (canon sh h b)
-  written-batch h b four = (draft-batch sh today h b, λ e. draft-only sh today h (things b) four (canon sh h b) e .0)
-
-  pub refused-batch : (h : Header) (b : Batch) → WellFormed b
-      → Refuses (draftOf sh today h (things b)) ↔ ((f : List ℕ) (w : ℕ) → judge sh today f ≡ Accepted (headRead sh h) b w → ⊥)
-  refused-batch h b four = (
-    λ r f w e. not-both (draftOf sh today h (things b)) (canon sh h b) (draft-batch sh today h b (carried h b .1 (f, w, e))) r,
-    λ none.
-        by-draft (draftOf sh today h (things b))
-        (λ s e. absurd (none (canon sh h b) _ (back h b (draft-only sh today h (things b) four s e .0))))
-        (λ r. r),
-  )
-
   -- ---- rewriting
 
   module _ (f : List ℕ) (h : Header) (b : Batch) (w : ℕ) (e : judge sh today f ≡ Accepted h b w) where
@@ -132,7 +104,7 @@ module _ (sh : Sheet) (sane : Sane sh) (apt : Apt sh) (today : ℕ) where
     unfolding rewritten
     idempotent = rw e (rw again refl)
 
-  -- Different batches that the sheet carries have different canonical files (equal ones have the same: `same-file`).
+  -- Different batches that the sheet carries have different canonical files.
   pub same-batch : (h h′ : Header) (b b′ : Batch) → Carries sh today h b → Carries sh today h′ b′ → canon sh h b ≡ canon sh h′ b′
       → (headRead sh h ≡ headRead sh h′) × (b ≡ b′)
   same-batch h h′ b b′ p p′ e = let i = back h b p in let j = back h′ b′ p′ in ((cc), (cc))
@@ -147,11 +119,11 @@ module _ (sheet : ℕ) (sh : Sheet) (named : sheetOf sheet ≡ known.Sheet sh) (
       → (b : Batch) × (things b ≡ said) × (s ≡ canon sh h b) × (judge sh today s ≡ Accepted (headRead sh h) b (pastWarnings sh today b))
   rows-written s e =
       let d : draftOf sh today h said ≡ drafted s = sym (draft-known sheet sh named today day h rows texts) ∙ e in
-      let (t, c, j) = written sh (sheets.sane sheet sh named) (lines.apt sheet sh named) today h said (rows-four texts (rowsIn rows)) s d in
+      let (t, c, j) = written sh (sheets.sane sheet sh named) today h said (rows-four texts (rowsIn rows)) s d in
       (batchOf said, t, c, j)
 
   pub rows-refused : Refuses (draft sheet today h rows texts)
       ↔ ((b : Batch) (f : List ℕ) (w : ℕ) → things b ≡ said → judge sh today f ≡ Accepted (headRead sh h) b w → ⊥)
   rows-refused =
       rw (draft-known sheet sh named today day h rows texts)
-      (refused sh (sheets.sane sheet sh named) (lines.apt sheet sh named) today h said (rows-four texts (rowsIn rows)))
+      (refused sh (sheets.sane sheet sh named) today h said (rows-four texts (rowsIn rows)))

@@ -1,12 +1,10 @@
 -- The warnings of a canonical file: one for each group that is due on a past day, where the sheet warns of it. Assumes nothing.
 use mathlib.Core.Path.{_≡_, refl}
-use mathlib.Core.Bool.{Bool, false}
+use mathlib.Core.Bool.{Bool}
 use mathlib.Core.List.{List, [], _∷_}
 use Prim.Native.Nat.{ℕ, _+_}
 use native.Mathlib.Omega.{arith}
-use Rattle.base.proofs.Cases.{either, pick-false}
 use Rattle.sheet.specs.declared.Sheet.{Sheet}
-use Rattle.paper.specs.Days.{dueWarnings}
 use Rattle.paper.specs.Accounts.{isNobody}
 use Rattle.paper.specs.Batch.{Item, Group, AccountFile, Batch, Header}
 use Rattle.paper.specs.FileLine.{series}
@@ -34,20 +32,3 @@ module _ (sh : Sheet) (today : ℕ) where
   pub warned-batch : (h : Header) (b : Batch) → warned sh today (dues h b) ≡ pastWarnings sh today b
   unfolding dues warned
   warned-batch h b = omega (arith, warned-files h [] b)
-
-  -- ---- none, where the sheet does not warn of past days
-
-  module _ (off : sh .warnpast ≡ false) where
-    none-due : (d : ℕ) → dueWarnings (sh .warnpast) today d ≡ 0
-    unfolding dueWarnings
-    none-due d = either (λ (n : ℕ). n ≡ 0) _ (λ _. pick-false 1 0 off) (λ _. refl)
-
-    none-groups : (gs : List Group) → pastGroups sh today gs ≡ 0
-    unfolding pastGroups
-    none-groups [] = refl
-    none-groups (g ∷ gs) = omega (arith, none-due (g .date), none-groups gs)
-
-    pub none-past : (b : Batch) → pastWarnings sh today b ≡ 0
-    unfolding pastWarnings
-    none-past [] = refl
-    none-past (f ∷ fs) = omega (arith, none-groups (f .groups), none-past fs)

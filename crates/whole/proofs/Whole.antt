@@ -16,7 +16,6 @@ use Rattle.paper.specs.Carried.{batchCarried}
 use Rattle.paper.specs.Spells.{fileDues, dues, Spells}
 use Rattle.paper.specs.Canonical.{canon}
 use Rattle.linesound.specs.Fits.{HeadFits, Fits}
-use Rattle.lineback.specs.Apt.{Apt}
 use Rattle.whole.specs.Carries.{Carries, headRead, pastWarnings}
 use Rattle.whole.proofs.Lines.{Every, Told, each-told, lines-back}
 use Rattle.whole.proofs.Good.{Good, end-only}
@@ -60,7 +59,7 @@ module _ (sh : Sheet) (today : ℕ) (h : Header) (b : Batch) where
   files-some [] g = never (sym (end-only sh today h 1 atTop 0 [] g))
   files-some (f ∷ fs) g = omega arith
 
-  module _ (sane : Sane sh) (q : Apt sh) (p : Carries sh today h b) (none : sh .header ≡ false → h ≡ noHeader) where
+  module _ (sane : Sane sh) (p : Carries sh today h b) (none : sh .header ≡ false → h ≡ noHeader) where
     top-fits : HeadFits sh h
     top-fits =
         record {
@@ -83,6 +82,6 @@ module _ (sh : Sheet) (today : ℕ) (h : Header) (b : Batch) where
     carries-spells =
         let (r, few, less, fit) = files-only sh today h [] b 1 atTop 0 rows-good in
         record {
-          lines = rw (← warned-batch sh today h b) (lines-back sh today sane q 0 (dues h b) all-fit);
+          lines = rw (← warned-batch sh today h b) (lines-back sh today sane 0 (dues h b) all-fit);
           rules = (files-some b rows-good, omega arith, omega arith, r);
         }

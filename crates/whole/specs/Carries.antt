@@ -21,9 +21,6 @@ FourParts (aGroup date payer ∷ ts) = FourParts ts
 FourParts (anItem x ∷ ts) = (length (x .parts) ≡ 4) × FourParts ts
 FourParts (strange ∷ ts) = FourParts ts
 
-abbrev pub WellFormed : Batch → Type 0
-WellFormed b = FourParts (things b)
-
 -- Rows and a header pass every test of 20 and of 21; where a sheet has no header (C), none is looked at.
 pub record Passes (sh : Sheet) (today : ℕ) (h : Header) (ts : List Thing) : Type 0 where
   pub header-proper : pick (sh .header) (headerProper h) fine ≡ fine
