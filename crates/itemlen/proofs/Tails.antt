@@ -18,8 +18,8 @@ use Rattle.paper.specs.ItemLine.{spellTail, spellItem}
 use Rattle.span.specs.declared.Span.{Span}
 use Rattle.rowread.specs.declared.ItemRow.{ItemRow}
 use Rattle.rowread.specs.Sized.{Within}
-use Rattle.rowread.specs.Told.{textOfSpan, itemOf}
-use Rattle.rowread.proofs.Laws.{text-within}
+use Rattle.rowread.specs.Told.{itemOf}
+use Rattle.rowread.proofs.Laws.{cut-is}
 use Rattle.itemlen.specs.Front.{front}
 
 -- the symbol between its spaces
@@ -42,9 +42,6 @@ module _ (sh : Sheet) (specific : ℕ) (ps : List (List ℕ)) (n : List ℕ) whe
 
 -- text_of: what is cut from the lent bytes
 module _ (t : List ℕ) (p : Span) (h : Within t p) where
-  pub cut-is : take (p .at + p .len - p .at) (drop (p .at) t) ≡ textOfSpan t p
-  cut-is = let e : p .at + p .len - p .at ≡ p .len = omega arith in rw e (sym (text-within t p h))
-
   pub cut-long : length (take (p .at + p .len - p .at) (drop (p .at) t)) ≡ p .len
   cut-long = length-take-le (p .at + p .len - p .at) (drop (p .at) t) (omega (arith, length-drop (p .at) t)) ∙ omega arith
 

@@ -1,34 +1,21 @@
--- One test of a row for the verdict, and a text where it stands, as the code finds them. Assumes nothing.
-use mathlib.Core.Path.{_≡_, sym, ap, _∙_}
-use mathlib.Core.Bool.{Bool, true, false, not}
+-- The numbers that are seen, and a text where it stands, as the code finds them. Assumes nothing.
+use mathlib.Core.Path.{_≡_, ap, _∙_}
+use mathlib.Core.Bool.{Bool}
 use mathlib.Core.List.{List}
 use Prim.Native.Nat.{ℕ, _+_, _-_}
-use native.Mathlib.Omega.{arith}
 use lib.ListN.{take, drop}
-use borrow.Author.Tests.{not-true, not-false}
-use Rattle.base.proofs.Cases.{pick-true, pick-false}
 use Rattle.sheet.specs.declared.Style.{Style}
 use Rattle.paper.specs.Texts.{partCarried, nameCarried}
 use Rattle.paper.specs.Batch.{Header}
 use Rattle.paper.specs.FileLine.{numberAllowed}
-use Rattle.paper.specs.Proper.{Verdict, wrong, check}
 use Rattle.seen.specs.Bits.{Holds}
 use Rattle.span.specs.declared.Span.{Span}
 use Rattle.fileline.specs.Free.{numberFree}
 use Rattle.fileline.proofs.Set.{free-allowed}
 use Rattle.rowread.specs.Told.{textOfSpan}
 use Rattle.rowread.specs.Sized.{Within}
-use Rattle.rowread.proofs.Laws.{text-within}
-
--- t is what the test answered, u what the verdict asks
-module _ (k n : ℕ) (v rest : Verdict) (t u : Bool) (g : t ≡ u) where
-  pub passes : not t ≡ false → v ≡ rest → v ≡ check k n u rest
-  unfolding check
-  passes h e = e ∙ sym (pick-true _ _ (sym g ∙ not-false t h))
-
-  pub fails : not t ≡ true → v ≡ wrong k n → v ≡ check k n u rest
-  unfolding check
-  fails h e = e ∙ sym (pick-false _ _ (sym g ∙ not-true t h))
+use Rattle.rowread.proofs.Laws.{cut-is}
+use Rattle.rowread.proofs.Fields.{passes, fails}
 
 -- the set of words stands for the list that it holds
 pub free-number : (interval : Bool) (from to : ℕ) (words : List ℕ) (n : ℕ) (r : Bool) → r ≡ numberFree interval from to words n
@@ -38,14 +25,11 @@ free-number interval from to words n r e h l f t g =
 
 -- the part of the lent bytes that a test was given is the text
 module _ (y : Style) (t : List ℕ) (p : Span) (w : Within t p) where
-  here : take (p .at + p .len - p .at) (drop (p .at) t) ≡ textOfSpan t p
-  here = let e : p .at + p .len - p .at ≡ p .len = omega arith in rw e (sym (text-within t p w))
-
   pub part-here : (i : ℕ) (r : Bool) → r ≡ partCarried y i (take (p .at + p .len - p .at) (drop (p .at) t)) → r ≡ partCarried y i (textOfSpan t p)
-  part-here i r e = e ∙ ap (partCarried y i) here
+  part-here i r e = e ∙ ap (partCarried y i) (cut-is t p w)
 
   pub name-here : (r : Bool) → r ≡ nameCarried y (take (p .at + p .len - p .at) (drop (p .at) t)) → r ≡ nameCarried y (textOfSpan t p)
-  name-here r e = e ∙ ap (nameCarried y) here
+  name-here r e = e ∙ ap (nameCarried y) (cut-is t p w)
 
 pub ruleset steps = (passes, fails)
 

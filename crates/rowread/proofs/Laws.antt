@@ -20,6 +20,10 @@ module _ (t : List ℕ) (p : Span) where
   pub text-within : Within t p → textOfSpan t p ≡ take (p .len) (drop (p .at) t)
   text-within h = text-in (le-leb _ _ h)
 
+  -- as the code cuts it
+  pub cut-is : Within t p → take (p .at + p .len - p .at) (drop (p .at) t) ≡ textOfSpan t p
+  cut-is h = let e : p .at + p .len - p .at ≡ p .len = omega arith in rw e (sym (text-within h))
+
 -- the code's test, which adds nothing
 pub lies-apart : (at len n : ℕ) → len ≤ n → leb at (n - len) ≡ leb (at + len) n
 lies-apart at len n h =

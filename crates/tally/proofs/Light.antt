@@ -1,13 +1,13 @@
 -- What a line says is of the line's kind, with few warnings: none, one for a group, six for an item; an item's amount has at most 14
 -- digits. Assumes nothing.
-use mathlib.Core.Path.{_≡_, sym}
+use mathlib.Core.Path.{_≡_, refl, sym}
 use mathlib.Core.Bool.{Bool, true, false}
 use mathlib.Core.List.{List, [], _∷_}
 use Prim.Native.Nat.{ℕ, _≤_}
 use native.Mathlib.Omega.{arith}
 use lib.Dec.{eqb, ltb}
-use lib.ListN.{length, take}
-use borrow.Author.Tests.{ltb-false, leb-true}
+use lib.ListN.{take}
+use borrow.Author.Tests.{leb-true}
 use Rattle.base.specs.Pick.{pick}
 use Rattle.base.proofs.Cases.{by-test, either}
 use Rattle.base.proofs.Seek.{never}
@@ -21,7 +21,7 @@ use Rattle.paper.specs.Accounts.{Account}
 use Rattle.paper.specs.Days.{dueWarnings}
 use Rattle.paper.specs.Amounts.{readAmount, amountProper, readItemAmount}
 use Rattle.paper.specs.BankField.{Bank, ninth, readBank}
-use Rattle.paper.specs.Texts.{Piece, Texts, over, overs, finish, message, marked, readText}
+use Rattle.paper.specs.Texts.{Texts, readText}
 use Rattle.paper.specs.Batch.{Item, Header}
 use Rattle.paper.specs.Entries.{Entry, head, file, group, item, closeGroup, closeFile, Said, got, no, Kind, headLine, fileLine, groupLine, itemLine, groupEnd, fileEnd, onField, field, place, gap, lineEnd}
 use Rattle.paper.specs.FirstLine.{readFirst}
@@ -30,6 +30,7 @@ use Rattle.paper.specs.GroupLine.{totalAndDate, readGroup}
 use Rattle.paper.specs.ItemLine.{noTexts, fixedTail, afterSymbol, openTail, tail, fromPayee, readItem}
 use Rattle.paper.specs.ClosingLine.{plusAt, readClose}
 use Rattle.paper.specs.Spells.{Context, readAs}
+use Rattle.wording.proofs.Warnings.{text-warnings}
 
 pub data Light : Kind → Said → Type 0 where
   a-head : {h : Header} {p : List ℕ} → Light headLine (got (head h) 0 p)
@@ -46,6 +47,10 @@ pub data Light : Kind → Said → Type 0 where
 data Every {A : Type 0} (P : A → Type 0) : Field A → Type 0 where
   holds : {v : A} → P v → Every P (value v)
   none : {n : ℕ} → Every P (fault n)
+
+every : {A : Type 0} {P : A → Type 0} (r : Field A) → ((v : A) → r ≡ value v → P v) → Every P r
+every (value v) f = holds (f v refl)
+every (fault n) f = none
 
 given-every : {A B : Type 0} {P : B → Type 0} (r : Field A) {k : A → Field B} → ((v : A) → Every P (k v)) → Every P (given r k)
 unfolding given
@@ -88,41 +93,11 @@ bank-few ranked s =
 
 -- ---- texts
 
-over-one : (p : Piece) → over p ≤ 1
-unfolding over
-over-one p = pick-le _ 1 0 1 (omega arith) (omega arith)
-
-overs-few : (ps : List Piece) → overs ps ≤ length ps
-unfolding overs
-overs-few [] = omega arith
-overs-few (p ∷ ps) = omega (arith, over-one p, overs-few ps)
-
 abbrev TextsFew : Texts → Type 0
 TextsFew t = t .warnings ≤ 5
 
-module _ (y : Style) (few : y .most ≤ 4) where
-  finish-few : (ps : List Piece) (n : Piece) → Every TextsFew (finish y ps n)
-  unfolding finish
-  finish-few ps n =
-      either (Every TextsFew) (ltb (y .most) (length ps)) (λ _. none)
-      (λ e. either (Every TextsFew) _ (λ _. holds (omega (arith, few, ltb-false (y .most) (length ps) e, overs-few ps, over-one n))) (λ _. none))
-
-  message-few : (at : ℕ) (m : List ℕ) → Every TextsFew (message y at m)
-  unfolding message
-  message-few at m = finish-few _ _
-
-  marked-few : (at : ℕ) (t : List ℕ) → Every TextsFew (marked y at t)
-  unfolding marked
-  marked-few at t =
-      either (Every TextsFew) _ (λ _. finish-few _ _)
-      (λ _. either (Every TextsFew) _ (λ _. message-few _ _) (λ _. either (Every TextsFew) _ (λ _. message-few _ _) (λ _. none)))
-
-  text-few : (at : ℕ) (t : List ℕ) → Every TextsFew (readText y at t)
-  unfolding readText
-  text-few at t =
-      either (Every TextsFew) _
-      (λ _. either (Every TextsFew) _ (λ _. either (Every TextsFew) _ (λ _. marked-few _ _) (λ _. none)) (λ _. message-few _ _))
-      (λ _. none)
+text-few : (y : Style) → y .most ≤ 4 → (at : ℕ) (t : List ℕ) → Every TextsFew (readText y at t)
+text-few y few at t = every (readText y at t) (text-warnings y few at t)
 
 -- ---- the ways to read a line
 
@@ -284,18 +259,3 @@ module _ (sh : Sheet) (sane : Sane sh) where
   line-light today c itemLine s = item-light _ s
   line-light today c groupEnd s = close-light groupEnd _ closeGroup s a-group-end
   line-light today c fileEnd s = close-light fileEnd _ closeFile s a-file-end
-
--- ---- the same of a line that is read
-
-light-group : {a : Account} {t d v : ℕ} {p : List ℕ} → Light groupLine (got (group a t d) v p) → v ≤ 1
-light-group (a-group one) = one
-
-light-item : {x : Item} {v : ℕ} {p : List ℕ} → Light itemLine (got (item x) v p) → (v ≤ 6) × (x .amount ≤ 99999999999999)
-light-item (an-item six most) = (six, most)
-
-pub group-few : (sh : Sheet) (today : ℕ) (s : List ℕ) {a : Account} {t d v : ℕ} {p : List ℕ} → readGroup sh today s ≡ got (group a t d) v p → v ≤ 1
-group-few sh today s e = light-group (rw e at (group-light sh today s))
-
-pub item-few : (sh : Sheet) → Sane sh → (single : Bool) (s : List ℕ) {x : Item} {v : ℕ} {p : List ℕ} → readItem sh single s ≡ got (item x) v p
-    → (v ≤ 6) × (x .amount ≤ 99999999999999)
-item-few sh sane single s e = light-item (rw e at (item-light sh sane single s))

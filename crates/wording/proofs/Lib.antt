@@ -4,3 +4,4 @@ pub mod Sound
 pub mod Back
 pub mod Laws
 mod Examples
+pub mod Warnings
