@@ -20,6 +20,7 @@ use Rattle.paper.specs.Read.{value}
 use Rattle.paper.specs.Bytes.{isDigit, dash, null}
 use Rattle.paper.specs.Numerals.{digits, decimal}
 use Rattle.paper.specs.Accounts.{Account, account, nobody, accountOk, ruled, twoParts, onePart, readAccount, accountProper, spellAccount, onlyZeros, readPayer}
+use Rattle.paper.proofs.Lists.{some-null}
 use Rattle.account.specs.Told.{withBase}
 use Rattle.account.proofs.Proper.{ok-long, ruled-ok, proper-prefix, proper-base, proper-ok}
 use Rattle.account.proofs.Spelled.{spelled-alone, spelled-both}
@@ -37,20 +38,11 @@ module _ (p b : ℕ) (hp : p < 1000000) (hb : b < 10000000000) (ok : accountOk p
   base-ten : length (decimal b) ≤ 10
   base-ten = decimal-most 10 b (omega arith) (omega arith)
 
-  prefix-six : length (decimal p) ≤ 6
-  prefix-six = decimal-most 6 p (omega arith) (omega arith)
-
   two : 2 ≤ length (spellAccount (account p b))
   two =
       by-eq p 0
       (λ e. rw (spelled-alone p b e) base-two)
       (λ n. rw (spelled-both p b n) (omega (arith, length-append (decimal p) (45 ∷ decimal b), base-two)))
-
-  seventeen : length (spellAccount (account p b)) ≤ 17
-  seventeen =
-      by-eq p 0
-      (λ e. rw (spelled-alone p b e) (omega (arith, base-ten)))
-      (λ n. rw (spelled-both p b n) (omega (arith, length-append (decimal p) (45 ∷ decimal b), base-ten, prefix-six)))
 
   module _ (joined : Bool) (least : ℕ) (l : least ≤ 2) where
     base-back : withBase least p (decimal b) ≡ value (account p b)
@@ -85,17 +77,9 @@ module _ (p b : ℕ) (hp : p < 1000000) (hb : b < 10000000000) (ok : accountOk p
     back : readAccount joined least (spellAccount (account p b)) ≡ value (account p b)
     back = by-eq p 0 (λ e. rw (spelled-alone p b e) (alone-back e)) (λ n. rw (spelled-both p b n) both-back)
 
-some : (s : List ℕ) → 1 ≤ length s → null s ≡ false
-unfolding null
-some [] h = absurd (omega arith)
-some (x ∷ s) h = refl
-
 module _ (a : Account) (h : accountProper a ≡ true) where
   pub spell-account-least : 2 ≤ length (spellAccount a)
   spell-account-least = two (a .prefix) (a .base) (proper-prefix a h) (proper-base a h) (proper-ok a h)
-
-  pub spell-account-most : length (spellAccount a) ≤ 17
-  spell-account-most = seventeen (a .prefix) (a .base) (proper-prefix a h) (proper-base a h) (proper-ok a h)
 
   module _ (joined : Bool) (least : ℕ) (l : least ≤ 2) where
     pub account-back : readAccount joined least (spellAccount a) ≡ value a
@@ -104,7 +88,7 @@ module _ (a : Account) (h : accountProper a ≡ true) where
     pub payer-back : (empty allzero : Bool) → readPayer empty allzero joined least (spellAccount a) ≡ value a
     unfolding readPayer
     payer-back empty allzero =
-        pick-false _ _ (either (λ x. x ≡ false) empty (λ z. some (spellAccount a) (omega (arith, spell-account-least))) (λ z. refl))
+        pick-false _ _ (either (λ x. x ≡ false) empty (λ z. some-null (spellAccount a) (omega (arith, spell-account-least))) (λ z. refl))
         ∙ pick-false _ _ (either (λ x. x ≡ false) allzero (λ z. by-test (onlyZeros (spellAccount a)) (λ o. absurd (zeros-none joined least (spellAccount a) a o account-back)) (λ o. o)) (λ z. refl))
         ∙ account-back
 

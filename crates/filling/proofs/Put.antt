@@ -15,7 +15,7 @@ use Rattle.paper.specs.ItemLine.{places, readItem}
 use Rattle.paper.specs.Spells.{forItem, readLine}
 use Rattle.paper.specs.Rows.{blanks, fileRow, groupRow, itemRow, entryRow, lineRow, singleAfter, singleBehind, wordsBytes, rowsBytes}
 use Rattle.put.proofs.Room.{wrote-none}
-use Rattle.row.proofs.Words.{words-length}
+use Rattle.word.proofs.Laws.{words-length}
 use Rattle.span.specs.Held.{textsAt, Held}
 use Rattle.kind.specs.declared.LineKind.{LineKind}
 use Rattle.kind.specs.declared.LineKind.the-variants as kind

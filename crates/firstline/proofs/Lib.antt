@@ -1,5 +1,3 @@
 pub mod Steps
 pub mod Holds
 pub mod Sound
-pub mod Only
-pub mod Back

@@ -16,7 +16,7 @@ use Rattle.paper.specs.Bytes.{isText}
 use Rattle.paper.specs.Numerals.{digits}
 use Rattle.paper.specs.Days.{shortDay, readDay, realDay}
 use Rattle.paper.specs.Batch.{Header}
-use Rattle.paper.specs.Entries.{Entry, head, file, group, item, closeGroup, closeFile, got}
+use Rattle.paper.specs.Entries.{Entry, head, file, group, item, closeGroup, closeFile}
 use Rattle.paper.specs.FirstLine.{textField, readTo, readRest, readFirst}
 use Rattle.given.proofs.Given.{value-fault, value-same, given-value}
 use Rattle.numeral.proofs.Sound.{digits-sound}
@@ -97,14 +97,6 @@ module _ (ordered short : Bool) (s : List ℕ) where
       of-got (Taken ordered short s) (Inside s) _ 0 []
       (record { long = h5; date = e1; name = t .0; text = t .1; client = e3; from = e4; to = e5; rest = rest-sound short (drop 46 s) rest e6 }, refl, refl)
 
--- a first line that is taken has its fields, and gives no warning
-pub first-sound : (sh : Sheet) (s : List ℕ) (h : Header) (w : ℕ) (l : List ℕ) → sh .header ≡ true → readFirst sh s ≡ got (head h) w l
-    → Fields (sh .interval) (sh .short) s h × (w ≡ 0) × (l ≡ [])
-unfolding readFirst onDate onName onClient onFrom onTo pick
-first-sound sh s h w l e q =
-    holds-got (Taken (sh .interval) (sh .short) s) (Inside s) (onDate (sh .interval) (sh .short) 4 (drop 4 s)) (line-holds (sh .interval) (sh .short) s) (head h) w l
-    (rw e at q)
-
 -- the bounds of its numbers
 module _ (ordered short : Bool) (s : List ℕ) (h : Header) (f : Fields ordered short s h) where
   pub date-real : realDay (h .date) ≡ true
@@ -116,9 +108,6 @@ module _ (ordered short : Bool) (s : List ℕ) (h : Header) (f : Fields ordered 
 
   pub from-small : h .from < 1000
   from-small = digits-sound 3 3 _ _ (f .from)
-
-  pub in-interval : ordered ≡ true → h .from ≤ h .to
-  in-interval = to-sound ordered (h .from) _ _ (f .to) .1
 
   pub to-small : h .to < 1000
   to-small = digits-sound 3 3 _ _ (to-sound ordered (h .from) _ _ (f .to) .0)

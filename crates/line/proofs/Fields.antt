@@ -5,30 +5,21 @@ use Prim.Native.Nat.{ℕ, suc, _+_, _-_, _≤_, _<_}
 use native.Mathlib.Numerals.{add-one}
 use native.Mathlib.Omega.{arith}
 use lib.Dec.{eqb}
-use lib.ListN.{length, getD, take, drop, drop-of-length-le}
-use lib.Seq.{drop-cons, drop-drop}
+use lib.ListN.{length, getD, drop, drop-of-length-le}
+use lib.Seq.{drop-cons}
 use borrow.Author.Tests.{eq-eqb, ne-eqb}
 use Rattle.base.specs.Pick.{pick}
 use Rattle.base.specs.Seek.{starts, seek}
 use Rattle.base.proofs.Cases.{by-test}
 use Rattle.base.proofs.Seek.{seek-here, seek-next, seek-end, seek-within}
-use Rattle.paper.specs.Bytes.{space, fieldOf, restOf}
+use Rattle.paper.specs.Bytes.{space}
 use Rattle.paper.specs.GroupLine.{spaceCount}
 
 -- ---- what `field_end` finds: at e the field ends, and the rest begins
 
 module _ (s : List ℕ) (at e : ℕ) (h : e ≡ at + seek space (drop at s)) where
-  pub field-is : take (e - at) (drop at s) ≡ fieldOf (drop at s)
-  field-is = let d : e - at ≡ seek space (drop at s) = omega arith in rw d
-
-  pub rest-is : drop e s ≡ restOf (drop at s)
-  rest-is = rw h (sym (drop-drop (seek space (drop at s)) at s))
-
   pub end-within : at ≤ length s → e ≤ length s
   end-within l = rw h (seek-within space s at l)
-
-  pub end-after : at ≤ e
-  end-after = omega arith
 
 -- ---- its loop
 

@@ -6,14 +6,13 @@ use Prim.Native.Nat.{ℕ, suc, _+_, _≤_}
 use native.Mathlib.Nat.{add-zero}
 use native.Mathlib.Omega.{arith}
 use lib.ListN.{length, drop-of-length-le}
-use borrow.Author.Tests.{eqb-false}
 use Rattle.base.specs.Pick.{pick}
 use Rattle.base.specs.Seek.{all}
 use Rattle.base.proofs.Cases.{either}
-use Rattle.base.proofs.Seek.{never, all-head, all-tail, all-cons}
+use Rattle.base.proofs.Seek.{never, all-head, all-tail}
 use Rattle.paper.specs.Lines.{Line, line, first, ended, behind, linesOf, linesFrom}
 use Rattle.line.specs.Cutting.{isPlain}
-use Rattle.line.proofs.Plain.{plain-lf, plain-cr, is-plain}
+use Rattle.line.proofs.Plain.{plain-lf, plain-cr}
 
 -- plain bytes, and a line end behind them
 pub line-joined : (i : ℕ) (s rest : List ℕ) (ts : List Line) → all isPlain s ≡ true → linesOf (i + length s) rest ≡ ended (i + length s) ts → linesOf i (s ++ rest) ≡ line i s ∷ ts
@@ -39,29 +38,6 @@ line-last i b (c ∷ s) p =
     let plain = all-head isPlain b (c ∷ s) p in
     simp (plain-lf b plain, plain-cr b plain, line-last (suc i) c s (all-tail isPlain b (c ∷ s) p))
 
--- every line is plain
-abbrev pub Plains : List Line → Type 0
-Plains [] = Unit {0}
-Plains (t ∷ ts) = (all isPlain (t .bytes) ≡ true) × Plains ts
-
-plains-first : (i b : ℕ) (ts : List Line) → isPlain b ≡ true → Plains ts → Plains (first i b ts)
-unfolding all
-plains-first i b [] p g = (all-cons isPlain b [] p refl, tt)
-plains-first i b (t ∷ ts) p (h, g) = (all-cons isPlain b (t .bytes) p h, g)
-
-plains-behind : (i : ℕ) (ts : List Line) → Plains ts → Plains (behind i ts)
-unfolding all
-plains-behind i [] g = tt
-plains-behind i (t ∷ ts) (h, g) = (refl, g)
-
-pub lines-plain : (i : ℕ) (s : List ℕ) → Plains (linesOf i s)
-unfolding linesOf all
-lines-plain i [] = tt
-lines-plain i (b ∷ s) =
-    let g = lines-plain (suc i) s in
-    either Plains _ (λ _. (refl, g))
-    (λ n. either Plains _ (λ _. either Plains _ (λ _. plains-behind i (linesOf (suc i) s) g) (λ _. (refl, g))) (λ m. plains-first i b (linesOf (suc i) s) (is-plain b (eqb-false b 10 n) (eqb-false b 13 m)) g))
-
 -- there is a line, and it starts at i
 abbrev pub Begins : ℕ → List Line → Type 0
 Begins i [] = ⊥
@@ -84,11 +60,6 @@ lines-begin i b (c ∷ s) =
     let rest = linesOf (suc i) (c ∷ s) in
     either (Begins i) _ (λ _. refl)
     (λ _. either (Begins i) _ (λ _. either (Begins i) _ (λ _. begins-behind i (suc i) rest (lines-begin (suc i) c s)) (λ _. refl)) (λ _. begins-first i b rest))
-
--- only an empty text has no line
-pub lines-none : (i : ℕ) (s : List ℕ) → linesOf i s ≡ [] → s ≡ []
-lines-none i [] e = refl
-lines-none i (b ∷ s) e = absurd (rw e at (lines-begin i b s))
 
 -- behind a file's end there is no line
 pub at-end : (f : List ℕ) (at : ℕ) → length f ≤ at → linesFrom f at ≡ []

@@ -4,24 +4,19 @@ use mathlib.Core.List.{List, [], _∷_, _++_, append-assoc, append-nil}
 use Prim.Native.Nat.{ℕ, suc, _+_, _*_, _≤_, _<_}
 use native.Mathlib.Numerals.{add-one}
 use native.Mathlib.Omega.{arith}
-use lib.ListN.{length, take, getD, length-append, length-take}
+use lib.ListN.{length, take, getD, length-take}
 use lib.Seq.{take-suc}
 use Rattle.base.specs.Put.{Wrote}
 use Rattle.base.proofs.Put.{_then_}
 use Rattle.paper.specs.Words.{wordBytes}
 use Rattle.paper.specs.Rows.{wordsBytes}
 use Rattle.put.proofs.Room.{wrote-length, wrote-none}
-use Rattle.word.proofs.Laws.{word-length}
+use Rattle.word.proofs.Laws.{words-length}
 
 pub words-append : (a b : List ℕ) → wordsBytes (a ++ b) ≡ wordsBytes a ++ wordsBytes b
 unfolding wordsBytes
 words-append [] b = refl
 words-append (w ∷ a) b = rw (words-append a b) (sym (append-assoc (wordBytes 8 w) (wordsBytes a) (wordsBytes b)))
-
-pub words-length : (ws : List ℕ) → length (wordsBytes ws) ≡ 8 * length ws
-unfolding wordsBytes
-words-length [] = refl
-words-length (w ∷ ws) = omega (arith, length-append (wordBytes 8 w) (wordsBytes ws), word-length 8 w, words-length ws)
 
 -- the first i + 1 words are the first i and one more
 words-next : (ws : List ℕ) (i : ℕ) → i < length ws → wordsBytes (take (i + 1) ws) ≡ wordsBytes (take i ws) ++ wordBytes 8 (getD ws i 0)

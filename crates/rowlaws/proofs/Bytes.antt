@@ -9,13 +9,8 @@ use Rattle.base.specs.Pick.{pick}
 use Rattle.paper.specs.Bytes.{null}
 use Rattle.paper.specs.Words.{wordBytes}
 use Rattle.paper.specs.Rows.{words, rowsOn, rowsIn, wordsBytes, rowsBytes}
-use Rattle.word.proofs.Laws.{word-length, word-back}
+use Rattle.word.proofs.Laws.{word-length, word-back, words-length}
 use Rattle.rowlaws.specs.Sizes.{Long, Small, Smalls}
-
-pub words-length : (r : List ℕ) → length (wordsBytes r) ≡ 8 * length r
-unfolding wordsBytes
-words-length [] = refl
-words-length (w ∷ ws) = length-append (wordBytes 8 w) (wordsBytes ws) ∙ omega (arith, word-length 8 w, words-length ws)
 
 pub rows-length : (rs : List (List ℕ)) → Long rs → length (rowsBytes rs) ≡ 192 * length rs
 unfolding rowsBytes

@@ -1,8 +1,8 @@
 -- How long rows are, of any line whether or not it is accepted, and how rows of lines are put together. Assumes nothing.
-use mathlib.Core.Path.{_≡_, refl, sym, ap, _∙_}
+use mathlib.Core.Path.{_≡_, refl, ap, _∙_}
 use mathlib.Core.Bool.{Bool}
-use mathlib.Core.List.{List, [], _∷_, _++_, append-assoc}
-use Prim.Native.Nat.{ℕ, _*_, _≤_}
+use mathlib.Core.List.{List, [], _∷_, _++_}
+use Prim.Native.Nat.{ℕ, _*_}
 use native.Mathlib.Omega.{arith}
 use lib.ListN.{length, length-append, length-map}
 use Rattle.sheet.specs.declared.Sheet.{Sheet}
@@ -11,7 +11,7 @@ use Rattle.paper.specs.Texts.{Piece}
 use Rattle.paper.specs.Lines.{Line}
 use Rattle.paper.specs.Entries.{head, file, group, item, closeGroup, closeFile, Said, got, no}
 use Rattle.paper.specs.Spells.{Context, forItem, readAs, readLine}
-use Rattle.paper.specs.Rows.{blanks, fileRow, groupRow, textsWords, itemRow, entryRow, lineRow, singleBehind, linesRows, rowsBytes, wordsBytes}
+use Rattle.paper.specs.Rows.{blanks, fileRow, groupRow, textsWords, itemRow, entryRow, lineRow, singleBehind, linesRows}
 use Rattle.exact.proofs.Told.{told-line, kind-item}
 use Rattle.rowlaws.specs.Sizes.{Long}
 use Rattle.rowlaws.proofs.Kept.{KeptItem, kept-item}
@@ -53,19 +53,6 @@ module _ (sh : Sheet) (today : ℕ) (c : Context) (start : ℕ) (s : List ℕ) w
   pub line-long : Long (lineRow start (readLine sh today c s))
   line-long = said-long (readLine sh today c s) refl
 
-  said-most : (r : Said) → length (lineRow start r) ≤ 1
-  unfolding lineRow entryRow
-  said-most (got (head h) v spots) = omega arith
-  said-most (got (file k n) v spots) = omega arith
-  said-most (got (group p t d) v spots) = omega arith
-  said-most (got (item x) v spots) = omega arith
-  said-most (got closeGroup v spots) = omega arith
-  said-most (got closeFile v spots) = omega arith
-  said-most (no n off) = omega arith
-
-  pub line-most : length (lineRow start (readLine sh today c s)) ≤ 1
-  line-most = said-most (readLine sh today c s)
-
 -- ---- the rows of lines
 
 pub long-append : (rs qs : List (List ℕ)) → Long rs → Long qs → Long (rs ++ qs)
@@ -79,8 +66,3 @@ lines-long sh today b (t ∷ ls) =
     let r = readLine sh today (forItem b) (t .bytes) in
     long-append (lineRow (t .start) r) (linesRows sh today (singleBehind b r) ls)
     (line-long sh today (forItem b) (t .start) (t .bytes)) (lines-long sh today (singleBehind b r) ls)
-
-pub bytes-append : (rs qs : List (List ℕ)) → rowsBytes (rs ++ qs) ≡ rowsBytes rs ++ rowsBytes qs
-unfolding rowsBytes
-bytes-append [] qs = refl
-bytes-append (r ∷ rs) qs = rw (bytes-append rs qs) (sym (append-assoc (wordsBytes r) (rowsBytes rs) (rowsBytes qs)))

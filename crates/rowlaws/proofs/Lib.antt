@@ -8,5 +8,4 @@ pub mod Filled
 pub mod Bytes
 pub mod Fitting
 pub mod Lengths
-pub mod Tree
 pub mod Main

@@ -1,31 +1,22 @@
--- The rows that reading leaves of an accepted file, for any sheet and any day; and rows, bytes, lists and batches got back from each other. Assumes nothing.
+-- The rows that reading leaves of an accepted file, for any sheet and any day. Assumes nothing.
 use mathlib.Core.Path.{_≡_, ap, _∙_}
-use mathlib.Core.Bool.{Bool, true, false}
+use mathlib.Core.Bool.{Bool, false}
 use mathlib.Core.List.{List}
 use Prim.Native.Nat.{ℕ, _*_, _^_, _<_}
 use lib.ListN.{length}
 use Rattle.sheet.specs.declared.Sheet.{Sheet}
-use Rattle.sheet.specs.declared.Style.{Style}
-use Rattle.paper.specs.Read.{value}
-use Rattle.paper.specs.Texts.{Texts, readText}
-use Rattle.paper.specs.Batch.{Batch, Header, Thing, things, batchOf}
+use Rattle.paper.specs.Batch.{Batch, Header, things, batchOf}
 use Rattle.paper.specs.Lines.{Line, linesOf}
-use Rattle.paper.specs.Entries.{Entry, got}
-use Rattle.paper.specs.FileLine.{readFile}
 use Rattle.paper.specs.Judge.{Accepted, judge}
-use Rattle.paper.specs.Proper.{fine, batchProper}
 use Rattle.paper.specs.Rows.{rowsIn, thingsIn, linesRows, rowsBytes}
+use Rattle.paper.proofs.Trees.{batch-things}
 use Rattle.line.proofs.Places.{lines-stand}
 use Rattle.exact.proofs.Main.{exact}
 use Rattle.rowlaws.specs.Sizes.{Long, Smalls}
-use Rattle.rowlaws.specs.Places.{Here, Placed}
-use Rattle.rowlaws.proofs.Pieces as pieces
-use Rattle.rowlaws.proofs.Within as within
 use Rattle.rowlaws.proofs.Filled.{Rows, batch-rows, rows-count, rows-tell}
 use Rattle.rowlaws.proofs.Bytes.{rows-length, rows-back}
 use Rattle.rowlaws.proofs.Fitting.{batch-small}
 use Rattle.rowlaws.proofs.Lengths.{lines-long}
-use Rattle.rowlaws.proofs.Tree as tree
 
 -- every row of any lines has 24 words
 pub row-words : (sh : Sheet) (today : ℕ) (single : Bool) (ls : List Line) → Long (linesRows sh today single ls)
@@ -56,24 +47,4 @@ module _ (sh : Sheet) (today : ℕ) (f : List ℕ) (h : Header) (b : Batch) (w :
   rows-return l = rows-back _ (row-words sh today false (linesOf 0 f)) (rows-small l)
 
   pub batch-returns : length f < 2 ^ 64 → batchOf (thingsIn f (rowsIn (rowsBytes (linesRows sh today false (linesOf 0 f))))) ≡ b
-  batch-returns l = ap (λ (rs : List (List ℕ)). batchOf (thingsIn f rs)) (rows-return l) ∙ ap batchOf rows-hold ∙ tree.batch-back b
-
--- rows of 24 words below 2 ^ 64 are got back from their bytes
-pub rows-in-bytes : (rs : List (List ℕ)) → Long rs → Smalls rs → rowsIn (rowsBytes rs) ≡ rs
-rows-in-bytes = rows-back
-
--- the batch and its list are got back from each other
-pub batch-back : (b : Batch) → batchOf (things b) ≡ b
-batch-back = tree.batch-back
-
-pub things-back : (ts : List Thing) → batchProper ts ≡ fine → things (batchOf ts) ≡ ts
-things-back = tree.things-back
-
--- an account file's line that is accepted says the same where any number is allowed
-pub file-again : (sh : Sheet) (allowed : ℕ → Bool) (s : List ℕ) (e : Entry) (v : ℕ) (spots : List ℕ)
-    → readFile sh allowed s ≡ got e v spots → readFile sh (λ n. true) s ≡ got e v spots
-file-again = within.file-again
-
--- the pieces of a text that stands at `at` of the line w stand in w where the reading says
-pub text-places : (w : List ℕ) (y : Style) (at : ℕ) (t : List ℕ) (x : Texts) → Here w at t → readText y at t ≡ value x → Placed w x
-text-places = pieces.text-places
+  batch-returns l = ap (λ (rs : List (List ℕ)). batchOf (thingsIn f rs)) (rows-return l) ∙ ap batchOf rows-hold ∙ batch-things b

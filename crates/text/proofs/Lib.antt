@@ -2,4 +2,3 @@ pub mod Marks
 pub mod Turns
 pub mod Right
 pub mod Exits
-pub mod Laws

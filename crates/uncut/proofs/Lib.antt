@@ -1,4 +1,3 @@
-pub mod Whole
 pub mod Texts
 pub mod Kept
 pub mod Lines

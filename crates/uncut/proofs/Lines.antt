@@ -4,6 +4,7 @@ use mathlib.Core.Bool.{Bool}
 use mathlib.Core.List.{List, [], _∷_}
 use Prim.Native.Nat.{ℕ, _≤_}
 use native.Mathlib.Omega.{arith}
+use Rattle.base.proofs.Cases.{either-way}
 use Rattle.sheet.specs.declared.Sheet.{Sheet}
 use Rattle.sheet.specs.declared.Style.{Style}
 use Rattle.sheet.specs.Sheets.{kindAllowed, bankAllowed}
@@ -16,7 +17,6 @@ use Rattle.paper.specs.GroupLine.{totalAndDate, readGroup}
 use Rattle.paper.specs.ItemLine.{fixedTail, afterSymbol, openTail, tail, fromPayee, readItem}
 use Rattle.paper.specs.Spells.{Context, forHead, forFile, forGroup, forItem, allowedIn, singleIn, readAs, readLine}
 use Rattle.uncut.specs.Severe.{uncutting, severe}
-use Rattle.uncut.proofs.Whole.{either-way}
 use Rattle.uncut.proofs.Texts.{text-alike}
 use Rattle.uncut.proofs.Kept.{Kept, same-line, warned, field-kept, gap-kept, text-kept}
 

@@ -6,12 +6,11 @@ use native.Mathlib.Omega.{arith}
 use lib.Dec.{eqb}
 use borrow.Author.Tests.{eqb-false}
 use Rattle.base.specs.Pick.{pick}
-use Rattle.base.proofs.Cases.{by-test}
+use Rattle.base.proofs.Cases.{by-test, either-way}
 use Rattle.sheet.specs.declared.Style.{Style}
 use Rattle.paper.specs.Read.{Field, value, fault}
 use Rattle.paper.specs.Texts.{Piece, Texts, cut, over, overs, pad, finish, messageEnd, message, marked, readText}
 use Rattle.uncut.specs.Severe.{uncutting}
-use Rattle.uncut.proofs.Whole.{either-way}
 
 -- the second reading is the first, or refuses what the first one warns of
 pub data Alike : Field Texts → Field Texts → Type 0 where

@@ -1,2 +1,1 @@
 pub mod Severe
-pub mod Found
