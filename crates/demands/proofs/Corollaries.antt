@@ -2,24 +2,32 @@
 use mathlib.Core.Path.{_≡_}
 use mathlib.Core.Bool.{true}
 use mathlib.Core.List.{List}
-use Prim.Native.Nat.{ℕ}
+use mathlib.Core.Logic.{_↔_}
+use Prim.Native.Nat.{ℕ, suc, _≤_}
+use lib.ListN.{length}
 use Rattle.sheet.specs.declared.Sheet.{Sheet}
 use Rattle.sheet.specs.declared.Known.the-variants as known
 use Rattle.sheet.specs.Sheets.{sheetOf}
 use Rattle.sheet.proofs.Laws as sheets
+use Rattle.paper.specs.Days.{realDay}
 use Rattle.paper.specs.Batch.{Batch, Header, things}
 use Rattle.paper.specs.Lines.{linesOf}
 use Rattle.paper.specs.Spells.{Spells, dues}
-use Rattle.paper.specs.Judge.{Accepted, judge}
+use Rattle.paper.specs.Judge.{Refused, Accepted, judge}
+use Rattle.paper.specs.FirstFault.{FirstFault}
+use Rattle.paper.specs.Reading.{rowCount}
 use Rattle.paper.specs.Canonical.{canon}
 use Rattle.paper.specs.Writing.{drafted, draftOf}
+use Rattle.paper.specs.Explaining.{refusedLine, acceptedLine, explanation}
 use Rattle.paper.specs.Rewriting.{rewritten}
 use Rattle.exact.proofs.Main as exact
-use Rattle.lineback.proofs.Main as lines
-use Rattle.whole.specs.Carries.{pastWarnings, Exactly}
+use Rattle.faults.proofs.Main as faults
+use Rattle.named.proofs.Main as places
+use Rattle.whole.specs.Carries.{Carries, headRead, pastWarnings, Exactly}
 use Rattle.whole.proofs.Main as whole
 use Rattle.uncut.specs.Severe.{severe}
 use Rattle.uncut.proofs.Main as uncut
+use Rattle.explain.proofs.Laws as explain
 
 module _ (sheet : ℕ) (sh : Sheet) (named : sheetOf sheet ≡ known.Sheet sh) (today : ℕ) where
   module _ (f : List ℕ) (h : Header) (b : Batch) (w : ℕ) (s : Spells sh today f h b w) where
@@ -28,17 +36,21 @@ module _ (sheet : ℕ) (sh : Sheet) (named : sheetOf sheet ≡ known.Sheet sh) (
 
     -- What was accepted can be rewritten,
     pub rewritable : draftOf sh today h (things b) ≡ drafted (canon sh h b)
-    rewritable = whole.rewrites sh (sheets.sane sheet sh named) (lines.apt sheet sh named) today f h b w judged
+    rewritable = whole.rewrites sh (sheets.sane sheet sh named) today f h b w judged
 
     -- the rewritten file is read as the same header and batch,
     pub same-batch : Spells sh today (canon sh h b) h b (pastWarnings sh today b)
     same-batch =
         exact.exact sh today (canon sh h b) h b (pastWarnings sh today b) .0
-        (whole.again sh (sheets.sane sheet sh named) (lines.apt sheet sh named) today f h b w judged)
+        (whole.again sh (sheets.sane sheet sh named) today f h b w judged)
+
+    -- with no warning that the file did not give,
+    pub no-new-warning : pastWarnings sh today b ≤ w
+    no-new-warning = whole.sound-warnings sh (sheets.sane sheet sh named) today f h b w judged
 
     -- and rewriting it changes nothing.
     pub idempotent : rewritten sh (judge sh today (rewritten sh (judge sh today f))) ≡ rewritten sh (judge sh today f)
-    idempotent = whole.idempotent sh (sheets.sane sheet sh named) (lines.apt sheet sh named) today f h b w judged
+    idempotent = whole.idempotent sh (sheets.sane sheet sh named) today f h b w judged
 
     -- K and S: every line says exactly what is due, a group's line the sum of its items as its total.
     pub exact-totals : sh .strict ≡ true → Exactly sh today (linesOf 0 f) (dues h b)
@@ -47,3 +59,39 @@ module _ (sheet : ℕ) (sh : Sheet) (named : sheetOf sheet ≡ known.Sheet sh) (
   -- What is accepted without a warning was not cut, and its totals are exact: the sheet that refuses both accepts it as the same batch.
   pub nothing-cut : (f : List ℕ) (h : Header) (b : Batch) → judge sh today f ≡ Accepted h b 0 → judge (severe sh) today f ≡ Accepted h b 0
   nothing-cut = uncut.uncut sh today
+
+  -- Whatever that sheet accepts, this one accepts alike.
+  pub severely : (f : List ℕ) (h : Header) (b : Batch) (w : ℕ) → judge (severe sh) today f ≡ Accepted h b w → judge sh today f ≡ Accepted h b w
+  severely = uncut.severely sh today
+
+  -- Different batches that are written have different files.
+  pub one-to-one : (h h′ : Header) (b b′ : Batch) → Carries sh today h b → Carries sh today h′ b′ → canon sh h b ≡ canon sh h′ b′
+      → (headRead sh h ≡ headRead sh h′) × (b ≡ b′)
+  one-to-one = whole.same-batch sh (sheets.sane sheet sh named) today
+
+  -- A file is refused exactly if it spells nothing,
+  pub spells-nothing : (f : List ℕ) → ((n : ℕ) × (l : ℕ) × (p : ℕ) × (judge sh today f ≡ Refused n l p))
+      ↔ ((h : Header) (b : Batch) (w : ℕ) → Spells sh today f h b w → ⊥)
+  spells-nothing = faults.spells-nothing sh today
+
+  -- has one first fault,
+  pub one-fault : (f : List ℕ) (n n′ l l′ p p′ : ℕ)
+      → FirstFault sh today f (Refused n l p) → FirstFault sh today f (Refused n′ l′ p′) → (n ≡ n′) × (l ≡ l′) × (p ≡ p′)
+  one-fault = faults.one-fault sh today
+
+  -- and a refusal has one of the numbers 3 to 15, and points into the file, at one of its lines or behind the last.
+  pub refused-inside : (f : List ℕ) (n l p : ℕ) → judge sh today f ≡ Refused n l p
+      → (3 ≤ n) × (n ≤ 15) × (1 ≤ l) × (l ≤ suc (length (linesOf 0 f))) × (p ≤ length f)
+  refused-inside f n l p e =
+      let (least, most) = places.judge-named sh today f n l p e in
+      let (line, byte) = places.judge-placed sh today f n l p e in
+      (least, most, line, places.judge-lined sh today f n l p e, byte)
+
+  -- The explanation says this refusal, or the counts of the batch and of the warnings.
+  module _ (real : realDay today ≡ true) where
+    pub refused-line : (f : List ℕ) (n l p : ℕ) → judge sh today f ≡ Refused n l p → explanation sheet today f ≡ drafted (refusedLine n l p)
+    refused-line f = explain.refused-line sheet today f sh named real
+
+    pub accepted-line : (f : List ℕ) (h : Header) (b : Batch) (w : ℕ) → judge sh today f ≡ Accepted h b w
+        → explanation sheet today f ≡ drafted (acceptedLine (rowCount b) w)
+    accepted-line f = explain.accepted-line sheet today f sh named real

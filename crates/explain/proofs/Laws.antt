@@ -13,7 +13,7 @@ use Rattle.sheet.specs.Sheets.{sheetOf}
 use Rattle.paper.specs.Days.{realDay}
 use Rattle.paper.specs.Batch.{Batch, Header}
 use Rattle.paper.specs.Judge.{Answer, Refused, Accepted, judge}
-use Rattle.paper.specs.Reading.{ReadAnswer, rowCount, refusedAt, acceptedAs, answered, readWith}
+use Rattle.paper.specs.Reading.{rowCount, refusedAt, acceptedAs, answered, readWith}
 use Rattle.paper.specs.Writing.{drafted}
 use Rattle.paper.specs.Explaining.{refusedLine, acceptedLine, explained, explanation}
 use Rattle.tally.specs.Tally.{Brief, No, Yes, brief, tally}
@@ -51,11 +51,6 @@ module _ (sh : Sheet) (today : ℕ) (f : List ℕ) where
   no-day-verdict not = rw not
 
 -- ---- the line
-
--- is that of the verdict
-pub worded : (a : ReadAnswer) → lineOf (verdictOf a) ≡ explained a
-unfolding lineOf explained
-worded a = refl
 
 pub explanation-is : (sheet today : ℕ) (f : List ℕ) → drafted (lineOf (verdictOf (readWith (sheetOf sheet) today f (length f)))) ≡ explanation sheet today f
 unfolding explanation lineOf explained

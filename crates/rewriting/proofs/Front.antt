@@ -3,12 +3,10 @@ use mathlib.Core.Path.{_≡_, sym, ap, _∙_}
 use mathlib.Core.List.{List, [], _∷_, _++_}
 use Prim.Native.Nat.{ℕ, _+_, _≤_}
 use native.Mathlib.Omega.{arith}
-use lib.ListN.{length, take, drop, length-append}
-use lib.Seq.{take-at}
+use lib.ListN.{length, drop, length-append}
 use borrow.Author.Tests.{le-ltb}
 use Rattle.base.specs.Put.{put, Wrote}
 use Rattle.base.proofs.Cases.{pick-false}
-use Rattle.base.proofs.Put.{length-put}
 use Rattle.paper.specs.Bytes.{bytes}
 use Rattle.paper.specs.Numerals.{decimal}
 use Rattle.paper.specs.Explaining.{refusedLine}
@@ -22,23 +20,9 @@ front-put : (o s : List ℕ) → s ++ drop (length s) o ≡ put o 0 s
 unfolding put
 front-put o s = let z : length s ≡ 0 + length s = omega arith in ap (λ (n : ℕ). s ++ drop n o) z
 
--- What a writer wrote at the front is what is taken from there.
-pub wrote-front : (o s o′ : List ℕ) (r : ℕ) → Wrote o 0 s o′ r → (r ≤ length o) × (take r o′ ≡ s)
-wrote-front o s o′ r w =
-    let room = w .room in
-    let n : length s ≡ r = omega (arith, w .next) in
-    (omega (arith, w .next), ap (take r) (w .left ∙ sym (front-put o s)) ∙ take-at s (drop (length s) o) r n)
-
--- and it ends within the output.
-pub wrote-end : {o s o′ : List ℕ} {r : ℕ} → Wrote o 0 s o′ r → r ≤ length o′
-wrote-end {o} {s} {o′} {r} w =
-    let room = w .room in
-    let n : length o′ ≡ length o = ap length (w .left) ∙ length-put o 0 s room in
-    omega (arith, w .next)
-
 -- Two writers of the same bytes leave the same output and give the same answer: so the contract of `rewrite` determines both.
-pub wrote-one : (o s o′ o″ : List ℕ) (r r′ : ℕ) → Wrote o 0 s o′ r → Wrote o 0 s o″ r′ → (r ≡ r′) × (o′ ≡ o″)
-wrote-one o s o′ o″ r r′ w v = (w .next ∙ sym (v .next), w .left ∙ sym (v .left))
+pub determined : (o s o′ o″ : List ℕ) (r r′ : ℕ) → Wrote o 0 s o′ r → Wrote o 0 s o″ r′ → (r ≡ r′) × (o′ ≡ o″)
+determined o s o′ o″ r r′ w v = (w .next ∙ sym (v .next), w .left ∙ sym (v .left))
 
 -- w is the answer of writing, with the output it left: a draft that has room was written at the front
 pub draft-wrote : (w : AboWritten) (o o′ : List ℕ) (d : Draft) → told w ≡ writtenIn (length o) d → o′ ≡ outputAfter o d

@@ -22,7 +22,6 @@ use Rattle.paper.specs.Writing.{drafted, draft, draftOf}
 use Rattle.paper.specs.Rewriting.{rewritten}
 use Rattle.named.proofs.Main.{judge-named}
 use Rattle.rowlaws.proofs.Main as rows
-use Rattle.lineback.proofs.Main as lines
 use Rattle.whole.proofs.Main as whole
 use Rattle.whole.proofs.Drafts.{draft-known}
 use Rattle.outcomes.proofs.Reading.{says-refused, says-accepted, rows-filled}
@@ -58,7 +57,7 @@ module _ (sh : Sheet) (named : sheetOf (sh .number) ≡ known.Sheet sh) (today :
     drafts =
         draft-known (sh .number) sh named today day h (take (192 * rowCount b) (rowsAfter (sh .number) today f lent)) f
         ∙ ap (draftOf sh today h) held
-        ∙ whole.rewrites sh (sheets.sane (sh .number) sh named) (lines.apt (sh .number) sh named) today f h b w e
+        ∙ whole.rewrites sh (sheets.sane (sh .number) sh named) today f h b w e
 
   outcome-of : (j : Answer) → judge sh today f ≡ j → Outcome sh today f (rowsAfter (sh .number) today f lent) (readAnswer (sh .number) today f lent)
   unfolding rewritten refusedAt acceptedAs
