@@ -1,3 +1,4 @@
+-- `close_file` meets its contract: no group yet, the line refused, or the account file is closed. Assumes nothing.
 use borrow.Author.Needs.{needs}
 use native.Mathlib.Omega.{arith}
 use Rattle.accountfile.proofs.Groups.{end-within, file-closings}

@@ -1,3 +1,4 @@
+-- `end_file` meets its contract: refused before the first account file, else accepted. Assumes nothing.
 use Rattle.base.specs.Pick.{pick}
 use Rattle.base.proofs.Cases.{tests}
 use Rattle.accountfile.specs.Resume.{endAs}

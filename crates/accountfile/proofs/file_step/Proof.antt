@@ -1,3 +1,4 @@
+-- `file_step` meets its contract: the end of the file, an account file, or 3 for each other kind of line. Assumes nothing.
 use borrow.Author.Needs.{needs}
 use Rattle.accountfile.proofs.Files.{file-ends, is-file, file-others}
 use Rattle.accountfile.proofs.file_step.Statement.{statement}

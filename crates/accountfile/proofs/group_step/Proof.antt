@@ -1,3 +1,4 @@
+-- `group_step` meets its contract: a group, the end of the account file, or 3 for each other kind of line. Assumes nothing.
 use borrow.Author.Needs.{needs}
 use Rattle.accountfile.proofs.Groups.{group-ends, is-group, is-file-end, group-others}
 use Rattle.accountfile.proofs.group_step.Statement.{statement}

@@ -1,3 +1,4 @@
+-- `open_file` meets its contract: 15, the line refused, or its number put to those seen; offsets stay in the file. Assumes nothing.
 use borrow.Author.Needs.{needs}
 use native.Mathlib.Omega.{arith}
 use Rattle.accountfile.proofs.Files.{file-long, series-low, file-within, file-15, file-opened, file-refused}

@@ -1,3 +1,4 @@
+-- `open_group` meets its contract: the line refused, or the group read whole with what the line says. Assumes nothing.
 use borrow.Author.Needs.{needs}
 use native.Mathlib.Omega.{arith}
 use Rattle.accountfile.proofs.Groups.{group-long, group-within, total-within, group-begun, group-moved, group-refused}

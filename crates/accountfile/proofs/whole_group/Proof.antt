@@ -1,3 +1,4 @@
+-- `whole_group` meets its contract: where reading stands behind the group is what `group_items` answered. Assumes nothing.
 use borrow.Author.Needs.{needs}
 use Rattle.accountfile.proofs.Groups.{group-closed, group-stopped}
 use Rattle.accountfile.proofs.whole_group.Statement.{statement}

@@ -1,3 +1,4 @@
+-- `group_line` meets its contract: the payer where there is one, and what follows; refusals at their offsets. Assumes nothing.
 use borrow.Author.Needs.{needs}
 use Rattle.groupline.proofs.Fields.{groups, bounds}
 use Rattle.paper.specs.GroupLine.{readGroup}

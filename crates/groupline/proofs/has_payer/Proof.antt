@@ -1,3 +1,4 @@
+-- `has_payer` meets its contract: always, or by the count of spaces. Assumes nothing.
 use borrow.Author.Needs.{needs}
 use Rattle.groupline.proofs.Fields.{payers}
 use Rattle.groupline.proofs.has_payer.Statement.{statement}

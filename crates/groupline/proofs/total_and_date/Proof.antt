@@ -1,3 +1,4 @@
+-- `total_and_date` meets its contract: the two fields and the end of the line, one after the other. Assumes nothing.
 use borrow.Author.Needs.{needs}
 use Rattle.groupline.proofs.Fields.{groups, bounds}
 use Rattle.paper.specs.GroupLine.{totalAndDate}

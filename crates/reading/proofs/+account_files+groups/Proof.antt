@@ -1,3 +1,4 @@
+-- `account_files` and `groups`, which call each other, meet their contracts: by the budget, and by each step. Assumes nothing.
 use borrow.Author.Needs.{needs}
 use Prim.Native.Nat.{ℕ, _-_, _<_}
 use native.Mathlib.Omega.{arith}

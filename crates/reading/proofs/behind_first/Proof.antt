@@ -1,3 +1,4 @@
+-- The loop of `behind_first`: the answer from where reading stands is the answer of the file, and there is less to go. Assumes nothing.
 use borrow.Author.Needs.{needs}
 use native.Mathlib.Omega.{arith}
 use Rattle.accountfile.specs.Resume.{toGo}

@@ -1,3 +1,4 @@
+-- `from_first` meets its contract: the first line refused, or the answer from behind it, with or without a header. Assumes nothing.
 use borrow.Author.Needs.{needs}
 use mathlib.Core.Path.{sym, _∙_}
 use Rattle.base.proofs.Seek.{never}

@@ -1,3 +1,4 @@
+-- `judge_file` meets its contract: an empty file, a first line, or 3 for each other kind of line. Assumes nothing.
 use borrow.Author.Needs.{needs}
 use Rattle.reading.proofs.Heads.{no-line, is-head, head-others}
 use Rattle.reading.proofs.judge_file.Statement.{statement}

@@ -1,3 +1,4 @@
+-- `Seen::has` meets its contract: the word that holds the bit, shifted to it. Assumes nothing.
 use borrow.Author.Needs.{needs}
 use Rattle.seen.specs.Bits.{bit}
 use Rattle.seen.proofs.Seen.has.Statement.{statement}

@@ -1,3 +1,4 @@
+-- `Seen::none` meets its contract: no bit of sixteen zeros is set. Assumes nothing.
 use Rattle.seen.proofs.Laws.{holds-none}
 use Rattle.seen.proofs.Seen.none.Statement.{statement}
 use Rattle.seen.proofs.Seen.none.Tie as tie

@@ -1,3 +1,4 @@
+-- `Seen::with` meets its contract: one bit of one word is set, and no other changes. Assumes nothing.
 use mathlib.Core.Path.{_≡_}
 use native.Mathlib.Omega.{arith}
 use lib.ListN.{length}
