@@ -61,6 +61,11 @@ lines-begin i b (c ∷ s) =
     either (Begins i) _ (λ _. refl)
     (λ _. either (Begins i) _ (λ _. either (Begins i) _ (λ _. begins-behind i (suc i) rest (lines-begin (suc i) c s)) (λ _. refl)) (λ _. begins-first i b rest))
 
+-- only an empty text has no line
+pub lines-none : (i : ℕ) (s : List ℕ) → linesOf i s ≡ [] → s ≡ []
+lines-none i [] e = refl
+lines-none i (b ∷ s) e = absurd (rw e at (lines-begin i b s))
+
 -- behind a file's end there is no line
 pub at-end : (f : List ℕ) (at : ℕ) → length f ≤ at → linesFrom f at ≡ []
 unfolding linesFrom linesOf

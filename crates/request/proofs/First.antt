@@ -10,7 +10,7 @@ use lib.ListN.{length, take, drop}
 use Rattle.base.specs.Pick.{pick}
 use borrow.Author.Tests.{ne-eqb}
 use Rattle.base.proofs.Cases.{by-eq}
-use Rattle.paper.specs.Lines.{Line, line, first, behind, linesOf, linesFrom}
+use Rattle.paper.specs.Lines.{Line, line, first, linesOf, linesFrom}
 use Rattle.paper.specs.Rewriting.{firstLine, pastLF, behindFirst}
 use Rattle.line.specs.declared.Cut.{Cut}
 use Rattle.line.specs.Cutting.{Cuts}
