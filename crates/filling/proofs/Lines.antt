@@ -1,6 +1,6 @@
 -- Lines one after the other: the rows put so far, and those that are still to come. Assumes nothing.
 use mathlib.Core.Path.{_≡_, refl, sym, ap, _∙_}
-use mathlib.Core.Bool.{Bool, false}
+use mathlib.Core.Bool.{Bool, true, false}
 use mathlib.Core.List.{List, [], _∷_, _++_, append-assoc, append-nil}
 use Prim.Native.Nat.{ℕ, _+_, _-_, _≤_, _<_}
 use native.Mathlib.Nat.{zero-add}
@@ -13,12 +13,15 @@ use Rattle.paper.specs.Entries.{Said}
 use Rattle.paper.specs.Lines.{linesOf, linesFrom}
 use Rattle.paper.specs.Spells.{forItem, readLine}
 use Rattle.paper.specs.Rows.{lineRow, singleBehind, linesRows, wordsBytes, rowsBytes}
+use Rattle.base.proofs.Lists.{drop-none}
 use Rattle.put.proofs.Room.{wrote-none, wrote-length}
 use Rattle.line.specs.declared.Cut.{Cut}
 use Rattle.line.specs.Cutting.{Cuts}
 use Rattle.line.proofs.Lines.{at-end}
 use Rattle.filling.specs.declared.Step.{Step}
+use Rattle.takeitem.specs.Said.{isSaid}
 use Rattle.filling.specs.Stepped.{Stepped}
+use Rattle.filling.specs.Judged.{AllSaid}
 
 pub rows-append : (a b : List (List ℕ)) → rowsBytes (a ++ b) ≡ rowsBytes a ++ rowsBytes b
 unfolding rowsBytes
@@ -41,6 +44,10 @@ module _ (f : List ℕ) (sh : Sheet) (today : ℕ) where
     pub done : List (List ℕ)
     pub wrote : Wrote o 0 (rowsBytes done) o1 next
     pub rest : whole ≡ done ++ rowsFrom single at
+
+  pub said-first : AllSaid sh today false (linesOf 0 f) → AllSaid sh today false (linesFrom f 0)
+  unfolding linesFrom
+  said-first h = rw drop-none h
 
   pub going-first : (o : List ℕ) → Going o 0 0 false o
   unfolding rowsBytes linesFrom
@@ -72,6 +79,14 @@ module _ (f : List ℕ) (sh : Sheet) (today : ℕ) where
             rest = rw (w .after) (v .rest ∙ (ap (λ (l : List (List ℕ)). v .done ++ l) cut-rows ∙ sym (append-assoc (v .done) _ _)));
           }
 
+      -- the line is not refused, and neither are those behind it
+      pub line-said : AllSaid sh today single (linesFrom f at) → isSaid (said single at r) ≡ true
+      line-said h = (rw (c .lines) at h) .0
+
+      pub going-said : AllSaid sh today single (linesFrom f at) → (o2 : List ℕ) (t : Step) → Stepped o1 next single at (said single at r) o2 t
+          → AllSaid sh today (t .single) (linesFrom f (r .next))
+      going-said h o2 t w = rw (w .after) ((rw (c .lines) at h) .1)
+
     pub going-length : length o1 ≡ length o
     going-length = wrote-length (v .wrote)
 
@@ -85,4 +100,4 @@ module _ (f : List ℕ) (sh : Sheet) (today : ℕ) where
 pub cut-inside : (f : List ℕ) (at : ℕ) (r : Cut) → Cuts f at r → length f < 18446744073709551616 → at + length (take (r .stop - at) (drop at f)) < 18446744073709551616
 cut-inside f at r c h = omega (arith, length-take (r .stop - at) (drop at f), length-drop at f, c .ahead, c .from, c .to, c .inside)
 
-pub ruleset lines-turn = (going-room, going-more, going-length, going-end, cut-inside)
+pub ruleset lines-turn = (going-room, line-said, going-said, going-more, going-length, going-end, cut-inside)

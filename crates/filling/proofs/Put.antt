@@ -1,6 +1,6 @@
 -- One line's row, put: what each way through `fill_line` leaves, and the room that it has. Assumes nothing.
 use mathlib.Core.Path.{_≡_, refl, sym, ap, _∙_}
-use mathlib.Core.Bool.{Bool}
+use mathlib.Core.Bool.{Bool, true}
 use mathlib.Core.List.{List, [], _∷_, _++_, append-nil}
 use Prim.Native.Nat.{ℕ, _+_, _≤_, _<_}
 use native.Mathlib.Omega.{arith}
@@ -28,9 +28,9 @@ use Rattle.groupline.specs.declared.GroupRead.{GroupRead}
 use Rattle.groupline.specs.declared.GroupRead.the-variants as groups
 use Rattle.groupline.specs.Told as group-told
 use Rattle.itemline.specs.declared.Fields.{Fields}
-use Rattle.itemline.specs.declared.ItemRead.{ItemRead}
 use Rattle.itemline.specs.declared.ItemRead.the-variants as items
 use Rattle.itemline.specs.Told as item-told
+use Rattle.takeitem.specs.Said.{isSaid}
 use Rattle.itemrow.specs.Place.{Reached}
 use Rattle.itemrow.proofs.Texts.{item-length, reached}
 use Rattle.filling.specs.declared.Step.{Step}
@@ -107,19 +107,16 @@ module _ (sh : Sheet) (today : ℕ) (single : Bool) (s : List ℕ) (k : LineKind
       unfolding lineRow entryRow singleBehind singleAfter
       step-group o1 p b w n = rw group-says (record { wrote = one-row o o1 next p (groupRow date (account prefix base)) w; after = n })
 
-  module _ (e : k ≡ kind.Item) (r : ItemRead) (f : item-told.told s r ≡ readItem sh single s) (t : item-told.Kept s r) where
-    says-item : item-told.told s r ≡ readLine sh today (forItem single) s
-    says-item = f ∙ sym (said-item sh today single s k g e)
+  module _ (e : k ≡ kind.Item) where
+    pub judged-item : isSaid (readLine sh today (forItem single) s) ≡ true → isSaid (readItem sh single s) ≡ true
+    judged-item h = rw (said-item sh today single s k g e) at h
 
-    pub step-item-no : (n off : ℕ) → r ≡ items.Refused n off → Stepped o next single at (readLine sh today (forItem single) s) o (step next single)
-    step-item-no n off q = rw (← says-item, q) (quiet-step o next at single (no n off) (omega arith) (quiet-no at single n off))
-
-    module _ (x : Fields) (q : r ≡ items.Item x) where
+    module _ (x : Fields) (f : item-told.told s (items.Item x) ≡ readItem sh single s) (t : item-told.Sound s x) where
       item-says : readLine sh today (forItem single) s ≡ got (item (item-told.itemAt s x)) (x .warnings) (places (textsAt s (x .texts)))
-      item-says = sym says-item ∙ ap (item-told.told s) q
+      item-says = said-item sh today single s k g e ∙ sym f
 
       item-held : Held s (x .texts)
-      item-held = (rw q at t) .held
+      item-held = t .held
 
       pub room-item : next + 192 ≤ length o
       unfolding lineRow entryRow

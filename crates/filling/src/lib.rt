@@ -1,7 +1,6 @@
 // The second pass of reading: the rows of a file's lines, put into lent bytes.
 use fileline::FileRead;
 use groupline::GroupRead;
-use itemline::ItemRead;
 use kind::LineKind;
 use seen::Seen;
 use sheet::Sheet;
@@ -15,7 +14,9 @@ ghost use Rattle.paper.specs.Days.{realDay};
 ghost use Rattle.paper.specs.Lines.{linesOf};
 ghost use Rattle.paper.specs.Spells.{forItem, readLine};
 ghost use Rattle.paper.specs.Rows.{lineRow, linesRows, rowsBytes};
+ghost use Rattle.takeitem.specs.Said.{isSaid};
 ghost use Rattle.filling.specs.Stepped.{anyNumber, Stepped};
+ghost use Rattle.filling.specs.Judged.{AllSaid};
 
 // What a line leaves: where the next row goes, and whether the items that follow are those of a single group.
 pub struct Step {
@@ -32,8 +33,8 @@ fn any_number(sh: Sheet) -> Sheet
     any
 }
 
-// Puts the row of the line s, which starts at `at` of the file, at `next`, if the line has one. A refused line has none, so the file need
-// not be an accepted one.
+// Puts the row of the line s, which starts at `at` of the file, at `next`, if the line has one. The line was judged and is not refused, so
+// an item's fields are only taken.
 fn fill_line(
     s: &[u8],
     at: usize,
@@ -45,17 +46,15 @@ fn fill_line(
 ) -> Step
     requires { ⌜ realDay today ≡ true ⌝ }
     requires { ⌜ (sh .text .most ≤ 4) × (sh .itemdigits ≤ 19) × (sh .itemmax ≤ most14) ⌝ }
+    requires { ⌜ isSaid (readLine sh today (forItem single) (now s)) ≡ true ⌝ }
     requires { ⌜ at + length (now s) < 18446744073709551616 ⌝ }
     requires { ⌜ next + length (rowsBytes (lineRow at (readLine sh today (forItem single) (now s)))) ≤ length (now rows) ⌝ }
     ensures { λ r. ⌜ Stepped (now (rows .entry)) next single at (readLine sh today (forItem single) (now (s .entry))) (now (rows .exit)) r ⌝ }
 {
     match kind::kind_of(s) {
-        LineKind::Item => match itemline::item_line(s, sh, single) {
-            ItemRead::Item(x) => Step {
-                next: itemrow::put_item_row(rows, next, x, at),
-                single,
-            },
-            ItemRead::Refused(_, _) => Step { next, single },
+        LineKind::Item => Step {
+            next: itemrow::put_item_row(rows, next, takeitem::take_item(s, sh, single), at),
+            single,
         },
         LineKind::Group => match groupline::group_line(s, sh, today) {
             GroupRead::Group {
@@ -82,10 +81,11 @@ fn fill_line(
     }
 }
 
-// Puts the rows of the file's lines, in order, in front of the old bytes behind them.
+// Puts the rows of the file's lines, in order, in front of the old bytes behind them. The file was judged: none of its lines is refused.
 pub fn fill_rows(f: &[u8], sh: Sheet, today: u64, rows: &mut [u8])
     requires { ⌜ realDay today ≡ true ⌝ }
     requires { ⌜ (sh .text .most ≤ 4) × (sh .itemdigits ≤ 19) × (sh .itemmax ≤ most14) ⌝ }
+    requires { ⌜ AllSaid sh today false (linesOf 0 (now f)) ⌝ }
     requires { ⌜ length (rowsBytes (linesRows sh today false (linesOf 0 (now f)))) ≤ length (now rows) ⌝ }
     ensures { λ _. ⌜ now (rows .exit) ≡ rowsBytes (linesRows sh today false (linesOf 0 (now (f .entry)))) ++ drop (length (rowsBytes (linesRows sh today false (linesOf 0 (now (f .entry)))))) (now (rows .entry)) ⌝ }
 {

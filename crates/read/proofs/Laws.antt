@@ -18,6 +18,8 @@ use Rattle.paper.specs.Reading.{refusedAt, needs, acceptedAs, answered, readWit
 use Rattle.tally.specs.Tally.{No, Yes, brief, tally}
 use Rattle.tally.proofs.Same.{tally-is}
 use Rattle.rowlaws.proofs.Main.{row-bytes}
+use Rattle.filling.specs.Judged.{AllSaid}
+use Rattle.read.proofs.Said.{file-said}
 
 -- ---- what the judge answered, from its answer in brief
 
@@ -69,6 +71,10 @@ module _ (sh : Sheet) (today : ℕ) (f lent : List ℕ) where
     module _ (h : Header) (n w : ℕ) (e : tally sh today f ≡ Yes h n w) where
       judged-yes : (b : Batch) × (judge sh today f ≡ Accepted h b w) × (n ≡ length (things b))
       judged-yes = accepted-is _ h n w (sym (tally-is sh today f) ∙ e)
+
+      -- no line of it is refused
+      pub lines-said : AllSaid sh today false (linesOf 0 f)
+      lines-said = let j = judged-yes in file-said sh today f h (j .0) w (j .1)
 
       -- there are fewer: 16, and the rows are left alone
       pub short-answer : (room : ℕ) → room < n → needs n ≡ readWith (known.Sheet sh) today f room

@@ -39,7 +39,7 @@ dueThings [] = []
 dueThings (d ∷ ds) = entryThings (d .entry) (dueThings ds)
 
 -- an item is due in the context that the group before it makes
-abbrev Meets : Bool → Context → Entry → Type 0
+abbrev pub Meets : Bool → Context → Entry → Type 0
 Meets b c (head h) = Unit {0}
 Meets b c (file k n) = Unit {0}
 Meets b c (group p t d) = Unit {0}
@@ -47,7 +47,7 @@ Meets b c (item x) = singleIn c ≡ b
 Meets b c closeGroup = Unit {0}
 Meets b c closeFile = Unit {0}
 
-abbrev Runs : Bool → List Due → Type 0
+abbrev pub Runs : Bool → List Due → Type 0
 Runs b [] = Unit {0}
 Runs b (d ∷ ds) = Meets b (d .context) (d .entry) × Runs (singleAfter b (d .entry)) ds
 
@@ -122,6 +122,10 @@ unfolding fileDues singleAfter
 runs-files h seen [] b = tt
 runs-files h seen (f ∷ fs) b = (tt, runs-groups b (f .groups) _ (runs-files h (series (f .number) ∷ seen) fs))
 
+pub runs-batch : (h : Header) (b : Batch) → Runs false (dues h b)
+unfolding dues singleAfter
+runs-batch h b = (tt, runs-files h [] b false)
+
 -- ---- and its things
 
 things-items : (b : Bool) (xs : List Item) (r : List Due) → dueThings (itemDues b xs r) ≡ itemThings xs (dueThings r)
@@ -148,7 +152,7 @@ pub batch-rows : (sh : Sheet) (today : ℕ) (f : List ℕ) (h : Header) (b : Bat
     → Stand f (linesOf 0 f) → Each sh today (linesOf 0 f) (dues h b) w → Rows f (linesRows sh today false (linesOf 0 f)) (things b)
 unfolding dues dueThings entryThings singleAfter
 batch-rows sh today f h b w s e =
-    rw (things-files h [] b) at (filled sh today f false (linesOf 0 f) (dues h b) w s (tt, runs-files h [] b false) e)
+    rw (things-files h [] b) at (filled sh today f false (linesOf 0 f) (dues h b) w s (runs-batch h b) e)
 
 -- ---- what follows for all rows
 

@@ -2,7 +2,9 @@ use Prim.Native.Nat.{_-_, _≤_}
 use native.Mathlib.Omega.{arith}
 use lib.ListN.{length}
 use borrow.Author.Needs.{needs}
-use Rattle.filling.proofs.Lines.{Going, going-first, going-room, cut-inside, lines-turn}
+use Rattle.paper.specs.Lines.{linesFrom}
+use Rattle.filling.specs.Judged.{AllSaid}
+use Rattle.filling.proofs.Lines.{Going, said-first, going-first, going-room, cut-inside, lines-turn}
 use Rattle.filling.proofs.fill_rows.Statement.{statement}
 use Rattle.filling.proofs.fill_rows.Tie as tie
 use Rattle.filling.proofs.fill_rows.Reads as reads
@@ -11,13 +13,13 @@ use Rattle.filling.proofs.fill_line.Reads as fill-line-reads
 use Rattle.line.proofs.next_line.Reads as next-line-reads
 
 abbrev Inv-loop : tie.InvT-loop
-Inv-loop f sh today rows₀ at₀ next₀ single₀ rows at next single = (at ≤ length f) × Going f sh today rows₀ at next single rows
+Inv-loop f sh today rows₀ at₀ next₀ single₀ rows at next single = (at ≤ length f) × Going f sh today rows₀ at next single rows × AllSaid sh today single (linesFrom f at)
 
 abbrev μ-loop : tie.MeasureT-loop
 μ-loop f sh today rows₀ at₀ next₀ single₀ rows at next single = length f - at
 
 loop-holds : tie.Need-loop-holds Inv-loop μ-loop
-loop-holds c = (omega arith, going-first _ _ _ _)
+loop-holds c = (omega arith, going-first _ _ _ _, said-first _ _ _ (search needs))
 
 next-line-requires : tie.Need-next-line-requires Inv-loop μ-loop
 next-line-requires c κs = search needs
@@ -32,7 +34,7 @@ part-fill-line-end : tie.Need-part-fill-line-end Inv-loop μ-loop
 part-fill-line-end c = search needs
 
 fill-line-requires : tie.Need-fill-line-requires Inv-loop μ-loop
-fill-line-requires c κs = (search needs, (search needs, (search (cut-inside, needs), search going-room)))
+fill-line-requires c κs = (search needs, (search needs, (search lines-turn, (search (cut-inside, needs), search going-room))))
 
 loop-less : tie.Need-loop-less Inv-loop μ-loop
 loop-less c = omega arith

@@ -1,0 +1,45 @@
+-- No line of an accepted file is refused where its rows are put. Assumes nothing.
+use mathlib.Core.Path.{_≡_, refl, sym, ap, _∙_}
+use mathlib.Core.Bool.{Bool, true, false}
+use mathlib.Core.List.{List, [], _∷_}
+use Prim.Native.Nat.{ℕ}
+use Rattle.sheet.specs.declared.Sheet.{Sheet}
+use Rattle.paper.specs.Batch.{Batch, Header}
+use Rattle.paper.specs.Lines.{Line, linesOf}
+use Rattle.paper.specs.Entries.{Entry, head, file, group, item, closeGroup, closeFile, Said, got}
+use Rattle.paper.specs.Spells.{Context, forItem, readLine, Due, dues, SaysEntry, Each}
+use Rattle.paper.specs.Rows.{singleAfter, singleBehind}
+use Rattle.paper.specs.Judge.{Accepted, judge}
+use Rattle.exact.proofs.Main.{exact}
+use Rattle.rowlaws.proofs.Within.{head-again, file-line-again, group-again, item-again, group-end-again, file-end-again}
+use Rattle.rowlaws.proofs.Filled.{Meets, Runs, runs-batch}
+use Rattle.takeitem.specs.Said.{isSaid}
+use Rattle.filling.specs.Judged.{AllSaid}
+
+-- one line: it says the same in the context of an item, and so do the lines behind it (P)
+module _ (sh : Sheet) (today : ℕ) (s : List ℕ) (b : Bool) (P : Bool → Type 0) where
+  abbrev said : Said
+  said = readLine sh today (forItem b) s
+
+  abbrev Goes : Type 0
+  Goes = (isSaid said ≡ true) × P (singleBehind b said)
+
+  one : (c : Context) (e : Entry) (w : ℕ) → Meets b c e → SaysEntry sh today s c e w → P (singleAfter b e) → Goes
+  unfolding isSaid singleAfter singleBehind
+  one c (head h) w _ (spots, q) r = rw (head-again sh today c b s w spots h q) (refl, r)
+  one c (file k n) w _ (spots, q) r = rw (file-line-again sh today c b s w spots k n q) (refl, r)
+  one c (group p exact d) w _ (total, v, (spots, q), _, _) r = rw (group-again sh today c b s v spots p total d q) (refl, r)
+  one c (item x) w i (spots, q) r = rw (item-again sh today c b s w spots x i q) (refl, r)
+  one c closeGroup w _ (spots, q) r = rw (group-end-again sh today c b s w spots q) (refl, r)
+  one c closeFile w _ (spots, q) r = rw (file-end-again sh today c b s w spots q) (refl, r)
+
+-- all lines
+all-said : (sh : Sheet) (today : ℕ) (b : Bool) (ls : List Line) (ds : List Due) (w : ℕ) → Runs b ds → Each sh today ls ds w → AllSaid sh today b ls
+all-said sh today b [] [] w r e = tt
+all-said sh today b [] (d ∷ ds) w r e = absurd e
+all-said sh today b (t ∷ ls) [] w r e = absurd e
+all-said sh today b (t ∷ ls) (d ∷ ds) w (r, rs) (v, u, q, e, _) =
+    one sh today (t .bytes) b (λ i. AllSaid sh today i ls) (d .context) (d .entry) v r q (all-said sh today (singleAfter b (d .entry)) ls ds u rs e)
+
+pub file-said : (sh : Sheet) (today : ℕ) (f : List ℕ) (h : Header) (b : Batch) (w : ℕ) → judge sh today f ≡ Accepted h b w → AllSaid sh today false (linesOf 0 f)
+file-said sh today f h b w e = all-said sh today false (linesOf 0 f) (dues h b) w (runs-batch h b) (exact sh today f h b w .0 e .lines)

@@ -1,0 +1,4 @@
+pub mod Goes
+pub mod Fields
+pub mod Texts
+pub mod Tails

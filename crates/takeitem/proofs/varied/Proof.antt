@@ -1,0 +1,18 @@
+-- `varied` meets its contract. Assumes nothing.
+use borrow.Author.Needs.{needs}
+use Rattle.base.proofs.Cases.{picks}
+use Rattle.takeitem.proofs.varied.Statement.{statement}
+use Rattle.takeitem.proofs.varied.Tie as tie
+use Rattle.takeitem.proofs.varied.Reads as reads
+use Rattle.takeitem.proofs.varied.Lts as lts
+
+-- src/lib.rt:75:9
+returns : tie.Need-returns
+returns c = search (picks)
+
+-- src/lib.rt:70:1
+returns-2 : tie.Need-returns-2
+returns-2 c = search (picks)
+
+pub varied-spec : {M : Type 1} → statement M
+varied-spec = tie.close (tie.spec returns returns-2)

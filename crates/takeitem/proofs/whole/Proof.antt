@@ -1,0 +1,21 @@
+-- `whole` meets its contract. Assumes nothing.
+use mathlib.Core.Path.{refl}
+use borrow.Author.Needs.{needs}
+use borrow.Author.Needs.{needs}
+use Rattle.itemline.specs.Stages.{withTexts}
+use Rattle.takeitem.proofs.whole.Statement.{statement}
+use Rattle.takeitem.proofs.whole.Tie as tie
+use Rattle.takeitem.proofs.whole.Reads as reads
+use Rattle.takeitem.proofs.whole.Lts as lts
+
+-- src/lib.rt:179:19
+add-t4 : tie.Need-add-t4
+add-t4 c = search needs
+
+-- src/lib.rt:164:1
+returns : tie.Need-returns
+unfolding withTexts
+returns c = refl
+
+pub whole-spec : {M : Type 1} → statement M
+whole-spec = tie.close (tie.spec add-t4 returns)

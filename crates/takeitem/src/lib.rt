@@ -1,0 +1,258 @@
+// An item's line that was judged before: its fields are taken one after the other, and its texts found by their places.
+use find::find_byte;
+use itemline::Fields;
+use itemline::Front;
+use itemline::Paid;
+use sheet::Sheet;
+use sheet::Style;
+use span::Span;
+use span::Spans;
+use span::four_from;
+use taking::Account;
+use text::TextRead;
+ghost use mathlib.Core.Path.{_≡_};
+ghost use mathlib.Core.Bool.{true, false};
+ghost use mathlib.Core.List.{List};
+ghost use Prim.Native.Nat.{ℕ, _+_, _≤_};
+ghost use lib.ListN.{length, drop};
+ghost use Rattle.base.specs.Pick.{pick};
+ghost use Rattle.paper.specs.Accounts as paper;
+ghost use Rattle.paper.specs.Accounts.{readAccount};
+ghost use Rattle.paper.specs.Batch.{most14};
+ghost use Rattle.paper.specs.Entries.{Said};
+ghost use Rattle.paper.specs.ItemLine.{isValue, readItem};
+ghost use Rattle.paper.specs.Read.{value};
+ghost use Rattle.paper.specs.Texts.{readText};
+ghost use Rattle.span.specs.Held.{textsAt, Held};
+ghost use Rattle.span.specs.Places.{fourFrom};
+ghost use Rattle.itemline.specs.declared.ItemRead.the-variants as answer;
+ghost use Rattle.itemline.specs.Told.{noSpans, told, Sound};
+ghost use Rattle.itemline.specs.Stages.{withTexts, says, withTail, fromPayee, payerFirst};
+ghost use Rattle.taking.specs.Known.{There};
+ghost use Rattle.takeitem.specs.Said.{isSaid};
+ghost use Rattle.takeitem.specs.Told.{toldTail, Inside};
+
+// The tail of an item's line: a specific symbol and no text, or a symbol and where its text begins.
+pub enum Tail {
+    Plain(u64),
+    Text(u64, usize),
+}
+
+// No message and no name.
+fn no_spans() -> Spans
+    ensures { λ r. ⌜ r ≡ noSpans ⌝ }
+{
+    Spans {
+        part1: Span { at: 0, len: 0 },
+        part2: Span { at: 0, len: 0 },
+        part3: Span { at: 0, len: 0 },
+        part4: Span { at: 0, len: 0 },
+        name: Span { at: 0, len: 0 },
+        warnings: 0,
+    }
+}
+
+// A text that may have a name, or a message without `AV:`, is read again as it was judged.
+fn read_again(y: Style, s: &[u8], from: usize) -> Spans
+    requires { ⌜ y .most ≤ 4 ⌝ }
+    requires { ⌜ from ≤ length (now s) ⌝ }
+    requires { ⌜ isValue (readText y from (drop from (now s))) ≡ true ⌝ }
+    ensures { λ r. ⌜ value (textsAt (now (s .entry)) r) ≡ readText y from (drop from (now (s .entry))) ⌝ }
+    ensures { λ r. ⌜ Held (now (s .entry)) r ⌝ }
+{
+    match text::read_text(y, s, from) {
+        TextRead::Texts(texts) => texts,
+        TextRead::Refused(_) => no_spans(),
+    }
+}
+
+// May the text have a name, or a message without `AV:`?
+fn varied(y: Style) -> bool
+    ensures { λ r. ⌜ r ≡ pick (y .names) true (y .may) ⌝ }
+{
+    let names = y.names;
+    if names {
+        return true;
+    }
+    y.may
+}
+
+// Where the message of another text begins: behind its `AV:`, where the sheet has it.
+fn message_start(y: Style, s: &[u8], from: usize) -> usize
+    requires { ⌜ from ≤ length (now s) ⌝ }
+    requires { ⌜ pick (y .names) true (y .may) ≡ false ⌝ }
+    requires { ⌜ isValue (readText y from (drop from (now s))) ≡ true ⌝ }
+    ensures { λ r. ⌜ r ≡ pick (y .av) (from + 3) from ⌝ }
+{
+    let av = y.av;
+    if av {
+        return from + 3;
+    }
+    from
+}
+
+// The parts of a message with no name. Nearly every message has one part, and no more than that is looked for where it ends the line.
+fn take_parts(s: &[u8], from: usize) -> Spans
+    requires { ⌜ from ≤ length (now s) ⌝ }
+    ensures { λ r. ⌜ r ≡ fourFrom (now (s .entry)) from 0 0 ⌝ }
+{
+    let end = find_byte(s, from, 124);
+    if end < s.len() {
+        return four_from(s, from, 0, 0);
+    }
+    let len = end - from;
+    if 35 < len {
+        return four_from(s, from, 0, 0);
+    }
+    if len == 0 {
+        return no_spans();
+    }
+    Spans {
+        part1: Span { at: from, len },
+        part2: Span { at: 0, len: 0 },
+        part3: Span { at: 0, len: 0 },
+        part4: Span { at: 0, len: 0 },
+        name: Span { at: 0, len: 0 },
+        warnings: 0,
+    }
+}
+
+// The text that begins at `from`.
+fn take_text(y: Style, s: &[u8], from: usize) -> Spans
+    requires { ⌜ y .most ≤ 4 ⌝ }
+    requires { ⌜ from ≤ length (now s) ⌝ }
+    requires { ⌜ isValue (readText y from (drop from (now s))) ≡ true ⌝ }
+    ensures { λ r. ⌜ value (textsAt (now (s .entry)) r) ≡ readText y from (drop from (now (s .entry))) ⌝ }
+    ensures { λ r. ⌜ Held (now (s .entry)) r ⌝ }
+{
+    if varied(y) {
+        return read_again(y, s, from);
+    }
+    take_parts(s, message_start(y, s, from))
+}
+
+// The tail at `at`, behind the fields x. A symbol has digits, except where both spaces always stand there (`fixed`); what is no symbol
+// is the text.
+fn take_tail(s: &[u8], at: usize, y: Style, fixed: bool, bare: bool, x: Front) -> Tail
+    requires { ⌜ at ≤ length (now s) ⌝ }
+    requires { ⌜ isSaid (withTail y fixed bare x at (drop at (now s))) ≡ true ⌝ }
+    ensures { λ r. ⌜ toldTail y (now (s .entry)) r (λ specific texts. says x specific texts) ≡ withTail y fixed bare x at (drop at (now (s .entry))) ⌝ }
+    ensures { λ r. ⌜ Inside (now (s .entry)) r ⌝ }
+{
+    if s.len() <= at {
+        return Tail::Plain(0);
+    }
+    let from = at + 1;
+    let got = field::digit_run(s, from, 10);
+    let end = got.end;
+    let symbol = got.value;
+    if from < end {
+        if s.len() <= end {
+            return Tail::Plain(symbol);
+        }
+        if s[end] == 32 {
+            return Tail::Text(symbol, end + 1);
+        }
+        return Tail::Text(0, from);
+    }
+    if fixed {
+        return Tail::Text(symbol, end + 1);
+    }
+    Tail::Text(0, from)
+}
+
+// The item with its specific symbol and its texts.
+fn whole(x: Front, specific: u64, texts: Spans) -> Fields
+    requires { ⌜ (x .warnings ≤ 1) × (texts .warnings ≤ 5) ⌝ }
+    ensures { λ r. ⌜ answer.Item r ≡ withTexts x specific texts ⌝ }
+{
+    Fields {
+        payerprefix: x.paid.payerprefix,
+        payerbase: x.paid.payerbase,
+        payeeprefix: x.paid.payeeprefix,
+        payeebase: x.paid.payeebase,
+        bank: x.bank,
+        amount: x.paid.amount,
+        variable: x.variable,
+        specific,
+        constant: x.constant,
+        priority: x.priority,
+        warnings: x.warnings + texts.warnings,
+        texts,
+    }
+}
+
+// The tail at `at`, behind the other fields.
+fn from_tail(s: &[u8], at: usize, y: Style, fixed: bool, bare: bool, x: Front) -> Fields
+    requires { ⌜ y .most ≤ 4 ⌝ }
+    requires { ⌜ at ≤ length (now s) ⌝ }
+    requires { ⌜ (x .paid .amount ≤ most14) × (x .warnings ≤ 1) ⌝ }
+    requires { ⌜ isSaid (withTail y fixed bare x at (drop at (now s))) ≡ true ⌝ }
+    ensures { λ r. ⌜ told (now (s .entry)) (answer.Item r) ≡ withTail y fixed bare x at (drop at (now (s .entry))) ⌝ }
+    ensures { λ r. ⌜ Sound (now (s .entry)) r ⌝ }
+{
+    match take_tail(s, at, y, fixed, bare, x) {
+        Tail::Plain(specific) => whole(x, specific, no_spans()),
+        Tail::Text(specific, from) => whole(x, specific, take_text(y, s, from)),
+    }
+}
+
+// Payee, amount, variable symbol and bank field from `at` on, then the tail.
+fn from_payee(s: &[u8], at: usize, sh: Sheet, payerprefix: u64, payerbase: u64) -> Fields
+    requires { ⌜ (sh .text .most ≤ 4) × (sh .itemdigits ≤ 19) × (sh .itemmax ≤ most14) ⌝ }
+    requires { ⌜ isSaid (fromPayee sh (paper.account payerprefix payerbase) at (drop at (now s))) ≡ true ⌝ }
+    ensures { λ r. ⌜ told (now (s .entry)) (answer.Item r) ≡ fromPayee sh (paper.account payerprefix payerbase) at (drop at (now (s .entry))) ⌝ }
+    ensures { λ r. ⌜ Sound (now (s .entry)) r ⌝ }
+{
+    let payee = taking::take_account(s, at, sh.joined, sh.basemin);
+    let amount = taking::take_amount(s, payee.end + 1, sh.comma, sh.itemdigits, sh.itemmax);
+    let variable = taking::take_symbol(s, amount.end + 1);
+    let bank = taking::take_bank(s, variable.end + 1, sh.priority);
+    let paid = Paid {
+        payerprefix,
+        payerbase,
+        payeeprefix: payee.prefix,
+        payeebase: payee.base,
+        amount: amount.value,
+    };
+    let x = Front {
+        paid,
+        variable: variable.value,
+        bank: bank.bank,
+        constant: bank.constant,
+        priority: bank.priority,
+        warnings: bank.warnings,
+    };
+    from_tail(s, bank.end, sh.text, sh.fixedtail, sh.bare, x)
+}
+
+// The payer, where the group is single, and where the payee begins.
+fn take_payer(s: &[u8], joined: bool, least: usize, single: bool) -> Account
+    requires { ⌜ (single ≡ true → There (readAccount joined least) (now s) 0) ⌝ }
+    ensures { λ r. ⌜ ((k : paper.Account → ℕ → List ℕ → Said) → k (paper.account (r .prefix) (r .base)) (r .end) (drop (r .end) (now (s .entry))) ≡ payerFirst joined least single (now (s .entry)) k) ⌝ }
+{
+    if single {
+        let payer = taking::take_account(s, 0, joined, least);
+        return Account {
+            prefix: payer.prefix,
+            base: payer.base,
+            end: payer.end + 1,
+        };
+    }
+    Account {
+        prefix: 0,
+        base: 0,
+        end: 0,
+    }
+}
+
+// The whole line, which is known to be an item's.
+pub fn take_item(s: &[u8], sh: Sheet, single: bool) -> Fields
+    requires { ⌜ (sh .text .most ≤ 4) × (sh .itemdigits ≤ 19) × (sh .itemmax ≤ most14) ⌝ }
+    requires { ⌜ isSaid (readItem sh single (now s)) ≡ true ⌝ }
+    ensures { λ r. ⌜ told (now (s .entry)) (answer.Item r) ≡ readItem sh single (now (s .entry)) ⌝ }
+    ensures { λ r. ⌜ Sound (now (s .entry)) r ⌝ }
+{
+    let payer = take_payer(s, sh.joined, sh.basemin, single);
+    from_payee(s, payer.end, sh, payer.prefix, payer.base)
+}

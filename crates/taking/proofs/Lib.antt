@@ -1,0 +1,5 @@
+pub mod Turns
+pub mod Parts
+pub mod Accounts
+pub mod Amounts
+pub mod Banks

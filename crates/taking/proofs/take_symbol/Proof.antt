@@ -1,0 +1,19 @@
+-- `take_symbol` meets its contract. Assumes nothing.
+use borrow.Author.Needs.{needs}
+use Rattle.taking.proofs.Amounts.{symbols}
+use Rattle.taking.proofs.take_symbol.Statement.{statement}
+use Rattle.taking.proofs.take_symbol.Tie as tie
+use Rattle.taking.proofs.take_symbol.Reads as reads
+use Rattle.taking.proofs.take_symbol.Lts as lts
+use Rattle.taking.proofs.take_run.Reads as take-run-reads
+
+-- src/lib.rt:102:5
+take-run-requires : tie.Need-take-run-requires
+take-run-requires c κs = search (symbols, needs)
+
+-- src/lib.rt:98:1
+returns : tie.Need-returns
+returns c = search (symbols)
+
+pub take-symbol-spec : {M : Type 1} → statement M
+take-symbol-spec = tie.close (tie.spec take-run-requires returns)
