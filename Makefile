@@ -13,7 +13,7 @@
 # and linked -static, and the tests run them by qemu.
 
 # The first number grows when a program must be changed to go on working, the second when a call or a constant is added.
-VERSION = 1.0
+VERSION = 1.1
 
 PREFIX = /usr/local
 BINDIR = $(PREFIX)/bin

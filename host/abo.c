@@ -15,7 +15,7 @@
 #include "abo_table.h"
 
 #ifndef ABO_VERSION
-#define ABO_VERSION "1.0"
+#define ABO_VERSION "1.1"
 #endif
 
 enum status { ACCEPTED = 0, REFUSED = 1, TROUBLE = 2 };

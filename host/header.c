@@ -297,6 +297,23 @@ static void check_answers(void)
           "no rows", "lack the first row");
 }
 
+/* Three words that differ, so that none can stand in another's place. */
+static void check_found(void)
+{
+    static const uint8_t file[] = {'U', 'H', 'L', '1', '\r', '\n', '1', ' '};
+    struct abo_found f = abo_line(file, sizeof file, 2);
+    check(f.found == 1 && f.at == 6 && f.len == 2, "a line", "is found");
+    f = abo_line(file, sizeof file, 3);
+    check(f.found == 1 && f.at == sizeof file && f.len == 0, "the file's end",
+          "is a line without bytes");
+    f = abo_line(file, sizeof file, 4);
+    check(f.found == 0 && f.at == 0 && f.len == 0, "a line too far",
+          "is not found");
+    f = abo_line(NULL, 0, 1);
+    check(f.found == 1 && f.at == 0 && f.len == 0, "an empty file",
+          "has its end as line 1");
+}
+
 /* ABO_EXPLAIN_BYTES is the longer of both lines, with the longest numbers. */
 static void check_longest_line(void)
 {
@@ -325,6 +342,7 @@ int main(int argc, char **argv)
     check_all_seen(header_fields, COUNT_OF(header_fields), "header's fields");
     check_all_seen(numbers, COUNT_OF(numbers), "numbers returned");
     check_answers();
+    check_found();
     check_longest_line();
     printf("%lu passed, %lu failed\n", passed, failed);
     return failed != 0;

@@ -48,4 +48,5 @@ wrong 'two fields of an item exchanged' 's/uint64_t bank, amount,/uint64_t amoun
 wrong 'a field that is missing' 's/uint64_t due;//'
 wrong 'a row one word too long' 's/uint64_t unused\[3\]/uint64_t unused[4]/'
 wrong 'an answer one word too long' 's/uint64_t bytes;/uint64_t bytes, more;/'
+wrong 'a line found with one word too few' 's/uint64_t at; //'
 last_line

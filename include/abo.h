@@ -1,6 +1,6 @@
 /*
- * Reading, writing and explaining Czech ABO (.kpc) payment files for the bank sheets K, S, C and E: three calls, the rows
- * that they take and give, and the numbers that they return.  For C99 and later and for C++; link with libabo.a.
+ * Reading, writing and explaining Czech ABO (.kpc) payment files for the bank sheets K, S, C and E, and finding their lines: four
+ * calls, the rows that they take and give, and the numbers that they return.  For C99 and later and for C++; link with libabo.a.
  *
  * Days.  Every day is a number YYYYMMDD: the 2nd of January 2018 is 20180102.  So is `today`, which the caller gives with each
  * call, because the library never asks the clock; it must be a real day of 2000 to 2099.
@@ -226,6 +226,18 @@ struct abo_text {
 struct abo_text abo_explain(const uint8_t *file, size_t len, uint64_t sheet,
                             uint64_t today, uint8_t *out, size_t out_len);
 
+/* ---- Finding the line of a refusal ---- */
+
+struct abo_found {
+    uint64_t found; /* 1 if the file has a line of that number, else 0 */
+    uint64_t at;    /* found: where the line starts in the file, from 0; else 0 */
+    uint64_t len;   /* found: its bytes without its end (CR LF, LF or CR); else 0 */
+};
+
+/* Finds the line of a number, counted from 1 as in refusals; the file's end counts as one line more, which is empty.  A refusal
+   with 3 to 15 always has its line found, and its byte lies in that line or right behind the line's last byte. */
+struct abo_found abo_line(const uint8_t *file, size_t len, uint64_t line);
+
 /* ---- The layout, held against the compiler's ---- */
 
 #if defined(__cplusplus) && __cplusplus >= 201103L
@@ -259,6 +271,7 @@ ABO_HOLDS(header, sizeof(struct abo_header) == 56 && offsetof(struct abo_header,
 ABO_HOLDS(answer, sizeof(struct abo_answer) == 104 && offsetof(struct abo_answer, header) == 48);
 ABO_HOLDS(written, sizeof(struct abo_written) == 32);
 ABO_HOLDS(text, sizeof(struct abo_text) == 16);
+ABO_HOLDS(found, sizeof(struct abo_found) == 24);
 
 #undef ABO_AT
 #undef ABO_HOLDS
