@@ -7,7 +7,7 @@
 /* The widest piece of a line that is shown, so that it and its marks fit into 80 columns. */
 enum { WIDEST = 72 };
 
-/* The line that a place lies in, without its end. */
+/* A line without its end, and the place meant in it. */
 struct line {
     size_t start, end, place;
 };
@@ -17,21 +17,11 @@ int shown_byte(uint8_t byte)
     return byte >= 32 && byte < 127 ? byte : '.';
 }
 
-static bool ends_line(uint8_t byte)
+/* The library finds the line, and the place lies in it or right behind its last byte. */
+static struct line refused_line(const struct input *file, const struct abo_answer *a)
 {
-    return byte == '\r' || byte == '\n';
-}
-
-/* A place is never behind a CR and before its LF, so going back to any line end finds the line's start. */
-static struct line line_around(const struct input *file, uint64_t place)
-{
-    struct line l;
-    l.place = place < file->len ? (size_t)place : file->len;
-    l.start = l.end = l.place;
-    while (l.start > 0 && !ends_line(file->bytes[l.start - 1]))
-        l.start--;
-    while (l.end < file->len && !ends_line(file->bytes[l.end]))
-        l.end++;
+    struct abo_found f = abo_line(file->bytes, file->len, a->line);
+    struct line l = {(size_t)f.at, (size_t)(f.at + f.len), (size_t)a->byte};
     return l;
 }
 
@@ -111,7 +101,7 @@ static void print_place(FILE *to, const struct input *file,
 void print_refusal(FILE *to, const struct input *file, uint64_t sheet,
                    const struct abo_answer *a)
 {
-    struct line l = line_around(file, a->byte);
+    struct line l = refused_line(file, a);
     fprintf(to, "refused at line %" PRIu64 ", byte %" PRIu64 ": %s (%" PRIu64 ").\n",
             a->line, a->byte, reason(file, &l, sheet, a), a->number);
     if (a->number == ABO_BAD_ORDER && a->byte == file->len)

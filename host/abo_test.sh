@@ -188,6 +188,8 @@ says C "$c" "$g" "$long$long" \
     "refused at line 4, byte 38: the bytes or the length of this field are wrong, or a divider is (4).\n  $(printf '%072d' 0)..\n  ^"
 says C "$long$long" \
     "refused at line 2, byte 5: another kind of line is due here, or the end of the file (3).\n  $(printf '%072d' 0)..\n  ^"
+says C "$c\\r$g\\r19 0 0 03000558\\r" \
+    "refused at line 4, byte 41: the amount is zero or over the sheet's limit (6).\n  19 0 0 03000558\n     ^"
 far='000019-0000000019 000019-0000000019 00000000000001 0000000000 0003000558 0000000000 a|b|c|d|e'
 says C "$c" '2 1 010118' "$far" \
     "refused at line 4, byte 119: the text breaks the sheet's rules on its start, its parts, their length or bars (14).

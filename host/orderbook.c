@@ -176,22 +176,24 @@ static enum status refuse_reading(struct abo_answer a, const char *path,
     fprintf(stderr, ". %s\n", say_number(a.number));
     if (a.line == 0)
         return REFUSED;
+    /* what is missing is missed behind the last line */
     bool early = a.number == ABO_BAD_ORDER && a.byte == len;
+    struct abo_found f = abo_line(file, len, early ? a.line - 1 : a.line);
     fprintf(stderr, "%s%s line %" PRIu64 ":\n", path,
             early ? " ends before" : ",", a.line);
-    say_place(stderr, file, len, early ? say_last(file, len) : (size_t)a.byte,
-              1);
+    say_place(stderr, file + f.at, (size_t)f.len,
+              (size_t)(early ? f.len : a.byte - f.at), 1);
     return REFUSED;
 }
 
 static void say_ledger(const struct options *o, const struct ledger *l,
                        struct span at)
 {
-    if (at.at == l->len) /* what is missing is missed behind the last line */
-        at.at = say_last(l->bytes, l->len);
-    fprintf(stderr, "%s, line %" PRIu64 ":\n", o->ledger,
-            say_line_number(l->bytes, at.at));
-    say_place(stderr, l->bytes, l->len, at.at, at.len);
+    uint64_t number;
+    struct span line = ledger_line(l, at.at, &number);
+    size_t in_line = at.at == l->len ? line.len : at.at - line.at;
+    fprintf(stderr, "%s, line %" PRIu64 ":\n", o->ledger, number);
+    say_place(stderr, l->bytes + line.at, line.len, in_line, at.len);
 }
 
 static enum status refuse_writing(const struct options *o,

@@ -410,6 +410,17 @@ static bool all_there(struct ledger *l)
     return true;
 }
 
+/* The line that starts at a place, without its LF or CR LF. */
+static struct span line_from(const struct ledger *l, size_t at, size_t *next)
+{
+    const uint8_t *feed = memchr(l->bytes + at, '\n', l->len - at);
+    size_t end = feed != NULL ? (size_t)(feed - l->bytes) : l->len;
+    *next = feed != NULL ? end + 1 : end;
+    if (end > at && l->bytes[end - 1] == '\r')
+        end--;
+    return (struct span){at, end - at};
+}
+
 bool ledger_take(struct ledger *l, const uint8_t *bytes, size_t len,
                  bool names)
 {
@@ -418,14 +429,10 @@ bool ledger_take(struct ledger *l, const uint8_t *bytes, size_t len,
     l->len = len;
     l->names = names;
     for (size_t at = 0; at < len;) {
-        const uint8_t *feed = memchr(bytes + at, '\n', len - at);
-        size_t end = feed != NULL ? (size_t)(feed - bytes) : len;
-        struct cursor line = {at, end};
-        if (end > at && bytes[end - 1] == '\r')
-            line.end--;
-        if (!take_line(l, &line))
+        struct span line = line_from(l, at, &at);
+        struct cursor words = {line.at, line.at + line.len};
+        if (!take_line(l, &words))
             return false;
-        at = end + 1;
     }
     return all_there(l);
 }
@@ -437,6 +444,23 @@ struct span ledger_span(const struct ledger *l, uint64_t row, uint64_t field)
     if (row == 0 || row > l->count || field >= ABO_ROW_WORDS)
         return (struct span){l->len, 0};
     return l->spans[row - 1][field];
+}
+
+struct span ledger_line(const struct ledger *l, size_t place,
+                        uint64_t *number)
+{
+    struct span found = {0, 0};
+    uint64_t count = 0;
+    *number = 1;
+    for (size_t at = 0; at < l->len && at <= place;) {
+        struct span line = line_from(l, at, &at);
+        count++;
+        if (line.len > 0 || place < l->len) {
+            found = line;
+            *number = count;
+        }
+    }
+    return found;
 }
 
 void ledger_free(struct ledger *l)

@@ -54,6 +54,11 @@ bool ledger_take(struct ledger *l, const uint8_t *bytes, size_t len,
  * missing would have stood at the ledger's end. */
 struct span ledger_span(const struct ledger *l, uint64_t row, uint64_t field);
 
+/* The line that a place lies in, without its end, and its number from 1. Of
+ * the ledger's end it is the last line that is not empty. */
+struct span ledger_line(const struct ledger *l, size_t place,
+                        uint64_t *number);
+
 void ledger_free(struct ledger *l);
 
 #endif

@@ -130,45 +130,19 @@ size_t say_columns(const uint8_t *bytes, size_t len)
     return columns;
 }
 
-static bool is_end(uint8_t byte)
-{
-    return byte == '\r' || byte == '\n';
-}
-
-size_t say_last(const uint8_t *bytes, size_t len)
-{
-    while (len > 0 && is_end(bytes[len - 1]))
-        len--;
-    return len;
-}
-
-uint64_t say_line_number(const uint8_t *bytes, size_t at)
-{
-    uint64_t line = 1;
-    for (size_t i = 0; i < at; i++)
-        line += bytes[i] == '\n';
-    return line;
-}
-
-void say_place(FILE *out, const uint8_t *bytes, size_t len, size_t at,
+void say_place(FILE *out, const uint8_t *line, size_t len, size_t at,
                size_t width)
 {
-    size_t start = at, end = at;
-    while (start > 0 && !is_end(bytes[start - 1]))
-        start--;
-    while (end < len && !is_end(bytes[end]))
-        end++;
-    if (width > end - at)
-        width = end - at;
+    if (width > len - at)
+        width = len - at;
     fputs("    ", out);
-    say_text(out, bytes + start, end - start);
+    say_text(out, line, len);
     fprintf(out, "\n    ");
     /* columns are counted up to a place as they are in the whole line */
-    bool utf8 = is_utf8(bytes + start, end - start);
-    size_t before = at - start, under = width;
-    if (utf8) {
-        before = say_columns(bytes + start, before);
-        under = say_columns(bytes + at, width);
+    size_t before = at, under = width;
+    if (is_utf8(line, len)) {
+        before = say_columns(line, at);
+        under = say_columns(line + at, width);
     }
     fprintf(out, "%*s^", (int)before, "");
     for (size_t i = 1; i < under; i++)

@@ -22,16 +22,9 @@ void say_text(FILE *out, const uint8_t *bytes, size_t len);
 /* The columns that say_text takes. */
 size_t say_columns(const uint8_t *bytes, size_t len);
 
-/* The end of the last line that is not empty: where to point if something is
- * missing behind it. */
-size_t say_last(const uint8_t *bytes, size_t len);
-
-/* The number of the line that the byte `at` lies in, from 1. */
-uint64_t say_line_number(const uint8_t *bytes, size_t at);
-
-/* The line that the byte `at` lies in, under it a caret, and waves as far as
- * the field of `width` bytes goes. */
-void say_place(FILE *out, const uint8_t *bytes, size_t len, size_t at,
+/* A line without its end, a caret under its byte `at`, which may be the one
+ * behind its last, and waves as far as the field of `width` bytes goes. */
+void say_place(FILE *out, const uint8_t *line, size_t len, size_t at,
                size_t width);
 
 #endif

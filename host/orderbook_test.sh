@@ -76,6 +76,7 @@ write_case day_after_due pond S 2026-11-17
 # Files of a bank that are refused.
 run_case read_total --read $cases/bad_total.kpc --sheet K --day 2026-11-15
 run_case read_early_end --read $cases/early_end.kpc --sheet K --day 2026-11-15
+run_case read_empty --read /dev/null --sheet K --day 2026-11-15
 run_case read_other_sheet --read $cases/pond_S.kpc --sheet E --day 2026-11-15
 
 # Without -o the file goes to standard output.
