@@ -17,7 +17,7 @@ if [ -z "$run" ]; then files=150000 step=1; else files=4000 step=5; fi
 files=${FILES:-$files}
 seed=${SEED:-1}
 step=${STEP:-$step}
-all='header api installed demo_test abo_test orderbook_test corpus stack attack compare_read compare_write compare_explain'
+all='header api installed demo_test abo_test orderbook_test corpus stack attack compare_read compare_write compare_explain compare_line'
 
 program() { # NAME ARG ..: builds a test that is a program, and runs it
     build_test "$1" || return
@@ -32,7 +32,7 @@ run_test() { # NAME
     header | api | installed | demo_test | abo_test | orderbook_test) sh "host/$1.sh" ;;
     corpus) program fuzz host/corpus/* ;;
     stack) program stack 0 "$seed" "$step" ;;
-    attack | compare_explain) program "$1" "$((files / 2))" "$seed" "$step" ;;
+    attack | compare_explain | compare_line) program "$1" "$((files / 2))" "$seed" "$step" ;;
     compare_read | compare_write) program "$1" "$files" "$seed" "$step" ;;
     *) echo "There is no test $1. They are: $all" && return 2 ;;
     esac
