@@ -1,5 +1,6 @@
 #include "ask_edges.h"
 #include "as_abo.h"
+#include "lines.h"
 #include "narrow.h"
 #include "show.h"
 
@@ -8,7 +9,7 @@
 
 unsigned long edge_counts[CALLS][NUMBERS];
 
-static const char *const names[CALLS] = {"read", "write", "explain"};
+static const char *const names[CALLS] = {"read", "write", "explain", "line"};
 
 /* The work on the narrow stack takes no arguments, so they lie here. */
 static struct {
@@ -52,6 +53,11 @@ static struct outcome of_text(const struct abo_text *t)
     };
 }
 
+static struct outcome of_found(const struct abo_found *f)
+{
+    return (struct outcome){.number = f->found, .words = {f->at, f->len}};
+}
+
 static void ask_abo(void)
 {
     const struct call *c = job.call;
@@ -65,6 +71,9 @@ static void ask_abo(void)
             c->name.bytes, c->name.len, c->client, c->from, c->to, c->sheet,
             c->today, job.out, job.room);
         job.abo = of_written(&w);
+    } else if (c->which == FINDS) {
+        struct abo_found f = abo_line(c->file.bytes, c->file.len, c->line);
+        job.abo = of_found(&f);
     } else {
         struct abo_text t = abo_explain(c->file.bytes, c->file.len, c->sheet,
                                         c->today, job.out, job.room);
@@ -74,6 +83,7 @@ static void ask_abo(void)
 
 static void ask_peer(void)
 {
+    static struct lines lines;
     const struct call *c = job.call;
     if (c->which == READS) {
         struct abo_answer a = answer_of_peer(
@@ -86,6 +96,10 @@ static void ask_peer(void)
             c->name.bytes, c->name.len, c->client, c->from, c->to, c->sheet,
             c->today, job.out, job.room));
         job.peer = of_written(&w);
+    } else if (c->which == FINDS) {
+        split_lines(&lines, c->file.bytes, c->file.len);
+        struct abo_found f = line_numbered(&lines, c->line);
+        job.peer = of_found(&f);
     } else {
         struct abo_text t = text_of_peer(
             peer_explain(c->file.bytes, c->file.len, c->sheet, c->today,
@@ -160,9 +174,10 @@ static void show_outcome(const char *who, const struct outcome *o)
 void show_last_call(void)
 {
     const struct call *c = job.call;
-    printf("  abo_%s: sheet %llu today %llu room %zu%s\n", names[c->which],
-           (unsigned long long)c->sheet, (unsigned long long)c->today, job.room,
-           job.out == NULL ? " at NULL" : "");
+    printf("  abo_%s: sheet %llu today %llu room %zu%s line %llu\n",
+           names[c->which], (unsigned long long)c->sheet,
+           (unsigned long long)c->today, job.room,
+           job.out == NULL ? " at NULL" : "", (unsigned long long)c->line);
     show_bytes(c->which == WRITES ? "rows" : "file", c->file.bytes,
                c->file.len);
     if (c->which == WRITES) {
@@ -195,14 +210,14 @@ struct outcome check_edges(struct scene *s, const char *what, uint64_t seed,
 
 void report_edges(void)
 {
-    printf("number    read   write explain\n");
+    printf("number    read   write explain    line\n");
     for (unsigned number = 0; number < NUMBERS; number++) {
-        const unsigned long of[CALLS] = {edge_counts[READS][number],
-                                         edge_counts[WRITES][number],
-                                         edge_counts[EXPLAINS][number]};
-        if (of[READS] + of[WRITES] + of[EXPLAINS] > 0)
-            printf("%6u %7lu %7lu %7lu\n", number, of[READS], of[WRITES],
-                   of[EXPLAINS]);
+        const unsigned long of[CALLS] = {
+            edge_counts[READS][number], edge_counts[WRITES][number],
+            edge_counts[EXPLAINS][number], edge_counts[FINDS][number]};
+        if (of[READS] + of[WRITES] + of[EXPLAINS] + of[FINDS] > 0)
+            printf("%6u %7lu %7lu %7lu %7lu\n", number, of[READS], of[WRITES],
+                   of[EXPLAINS], of[FINDS]);
     }
     for (unsigned which = 0; which < CALLS; which++)
         printf("stack used by abo_%s: at most %zu of %d bytes\n",

@@ -1,5 +1,6 @@
-/* Any of the three calls, made by the library and by the second program: every
-   slice at the edge of a page, the library on a stack of 64 KiB. */
+/* Any of the four calls, made by the library and by the second program, which
+   for the line of a number is lines.h: every slice at the edge of a page, the
+   library on a stack of 64 KiB. */
 #ifndef HOST_ASK_EDGES_H
 #define HOST_ASK_EDGES_H
 
@@ -7,7 +8,7 @@
 
 #include "edge.h"
 
-enum which { READS, WRITES, EXPLAINS, CALLS };
+enum which { READS, WRITES, EXPLAINS, FINDS, CALLS };
 
 struct slice {
     const uint8_t *bytes;
@@ -15,19 +16,23 @@ struct slice {
 };
 
 /* The arguments but for the room.  Texts, name and the four numbers are
-   writing's, and its rows lie where the others have the file. */
+   writing's, and its rows lie where the others have the file.  The line is
+   that to be found, which takes no sheet, day or room. */
 struct call {
     enum which which;
     struct slice file, texts, name;
     uint64_t date, client, from, to;
     uint64_t sheet, today;
+    uint64_t line;
 };
 
 /* The header's words are the last four. */
 enum { HEADER_WORDS = 5, OUTCOME_WORDS = 9 };
 
 /* The answer of any call: reading's line, byte, rows, warnings, needed and the
-   header's four numbers; writing's row, field and bytes; explaining's bytes. */
+   header's four numbers; writing's row, field and bytes; explaining's bytes;
+   of a line its place and length, and as the number 1 if it was found, else
+   0. */
 struct outcome {
     uint64_t number, words[OUTCOME_WORDS];
     uint8_t name[ABO_NAME_BYTES];

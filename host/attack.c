@@ -1,5 +1,5 @@
 /*
- * An attack on the three calls.  Every slice is lent at the edge of a page that
+ * An attack on the four calls.  Every slice is lent at the edge of a page that
  * nobody may touch, of no length at times, or at NULL; slices to be read lie
  * over one another; numbers come from all 64 bits; files and rows are valid,
  * next to valid, or without sense.  Each call is made on a stack of 64 KiB and
@@ -241,7 +241,19 @@ static void write_what_was_read(struct call c, const struct outcome *read)
     ask_rooms("what was read", &c);
 }
 
-/* Explained, read and, if it says a batch, written. */
+/* The line that was refused, if one was, and any other. */
+static void find_lines(const char *what, struct call c, uint64_t refused)
+{
+    c.which = FINDS;
+    c.line = refused;
+    ask(what, &c, 0);
+    c.line = below(&dice, 16);
+    ask(what, &c, 0);
+    c.line = wild_number(&dice, c.line);
+    ask(what, &c, 0);
+}
+
+/* Explained, read and, if it says a batch, written; and lines of it found. */
 static void attack_made(const char *what, const struct made *made, bool wild)
 {
     struct call c = {.which = EXPLAINS, .sheet = made->sheet,
@@ -255,6 +267,7 @@ static void attack_made(const char *what, const struct made *made, bool wild)
     struct outcome read = ask_rooms(what, &c);
     if (read.number == 0)
         write_what_was_read(c, &read);
+    find_lines(what, c, read.words[0]);
 }
 
 static void attack_file(void)
@@ -304,7 +317,7 @@ static void attack_bulks(void)
    one that it can give must have come. */
 static void report(struct seeds seeds)
 {
-    static const uint32_t can_come[CALLS] = {0x1ffff, 0x310007, 0x10001};
+    static const uint32_t can_come[CALLS] = {0x1ffff, 0x310007, 0x10001, 3};
     bool tested = are_enough(seeds, ENOUGH);
     report_edges();
     for (unsigned which = 0; which < CALLS; which++)

@@ -138,7 +138,10 @@ static void make_inputs(const char *folder, uint64_t count, uint64_t seed)
             put_draft_input(&input, &draft, &d);
         } else {
             generate(&made, i);
-            put_file_input(&input, &made, explains, &d);
+            if (one_in(&d, 8))
+                put_line_input(&input, &made, &d);
+            else
+                put_file_input(&input, &made, explains, &d);
         }
         save(&input, folder, i);
     }

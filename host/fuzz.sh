@@ -44,7 +44,7 @@ one_of_each() { # FOLDER: the shortest input for each call and number; what choo
         else
             rm "$1/$name"
         fi
-    done | awk '!(($1, $2, $3) in seen) { seen[$1, $2, $3]; print $NF }'
+    done | awk '!(($1, $2, $3, $4) in seen) { seen[$1, $2, $3, $4]; print $NF }'
 }
 
 choose() { # FIRST CONTROL: then always the input that adds the most branches to those of the ones before, up to 60

@@ -4,6 +4,10 @@
 
 enum { HEAD = 5, WRITE_HEAD = 17, NAME = ABO_NAME_BYTES, ENOUGH_ROOM = 128, NO_SHEET = 5 };
 
+/* The first byte's modulus, and the bit of its quotient that makes an
+   explanation the finding of a line. */
+enum { CHOICES = 3, LINE_BIT = 32 };
+
 static void put_number(struct text *out, uint64_t number, size_t bytes)
 {
     for (size_t i = 0; i < bytes; i++, number >>= 8)
@@ -44,19 +48,30 @@ static bool take_batch(struct fuzz_input *in, const uint8_t *data, size_t len)
     return true;
 }
 
+static void take_line(struct fuzz_input *in, const uint8_t *data)
+{
+    uint64_t number = number_at(data + 2, 2);
+    in->call.which = FINDS;
+    in->call.line = data[4] == 0 ? number : UINT64_MAX - number;
+    in->room = 0;
+}
+
 bool decode_input(struct fuzz_input *in, const uint8_t *data, size_t len)
 {
     if (len < HEAD)
         return false;
+    uint8_t bits = data[0] / CHOICES;
     *in = (struct fuzz_input){
-        .call = {.which = (enum which)(data[0] % CALLS),
+        .call = {.which = (enum which)(data[0] % CHOICES),
                  .file = {data + HEAD, len - HEAD},
                  .sheet = data[1] % (NO_SHEET + 1),
                  .today = take_day(data + 2)},
-        .at_back = data[0] / CALLS & 1,
-        .runs_on = data[0] / CALLS & 2,
+        .at_back = bits & 1,
+        .runs_on = bits & 2,
         .room = data[4],
     };
+    if (in->call.which == EXPLAINS && bits & LINE_BIT)
+        take_line(in, data);
     return in->call.which != WRITES || take_batch(in, data, len);
 }
 
@@ -72,7 +87,7 @@ static void put_head(struct text *out, enum which which, uint64_t sheet,
     static const uint8_t rooms[] = {0, ENOUGH_ROOM - 1, ENOUGH_ROOM,
                                     ENOUGH_ROOM, ENOUGH_ROOM, 255};
     text_clear(out);
-    text_byte(out, (uint8_t)(which + CALLS * below(d, 4)));
+    text_byte(out, (uint8_t)(which + CHOICES * below(d, 4)));
     text_byte(out, sheet < NO_SHEET ? (uint8_t)sheet : NO_SHEET);
     put_day(out, today);
     text_byte(out, PICK(d, rooms));
@@ -82,6 +97,16 @@ void put_file_input(struct text *out, const struct made *made, bool explains,
                     struct dice *d)
 {
     put_head(out, explains ? EXPLAINS : READS, made->sheet, made->today, d);
+    text_bytes(out, made->file.data, made->file.len);
+}
+
+void put_line_input(struct text *out, const struct made *made, struct dice *d)
+{
+    text_clear(out);
+    text_byte(out, (uint8_t)(EXPLAINS + CHOICES * (LINE_BIT + below(d, 2))));
+    text_byte(out, (uint8_t)made->sheet);
+    put_number(out, below(d, 16), 2);
+    text_byte(out, one_in(d, 8));
     text_bytes(out, made->file.data, made->file.len);
 }
 

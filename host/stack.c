@@ -1,8 +1,8 @@
 /*
- * The three calls on stacks of 64 KiB, on the files with the most lines of each
+ * The four calls on stacks of 64 KiB, on the files with the most lines of each
  * kind and on the corner files: each is explained, read and, if it says a batch,
- * written again.  Code that calls itself once a line, or keeps a line on the
- * stack, does not come back from these.
+ * written again, and its lines are walked to the last.  Code that calls itself
+ * once a line, or keeps a line on the stack, does not come back from these.
  *
  *   stack [0 [SEED [STEP]]]     as seeds.h says; nothing is generated
  */
@@ -61,6 +61,17 @@ static void write_again(const char *what, unsigned place, struct call c,
     check(w.number == ABO_ACCEPTED, "what was read is not written again");
 }
 
+/* The refused line, and one that no file has, for which all are walked. */
+static void find_lines(const char *what, unsigned place, struct call c,
+                       uint64_t refused)
+{
+    c.which = FINDS;
+    c.line = refused;
+    ask(what, place, &c, 0);
+    c.line = UINT64_MAX;
+    ask(what, place, &c, 0);
+}
+
 /* Gives back the number that reading gave. */
 static uint64_t test_file(const char *what, unsigned place,
                           const struct made *made)
@@ -73,6 +84,7 @@ static uint64_t test_file(const char *what, unsigned place,
     struct outcome read = ask_exact(what, place, &c);
     if (read.number == ABO_ACCEPTED)
         write_again(what, place, c, &read);
+    find_lines(what, place, c, read.words[0]);
     return read.number;
 }
 
