@@ -87,11 +87,14 @@ static union abo_row *read_batch(const uint8_t *file, size_t len, size_t *count)
         (rows = calloc(a.needed, sizeof *rows)) != NULL)
         a = abo_read(file, len, ABO_SHEET_K, TODAY, (uint8_t *)rows,
                      a.needed * sizeof *rows);
-    if (a.number != ABO_ACCEPTED)
+    if (a.number != ABO_ACCEPTED) {
+        struct abo_found line = abo_line(file, len, a.line);
         fprintf(stderr,
                 "The file was refused with %" PRIu64 " at line %" PRIu64
-                ", byte %" PRIu64 ".\n",
-                a.number, a.line, a.byte);
+                ", byte %" PRIu64 ":\n%.*s\n",
+                a.number, a.line, a.byte, (int)line.len,
+                (const char *)file + line.at);
+    }
     *count = a.rows;
     return rows;
 }
