@@ -1,6 +1,6 @@
 #include "ask_edges.h"
-#include "as_abo.h"
-#include "lines.h"
+#include "call_abo.h"
+#include "call_peer.h"
 #include "narrow.h"
 #include "show.h"
 
@@ -8,8 +8,6 @@
 #include <string.h>
 
 unsigned long edge_counts[CALLS][NUMBERS];
-
-static const char *const names[CALLS] = {"read", "write", "explain", "line"};
 
 /* The work on the narrow stack takes no arguments, so they lie here. */
 static struct {
@@ -19,100 +17,9 @@ static struct {
     struct outcome abo, peer;
 } job;
 
-static struct outcome of_read(const struct abo_answer *a)
-{
-    const struct abo_header *h = &a->header;
-    struct outcome o = {
-        .number = a->number,
-        .words = {a->line, a->byte, a->rows, a->warnings, a->needed, h->date,
-                  h->client, h->from, h->to},
-        .written = a->number == 0 ? a->rows * ABO_ROW_BYTES : 0,
-        .needed = a->needed * ABO_ROW_BYTES,
-    };
-    memcpy(o.name, h->name, sizeof o.name);
-    return o;
-}
-
-static struct outcome of_written(const struct abo_written *w)
-{
-    return (struct outcome){
-        .number = w->number,
-        .words = {w->row, w->field, w->bytes},
-        .written = w->number == 0 ? w->bytes : 0,
-        .needed = w->number == 16 ? w->bytes : 0,
-    };
-}
-
-static struct outcome of_text(const struct abo_text *t)
-{
-    return (struct outcome){
-        .number = t->number,
-        .words = {t->bytes},
-        .written = t->number == 0 ? t->bytes : 0,
-        .needed = t->number == 16 ? t->bytes : 0,
-    };
-}
-
-static struct outcome of_found(const struct abo_found *f)
-{
-    return (struct outcome){.number = f->found, .words = {f->at, f->len}};
-}
-
 static void ask_abo(void)
 {
-    const struct call *c = job.call;
-    if (c->which == READS) {
-        struct abo_answer a = abo_read(c->file.bytes, c->file.len, c->sheet,
-                                       c->today, job.out, job.room);
-        job.abo = of_read(&a);
-    } else if (c->which == WRITES) {
-        struct abo_written w = abo_write(
-            c->file.bytes, c->file.len, c->texts.bytes, c->texts.len, c->date,
-            c->name.bytes, c->name.len, c->client, c->from, c->to, c->sheet,
-            c->today, job.out, job.room);
-        job.abo = of_written(&w);
-    } else if (c->which == FINDS) {
-        struct abo_found f = abo_line(c->file.bytes, c->file.len, c->line);
-        job.abo = of_found(&f);
-    } else {
-        struct abo_text t = abo_explain(c->file.bytes, c->file.len, c->sheet,
-                                        c->today, job.out, job.room);
-        job.abo = of_text(&t);
-    }
-}
-
-static void ask_peer(void)
-{
-    static struct lines lines;
-    const struct call *c = job.call;
-    if (c->which == READS) {
-        struct abo_answer a = answer_of_peer(
-            peer_read(c->file.bytes, c->file.len, c->sheet, c->today, job.out,
-                      job.room));
-        job.peer = of_read(&a);
-    } else if (c->which == WRITES) {
-        struct abo_written w = written_of_peer(peer_write(
-            c->file.bytes, c->file.len, c->texts.bytes, c->texts.len, c->date,
-            c->name.bytes, c->name.len, c->client, c->from, c->to, c->sheet,
-            c->today, job.out, job.room));
-        job.peer = of_written(&w);
-    } else if (c->which == FINDS) {
-        split_lines(&lines, c->file.bytes, c->file.len);
-        struct abo_found f = line_numbered(&lines, c->line);
-        job.peer = of_found(&f);
-    } else {
-        struct abo_text t = text_of_peer(
-            peer_explain(c->file.bytes, c->file.len, c->sheet, c->today,
-                         job.out, job.room));
-        job.peer = of_text(&t);
-    }
-}
-
-static bool same_outcome(const struct outcome *a, const struct outcome *b)
-{
-    return a->number == b->number &&
-           memcmp(a->words, b->words, sizeof a->words) == 0 &&
-           memcmp(a->name, b->name, sizeof a->name) == 0;
+    job.abo = call_abo(job.call, job.out, job.room);
 }
 
 static bool parts_kept(const struct scene *s)
@@ -154,7 +61,7 @@ const char *ask_edges(struct scene *s, const struct call *c, size_t room,
         edge_open(&s->parts[i]);
     bool kept = parts_kept(s);
     job.out = edge_lend(&s->theirs, NULL, room, at, fill);
-    ask_peer();
+    job.peer = call_peer(c, job.out, room);
     *answer = job.peer;
     if (!kept)
         return "bytes lent to be read have changed";
@@ -163,30 +70,9 @@ const char *ask_edges(struct scene *s, const struct call *c, size_t room,
     return fault_of(s);
 }
 
-static void show_outcome(const char *who, const struct outcome *o)
-{
-    printf("  %s number %llu and", who, (unsigned long long)o->number);
-    for (size_t i = 0; i < OUTCOME_WORDS; i++)
-        printf(" %llu", (unsigned long long)o->words[i]);
-    printf("\n");
-}
-
 void show_last_call(void)
 {
-    const struct call *c = job.call;
-    printf("  abo_%s: sheet %llu today %llu room %zu%s line %llu\n",
-           names[c->which], (unsigned long long)c->sheet,
-           (unsigned long long)c->today, job.room,
-           job.out == NULL ? " at NULL" : "", (unsigned long long)c->line);
-    show_bytes(c->which == WRITES ? "rows" : "file", c->file.bytes,
-               c->file.len);
-    if (c->which == WRITES) {
-        printf("  date %llu client %llu from %llu to %llu\n",
-               (unsigned long long)c->date, (unsigned long long)c->client,
-               (unsigned long long)c->from, (unsigned long long)c->to);
-        show_bytes("texts", c->texts.bytes, c->texts.len);
-        show_bytes("name", c->name.bytes, c->name.len);
-    }
+    show_call(job.call, job.room, job.out == NULL);
     show_outcome("abo: ", &job.abo);
     show_outcome("peer:", &job.peer);
 }
@@ -221,5 +107,5 @@ void report_edges(void)
     }
     for (unsigned which = 0; which < CALLS; which++)
         printf("stack used by abo_%s: at most %zu of %d bytes\n",
-               names[which], narrow_used(which), NARROW_STACK);
+               call_names[which], narrow_used(which), NARROW_STACK);
 }

@@ -4,40 +4,8 @@
 #ifndef HOST_ASK_EDGES_H
 #define HOST_ASK_EDGES_H
 
-#include <abo.h>
-
+#include "call.h"
 #include "edge.h"
-
-enum which { READS, WRITES, EXPLAINS, FINDS, CALLS };
-
-struct slice {
-    const uint8_t *bytes;
-    size_t len;
-};
-
-/* The arguments but for the room.  Texts, name and the four numbers are
-   writing's, and its rows lie where the others have the file.  The line is
-   that to be found, which takes no sheet, day or room. */
-struct call {
-    enum which which;
-    struct slice file, texts, name;
-    uint64_t date, client, from, to;
-    uint64_t sheet, today;
-    uint64_t line;
-};
-
-/* The header's words are the last four. */
-enum { HEADER_WORDS = 5, OUTCOME_WORDS = 9 };
-
-/* The answer of any call: reading's line, byte, rows, warnings, needed and the
-   header's four numbers; writing's row, field and bytes; explaining's bytes;
-   of a line its place and length, and as the number 1 if it was found, else
-   0. */
-struct outcome {
-    uint64_t number, words[OUTCOME_WORDS];
-    uint8_t name[ABO_NAME_BYTES];
-    uint64_t written, needed; /* bytes, worked out from the words */
-};
 
 /* What the call reads lies in these, and where it may not write. */
 struct scene {
@@ -62,7 +30,6 @@ void show_last_call(void);
 
 /* How often each call gave each number, in those that were checked; and the
    same as a table, with how much of its stack each call has used. */
-enum { NUMBERS = ABO_NOT_CARRIED + 1 };
 extern unsigned long edge_counts[CALLS][NUMBERS];
 void report_edges(void);
 

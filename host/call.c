@@ -1,0 +1,78 @@
+#include "call.h"
+#include "show.h"
+
+#include <stdio.h>
+#include <string.h>
+
+const char *const call_names[CALLS] = {"read", "write", "explain", "line"};
+
+struct outcome outcome_of_answer(const struct abo_answer *a)
+{
+    const struct abo_header *h = &a->header;
+    struct outcome o = {
+        .number = a->number,
+        .words = {a->line, a->byte, a->rows, a->warnings, a->needed, h->date,
+                  h->client, h->from, h->to},
+        .written = a->number == 0 ? a->rows * ABO_ROW_BYTES : 0,
+        .needed = a->needed * ABO_ROW_BYTES,
+    };
+    memcpy(o.name, h->name, sizeof o.name);
+    return o;
+}
+
+struct outcome outcome_of_written(const struct abo_written *w)
+{
+    return (struct outcome){
+        .number = w->number,
+        .words = {w->row, w->field, w->bytes},
+        .written = w->number == 0 ? w->bytes : 0,
+        .needed = w->number == 16 ? w->bytes : 0,
+    };
+}
+
+struct outcome outcome_of_text(const struct abo_text *t)
+{
+    return (struct outcome){
+        .number = t->number,
+        .words = {t->bytes},
+        .written = t->number == 0 ? t->bytes : 0,
+        .needed = t->number == 16 ? t->bytes : 0,
+    };
+}
+
+struct outcome outcome_of_found(const struct abo_found *f)
+{
+    return (struct outcome){.number = f->found, .words = {f->at, f->len}};
+}
+
+bool same_outcome(const struct outcome *a, const struct outcome *b)
+{
+    return a->number == b->number &&
+           memcmp(a->words, b->words, sizeof a->words) == 0 &&
+           memcmp(a->name, b->name, sizeof a->name) == 0;
+}
+
+void show_call(const struct call *c, size_t room, bool at_null)
+{
+    printf("  abo_%s: sheet %llu today %llu room %zu%s line %llu\n",
+           call_names[c->which], (unsigned long long)c->sheet,
+           (unsigned long long)c->today, room, at_null ? " at NULL" : "",
+           (unsigned long long)c->line);
+    show_bytes(c->which == WRITES ? "rows" : "file", c->file.bytes,
+               c->file.len);
+    if (c->which == WRITES) {
+        printf("  date %llu client %llu from %llu to %llu\n",
+               (unsigned long long)c->date, (unsigned long long)c->client,
+               (unsigned long long)c->from, (unsigned long long)c->to);
+        show_bytes("texts", c->texts.bytes, c->texts.len);
+        show_bytes("name", c->name.bytes, c->name.len);
+    }
+}
+
+void show_outcome(const char *who, const struct outcome *o)
+{
+    printf("  %s number %llu and", who, (unsigned long long)o->number);
+    for (size_t i = 0; i < OUTCOME_WORDS; i++)
+        printf(" %llu", (unsigned long long)o->words[i]);
+    printf("\n");
+}

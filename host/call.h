@@ -1,0 +1,53 @@
+/* Any of the four calls and its answer as values, whoever is asked. */
+#ifndef HOST_CALL_H
+#define HOST_CALL_H
+
+#include <abo.h>
+#include <stdbool.h>
+
+enum which { READS, WRITES, EXPLAINS, FINDS, CALLS };
+extern const char *const call_names[CALLS];
+
+struct slice {
+    const uint8_t *bytes;
+    size_t len;
+};
+
+/* The arguments but for the room.  Texts, name and the four numbers are
+   writing's, and its rows lie where the others have the file.  The line is
+   that to be found, which takes no sheet, day or room. */
+struct call {
+    enum which which;
+    struct slice file, texts, name;
+    uint64_t date, client, from, to;
+    uint64_t sheet, today;
+    uint64_t line;
+};
+
+/* The header's words are the last four. */
+enum { HEADER_WORDS = 5, OUTCOME_WORDS = 9, NUMBERS = ABO_NOT_CARRIED + 1 };
+
+/* The answer of any call: reading's line, byte, rows, warnings, needed and the
+   header's four numbers; writing's row, field and bytes; explaining's bytes;
+   of a line its place and length, and as the number 1 if it was found, else
+   0. */
+struct outcome {
+    uint64_t number, words[OUTCOME_WORDS];
+    uint8_t name[ABO_NAME_BYTES];
+    uint64_t written, needed; /* bytes, worked out from the words */
+};
+
+/* Makes a call, with room for so many bytes. */
+typedef struct outcome asked(const struct call *c, uint8_t *out, size_t room);
+
+struct outcome outcome_of_answer(const struct abo_answer *a);
+struct outcome outcome_of_written(const struct abo_written *w);
+struct outcome outcome_of_text(const struct abo_text *t);
+struct outcome outcome_of_found(const struct abo_found *f);
+
+bool same_outcome(const struct outcome *a, const struct outcome *b);
+
+void show_call(const struct call *c, size_t room, bool at_null);
+void show_outcome(const char *who, const struct outcome *o);
+
+#endif

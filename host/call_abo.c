@@ -1,0 +1,24 @@
+#include "call_abo.h"
+
+struct outcome call_abo(const struct call *c, uint8_t *out, size_t room)
+{
+    if (c->which == READS) {
+        struct abo_answer a = abo_read(c->file.bytes, c->file.len, c->sheet,
+                                       c->today, out, room);
+        return outcome_of_answer(&a);
+    }
+    if (c->which == WRITES) {
+        struct abo_written w = abo_write(
+            c->file.bytes, c->file.len, c->texts.bytes, c->texts.len, c->date,
+            c->name.bytes, c->name.len, c->client, c->from, c->to, c->sheet,
+            c->today, out, room);
+        return outcome_of_written(&w);
+    }
+    if (c->which == FINDS) {
+        struct abo_found f = abo_line(c->file.bytes, c->file.len, c->line);
+        return outcome_of_found(&f);
+    }
+    struct abo_text t = abo_explain(c->file.bytes, c->file.len, c->sheet,
+                                    c->today, out, room);
+    return outcome_of_text(&t);
+}

@@ -1,0 +1,28 @@
+#include "call_peer.h"
+#include "as_abo.h"
+#include "lines.h"
+
+struct outcome call_peer(const struct call *c, uint8_t *out, size_t room)
+{
+    if (c->which == READS) {
+        struct abo_answer a = answer_of_peer(peer_read(
+            c->file.bytes, c->file.len, c->sheet, c->today, out, room));
+        return outcome_of_answer(&a);
+    }
+    if (c->which == WRITES) {
+        struct abo_written w = written_of_peer(peer_write(
+            c->file.bytes, c->file.len, c->texts.bytes, c->texts.len, c->date,
+            c->name.bytes, c->name.len, c->client, c->from, c->to, c->sheet,
+            c->today, out, room));
+        return outcome_of_written(&w);
+    }
+    if (c->which == FINDS) {
+        static struct lines lines;
+        split_lines(&lines, c->file.bytes, c->file.len);
+        struct abo_found f = line_numbered(&lines, c->line);
+        return outcome_of_found(&f);
+    }
+    struct abo_text t = text_of_peer(peer_explain(
+        c->file.bytes, c->file.len, c->sheet, c->today, out, room));
+    return outcome_of_text(&t);
+}

@@ -1,0 +1,10 @@
+/* A call made by the second program, which for the line of a number is
+   lines.h. */
+#ifndef HOST_CALL_PEER_H
+#define HOST_CALL_PEER_H
+
+#include "call.h"
+
+asked call_peer;
+
+#endif
