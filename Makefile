@@ -9,7 +9,7 @@
 #   LIB=libabo.a     a ready archive, in the place of the one that `rt staticlib abo` proves and writes
 #   FILES=20000      how many files and batches the tests generate (host/run.sh says how many if it is not given)
 #
-# host/target.sh names the other variables (CC, CFLAGS, BUILD, MACHINE). The archive is x86-64. Elsewhere the programs are cross compiled
+# host/target.sh names the other variables (CC, HOSTCC, CFLAGS, BUILD, MACHINE). The archive is x86-64. Elsewhere the programs are cross compiled
 # and linked -static, and the tests run them by qemu.
 
 # The first number grows when a program must be changed to go on working, the second when a call or a constant is added.
@@ -24,8 +24,9 @@ BUILD ?= build
 CFLAGS ?= -O2
 
 # Asked only where they are needed, so that `make clean` wants no compiler.
-target = CC='$(if $(filter default,$(origin CC)),,$(CC))' MACHINE='$(MACHINE)'; . host/target.sh
+target = CC='$(if $(filter default,$(origin CC)),,$(CC))' HOSTCC='$(HOSTCC)' MACHINE='$(MACHINE)'; . host/target.sh
 compiler = $(or $(shell $(target); have "$$cc" && echo "$$cc"),$(error There is no C compiler for x86-64))
+native = $(or $(shell $(target); have "$$native" && echo "$$native"),$(error There is no C compiler for this machine))
 STATIC ?= $(shell $(target); echo $$static)
 
 archive = $(BUILD)/libabo.a
@@ -42,7 +43,7 @@ $(BUILD)/%.used: FORCE
 	@mkdir -p $(BUILD)
 	@echo '$(used)' | cmp -s - $@ || echo '$(used)' >$@
 $(BUILD)/archive.used: used = $(LIB)
-$(BUILD)/flags.used: used = $(CC) $(MACHINE) $(CFLAGS)
+$(BUILD)/flags.used: used = $(CC) $(HOSTCC) $(MACHINE) $(CFLAGS)
 $(BUILD)/link.used: used = $(STATIC) $(LDFLAGS)
 
 ifeq ($(LIB),)
@@ -56,12 +57,14 @@ endif
 
 # What users build is C99 and no more; the tests are C11.
 language = $(if $(filter host/abo% host/orderbook%,$<),-std=c99 -pedantic,-std=c11)
+compile = $(language) -Wall -Wextra -Werror $(CFLAGS) -Iinclude -c -o $@ $<
 $(BUILD)/objects/%.o: %.c $(header) $(wildcard host/*.h peer/*.h bench/*.h) $(BUILD)/flags.used
 	@mkdir -p $(@D)
-	$(compiler) $(language) -Wall -Wextra -Werror $(CFLAGS) -Iinclude -c -o $@ $<
+	$(compiler) $(compile)
 
 # Any program of host/ or bench/: build/NAME is made of host/NAME.c and its parts.
-objects = $(addprefix $(BUILD)/objects/,$(addsuffix .o,$(basename $(shell sh host/parts.sh $(1)))))
+parts = $(addsuffix .o,$(basename $(shell sh host/parts.sh $(1))))
+objects = $(addprefix $(BUILD)/objects/,$(call parts,$(1)))
 link = $(compiler) $(CFLAGS) $(STATIC) $(LDFLAGS) -o $@ $(filter %.o,$^) $(archive)
 .SECONDEXPANSION:
 .PRECIOUS: $(BUILD)/objects/%.o
@@ -69,6 +72,14 @@ $(BUILD)/%: host/%.c $$(call objects,host/$$*.c) $(archive) $(BUILD)/link.used
 	$(link)
 $(BUILD)/%: bench/%.c $$(call objects,bench/$$*.c) $(archive) $(BUILD)/link.used
 	$(link)
+
+# build/native/NAME is for this machine, whatever it is, and without the archive.
+.PRECIOUS: $(BUILD)/native/%.o
+$(BUILD)/native/%.o: %.c $(header) $(wildcard host/*.h peer/*.h) $(BUILD)/flags.used
+	@mkdir -p $(@D)
+	$(native) $(compile)
+$(BUILD)/native/%: host/%.c $$(addprefix $(BUILD)/native/,$$(call parts,host/$$*.c)) $(BUILD)/link.used
+	$(native) $(CFLAGS) $(LDFLAGS) -o $@ $(filter %.o,$^)
 
 demo: all
 	@BUILD='$(BUILD)' MACHINE='$(MACHINE)' sh host/demo.sh

@@ -7,17 +7,18 @@
 #   FILES=1000000 host/run.sh    how many files and batches are generated; SEED is the first one's seed
 #   STEP=1 host/run.sh           every so many-th of the large files is tried
 #
-# By default 150,000 files are generated and all large ones tried. By an emulator, which is some 25 times slower, 4,000 and every fifth.
+# By default 150,000 files are generated and all large ones tried. By an emulator, which is some 25 times slower, 4,000 and every fifth;
+# but ten times as many in `many`, which has only the library's calls emulated.
 # host/target.sh names the other variables.
 set -u
 cd "$(dirname "$0")/.." || exit 2
 . host/target.sh
 . host/tally.sh
-if [ -z "$run" ]; then files=150000 step=1; else files=4000 step=5; fi
+if [ -z "$run" ]; then files=150000 step=1 times=1; else files=4000 step=5 times=10; fi
 files=${FILES:-$files}
 seed=${SEED:-1}
 step=${STEP:-$step}
-all='header api installed demo_test abo_test orderbook_test corpus stack attack compare_read compare_write compare_explain compare_line'
+all='header api installed demo_test abo_test orderbook_test corpus stack attack compare_read compare_write compare_explain compare_line many'
 
 program() { # NAME ARG ..: builds a test that is a program, and runs it
     build_test "$1" || return
@@ -30,6 +31,7 @@ program() { # NAME ARG ..: builds a test that is a program, and runs it
 run_test() { # NAME
     case $1 in
     header | api | installed | demo_test | abo_test | orderbook_test) sh "host/$1.sh" ;;
+    many) sh host/many_test.sh "$((files * times))" "$seed" ;;
     corpus) program fuzz host/corpus/* ;;
     stack) program stack 0 "$seed" "$step" ;;
     attack | compare_explain | compare_line) program "$1" "$((files / 2))" "$seed" "$step" ;;

@@ -4,6 +4,7 @@
 #
 #   LIB      a ready archive (default: `rt staticlib abo` proves the library and writes one)
 #   CC, CXX  the compilers     CFLAGS  default -O2; warnings are always asked for and are errors
+#   HOSTCC   the compiler for programs of this machine, which do not link the archive (default: on x86-64 CC, else cc)
 #   BUILD    the folder that all is built in (default: build)
 #   MACHINE  what to take this machine for (default: uname -m)
 #
@@ -15,11 +16,13 @@ strict='-Wall -Wextra -Werror'
 case ${MACHINE:-$(uname -m)} in
 x86_64)
     cc=${CC:-cc} cxx=${CXX:-c++} static='' run=''
+    native=${HOSTCC:-$cc}
     packages='gcc g++ libc6-dev make'
     ;;
 *)
     cc=${CC:-x86_64-linux-gnu-gcc} cxx=${CXX:-x86_64-linux-gnu-g++} static=-static
-    packages='gcc-x86-64-linux-gnu g++-x86-64-linux-gnu libc6-dev-amd64-cross make'
+    native=${HOSTCC:-cc}
+    packages='gcc gcc-x86-64-linux-gnu g++-x86-64-linux-gnu libc6-dev-amd64-cross make'
     # programs that rt links want a loader of x86-64, which comes with the cross compiler's C library
     export QEMU_LD_PREFIX="${QEMU_LD_PREFIX:-/usr/x86_64-linux-gnu}"
     run=$(command -v qemu-x86_64 || true)

@@ -1,0 +1,23 @@
+#include "served.h"
+
+static struct slice slice_of(struct lent l, const uint8_t *bytes)
+{
+    const uint8_t *at = l.place == NOWHERE ? NULL : bytes + l.place;
+    return (struct slice){at, (size_t)l.len};
+}
+
+struct call call_of_request(const struct request *r, const uint8_t *bytes)
+{
+    return (struct call){
+        .which = (enum which)r->which,
+        .file = slice_of(r->file, bytes),
+        .texts = slice_of(r->texts, bytes),
+        .name = slice_of(r->name, bytes),
+        .date = r->date,
+        .client = r->client,
+        .from = r->from,
+        .to = r->to,
+        .sheet = r->sheet,
+        .today = r->today,
+    };
+}
