@@ -5,25 +5,30 @@
 #   host/fuzz.sh [SECONDS]          default 300
 #   FILL=1 host/fuzz.sh [SECONDS]   then fills host/corpus anew: an input for each call and number, and those that add the most branches
 #
-# On x86-64 only. CLANG is the compiler (default clang); host/target.sh names the other variables. The last line is 'N passed, M
+# On x86-64 the fuzzer links the archive; elsewhere it is built for this machine, and a server makes the library's calls
+# (host/call_remote.c). CLANG is the compiler (default clang); host/target.sh names the other variables. The last line is 'N passed, M
 # failed', N being the inputs that were kept, each of which took a way that no other did.
 set -u
 cd "$(dirname "$0")/.." || exit 2
 seconds=${1:-300}
 longest=1400
 . host/target.sh
-if [ -n "$run" ]; then
-    echo "the fuzzer runs on x86-64 only, as the library's archive does" >&2
-    exit 2
-fi
 work=$build/fuzz_work
 mkdir -p "$work/made" "$work/found" || exit 2
-build_test fuzz || exit 2
-"$build/fuzz" -make "$work/made" 3000 || exit 2
+build_test fuzz serve || exit 2
+parts=$(sh host/parts.sh host/fuzz.c)
+linked=$lib
+if [ -n "$run" ]; then
+    parts=$(echo "$parts" | grep -v host/call_abo.c && sh host/parts.sh host/call_remote.c | grep -v -e host/call_abo.c -e host/call.c -e host/show.c)
+    linked=''
+    export SERVER="$run $build/serve"
+fi
+# shellcheck disable=SC2086
+$run "$build/fuzz" -make "$work/made" 3000 || exit 2
 
 # All in one, since the second program must be compiled so that its branches can be followed.
-# shellcheck disable=SC2046
-${CLANG:-clang} -std=c11 ${CFLAGS:--O2} -Iinclude -DLIBFUZZER -fsanitize=fuzzer -o "$build/libfuzzer" $(sh host/parts.sh host/fuzz.c) "$lib" || {
+# shellcheck disable=SC2086
+${CLANG:-clang} -std=c11 ${CFLAGS:--O2} -Iinclude -DLIBFUZZER -fsanitize=fuzzer -o "$build/libfuzzer" $parts $linked || {
     echo "no libFuzzer: ${CLANG:-clang} -fsanitize=fuzzer does not link here" >&2
     exit 2
 }
@@ -39,7 +44,8 @@ merge() { # CONTROL TO FROM ..: the inputs that take all branches taken. Without
 
 one_of_each() { # FOLDER: the shortest input for each call and number; what chooses no call is thrown away
     for name in $(ls -S -r "$1"); do
-        if "$build/fuzz" "$1/$name" >"$work/one.log"; then
+        # shellcheck disable=SC2086
+        if $run "$build/fuzz" "$1/$name" >"$work/one.log"; then
             echo "$(sed -n 2p "$work/one.log") $1/$name"
         else
             rm "$1/$name"
