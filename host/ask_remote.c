@@ -50,7 +50,7 @@ static void lend_call(struct kept *k, const struct asking *a)
     struct request r = {
         .which = c->which, .sheet = c->sheet, .today = c->today,
         .date = c->date, .client = c->client, .from = c->from, .to = c->to,
-        .file = lend(k, c->file, a),
+        .line = c->line, .file = lend(k, c->file, a),
     };
     if (c->which == WRITES) {
         r.texts = lend(k, c->texts, a);

@@ -5,7 +5,7 @@
 # The exit status is 0 only if there is none.
 #
 #   host/long_run.sh FILES SEED [FILES SEED ..]
-#   CALLS=read host/long_run.sh 10000000 1000001      some of read, write and explain
+#   CALLS=read host/long_run.sh 10000000 1000001      some of read, write, explain and line
 #   CORES=1 host/long_run.sh 1000000 1                on so many cores (default: all)
 #
 # host/target.sh names the other variables.

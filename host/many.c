@@ -3,7 +3,7 @@
  * batches, each in one room.  The library is asked in a server's process, so
  * that it alone is emulated where it must be.
  *
- *   many read|write|explain FILES SEED SERVER ..     as qemu-x86_64 build/serve
+ *   many read|write|explain|line FILES SEED SERVER ..     as qemu-x86_64 build/serve
  */
 #include <stdio.h>
 #include <string.h>
@@ -58,9 +58,11 @@ static void ask_files(struct seeds seeds, enum which which)
 {
     struct made made = {0};
     for (uint64_t i = 0; i < seeds.count; i++) {
+        struct dice lines = {seeds.first + i};
         generate(&made, seeds.first + i);
         ask(seeds.first + i, &(struct call){
             .which = which,
+            .line = which == FINDS ? below(&lines, 24) : 0,
             .file = {made.file.data, made.file.len},
             .sheet = made.sheet,
             .today = made.today,
@@ -92,6 +94,8 @@ static void ask_batches(struct seeds seeds)
 
 static bool can_come(enum which which, unsigned number)
 {
+    if (which == FINDS)
+        return number <= 1; /* not found, found */
     if (number == ABO_ACCEPTED || number == ABO_NO_ROOM)
         return true;
     if (which == READS)
@@ -101,7 +105,7 @@ static bool can_come(enum which which, unsigned number)
 }
 
 /* With enough files every number that the call can give must have come; too
-   many items come twice in a hundred thousand. */
+   many items come about once in a hundred thousand. */
 static void report(struct seeds seeds, enum which which)
 {
     bool tested = are_enough(seeds, ENOUGH);
@@ -120,7 +124,7 @@ int main(int argc, char **argv)
     while (argc > 4 && which < CALLS && strcmp(argv[1], call_names[which]) != 0)
         which++;
     if (argc <= 4 || which == CALLS) {
-        fprintf(stderr, "many: name read, write or explain, how many files, "
+        fprintf(stderr, "many: name read, write, explain or line, how many files, "
                         "the first seed and the server.\n");
         return 2;
     }

@@ -19,5 +19,6 @@ struct call call_of_request(const struct request *r, const uint8_t *bytes)
         .to = r->to,
         .sheet = r->sheet,
         .today = r->today,
+        .line = r->line,
     };
 }

@@ -21,7 +21,7 @@ struct lent {
 };
 
 struct request {
-    uint64_t which, sheet, today, date, client, from, to;
+    uint64_t which, sheet, today, date, client, from, to, line;
     struct lent file, texts, name, out;
     struct outcome answer; /* the server's */
 };
@@ -33,7 +33,7 @@ struct slot {
     uint8_t bytes[SLOT_BYTES];
 };
 
-_Static_assert(sizeof(struct outcome) == 120 && sizeof(struct request) == 240,
+_Static_assert(sizeof(struct outcome) == 120 && sizeof(struct request) == 248,
                "the layout is another one here");
 
 /* The call, its slices lying in these bytes of a slot. */
