@@ -3,11 +3,12 @@ use mathlib.Core.Path.{_≡_, refl, sym, _∙_}
 use mathlib.Core.Bool.{Bool, true, false}
 use mathlib.Core.List.{List, [], _∷_, _++_}
 use Prim.Native.Nat.{ℕ, zero, suc, _+_, _-_, _≤_, _<_}
+use native.Mathlib.Nat.{sub-zero, suc-sub-suc, zero-sub}
 use native.Mathlib.Numerals.{add-one}
 use native.Mathlib.Omega.{arith}
 use lib.Dec.{leb, eqb}
 use lib.ListN.{length, getD, take, drop, length-drop}
-use lib.Seq.{drop-cons, drop-drop, getD-drop, take-suc}
+use lib.Seq.{drop-cons, drop-drop, getD-drop, take-nil, take-suc}
 use borrow.Author.Tests.{ne-eqb, le-leb, le-ltb}
 use Rattle.base.specs.Pick.{pick}
 use Rattle.base.specs.Seek.{all}
@@ -58,21 +59,90 @@ all-both p (suc k) n (x ∷ s) h i =
     let z : suc k + n ≡ suc (k + n) = omega arith in
     rw z (all-cons p x (take (k + n) s) (all-head p x (take k s) h) (all-both p k n s (all-tail p x (take k s) h) i))
 
+-- behind the first k of n bytes that pass
+all-part : (p : ℕ → Bool) (k n : ℕ) (s : List ℕ) → all p (take n s) ≡ true → all p (take (n - k) (drop k s)) ≡ true
+unfolding all
+all-part p zero n s h = rw (sub-zero n) h
+all-part p (suc k) zero s h = rw (zero-sub (suc k)) refl
+all-part p (suc k) (suc n) [] h = rw (take-nil (suc n - suc k)) refl
+all-part p (suc k) (suc n) (x ∷ s) h = rw (suc-sub-suc n k) (all-part p k n s (all-tail p x (take n s) h))
+
 module _ (p : ℕ → Bool) (s : List ℕ) (at : ℕ) where
   pub skip-none : at ≤ length s → Skips p s at at
   unfolding all
   skip-none h = let z : at - at ≡ 0 = omega arith in record { from = omega arith; inside = h; between = rw z refl }
 
-  pub skip-block : (i : ℕ) (t : Bool) → Skips p s at i → 16 ≤ length s - i → (t ≡ true → all p (take 16 (drop i s)) ≡ true) → t ≡ true → Skips p s at (i + 16)
-  skip-block i t k r h e =
+  -- n bytes more
+  skip-by : (i n : ℕ) → Skips p s at i → i + n ≤ length s → all p (take n (drop i s)) ≡ true → Skips p s at (i + n)
+  skip-by i n k r h =
       let f = k .from in
       let l = k .inside in
-      let n : i + 16 - at ≡ (i - at) + 16 = omega arith in
+      let m : i + n - at ≡ (i - at) + n = omega arith in
       let j : at + (i - at) ≡ i = omega arith in
       record {
         from = omega arith;
-        inside = omega arith;
-        between = rw n (all-both p (i - at) 16 (drop at s) (k .between) (rw (drop-drop (i - at) at s, j) (h e)));
+        inside = r;
+        between = rw m (all-both p (i - at) n (drop at s) (k .between) (rw (drop-drop (i - at) at s, j) h));
       }
 
-pub ruleset skips = (skip-none, skip-block)
+  -- on from where another left off
+  pub skip-then : (i r : ℕ) → Skips p s at i → Skips p s i r → Skips p s at r
+  skip-then i r k m =
+      let f = m .from in
+      let l = m .inside in
+      let j : i + (r - i) ≡ r = omega arith in
+      rw j at (skip-by i (r - i) k (omega arith) (m .between))
+
+  module _ (i : ℕ) (k : Skips p s at i) where
+    -- a block at q, which may begin before i; t is the answer to the test
+    pub skip-over : (q : ℕ) (t : Bool) → q ≤ i → i < q + 16 → q + 16 ≤ length s → (t ≡ true → all p (take 16 (drop q s)) ≡ true) → t ≡ true → Skips p s at (q + 16)
+    skip-over q t l r m h e =
+        let j : i + (16 - (i - q)) ≡ q + 16 = omega arith in
+        let d : q + (i - q) ≡ i = omega arith in
+        let a = all-part p (i - q) 16 (drop q s) (h e) in
+        rw j at (skip-by i (16 - (i - q)) k (omega arith) (rw (drop-drop (i - q) q s, d) at a))
+
+    -- .. at i
+    pub skip-block : (t : Bool) → 16 ≤ length s - i → (t ≡ true → all p (take 16 (drop i s)) ≡ true) → t ≡ true → Skips p s at (i + 16)
+    skip-block t r h e = let l = k .inside in skip-by i 16 k (omega arith) (h e)
+
+    -- one byte more
+    pub near-one : i < length s → p (getD s i 0) ≡ true → Skips p s at (i + 1)
+    unfolding all
+    near-one l h = skip-by i 1 k (omega arith) (rw (drop-cons s i 0 l) (all-cons p (getD s i 0) [] h refl))
+
+pub ruleset skips = (skip-none, skip-block, skip-over)
+
+-- eight bytes, one after another: behind the first that pass
+module _ (p : ℕ → Bool) (s : List ℕ) (at i : ℕ) (k : Skips p s at i) (l : 8 ≤ length s - i) (a : p (getD s i 0) ≡ true) where
+  pub near-1 : Skips p s at (i + 1)
+  near-1 = near-one p s at i k (omega arith) a
+
+  module _ (b : p (getD s (i + 1) 0) ≡ true) where
+    pub near-2 : Skips p s at (i + 2)
+    near-2 = let z : i + 1 + 1 ≡ i + 2 = omega arith in rw z at (near-one p s at (i + 1) near-1 (omega arith) b)
+
+    module _ (c : p (getD s (i + 2) 0) ≡ true) where
+      pub near-3 : Skips p s at (i + 3)
+      near-3 = let z : i + 2 + 1 ≡ i + 3 = omega arith in rw z at (near-one p s at (i + 2) near-2 (omega arith) c)
+
+      module _ (d : p (getD s (i + 3) 0) ≡ true) where
+        pub near-4 : Skips p s at (i + 4)
+        near-4 = let z : i + 3 + 1 ≡ i + 4 = omega arith in rw z at (near-one p s at (i + 3) near-3 (omega arith) d)
+
+        module _ (e : p (getD s (i + 4) 0) ≡ true) where
+          pub near-5 : Skips p s at (i + 5)
+          near-5 = let z : i + 4 + 1 ≡ i + 5 = omega arith in rw z at (near-one p s at (i + 4) near-4 (omega arith) e)
+
+          module _ (f : p (getD s (i + 5) 0) ≡ true) where
+            pub near-6 : Skips p s at (i + 6)
+            near-6 = let z : i + 5 + 1 ≡ i + 6 = omega arith in rw z at (near-one p s at (i + 5) near-5 (omega arith) f)
+
+            module _ (g : p (getD s (i + 6) 0) ≡ true) where
+              pub near-7 : Skips p s at (i + 7)
+              near-7 = let z : i + 6 + 1 ≡ i + 7 = omega arith in rw z at (near-one p s at (i + 6) near-6 (omega arith) g)
+
+              pub near-8 : p (getD s (i + 7) 0) ≡ true → Skips p s at (i + 8)
+              near-8 h = let z : i + 7 + 1 ≡ i + 8 = omega arith in rw z at (near-one p s at (i + 7) near-7 (omega arith) h)
+
+pub ruleset nears = (skip-none, near-1, near-2, near-3, near-4, near-5, near-6, near-7, near-8, is-high, is-other)

@@ -24,20 +24,17 @@ pub fn next_line(f: &[u8], at: usize) -> Cut
     let mut i = skip_high(f, at);
     while i < f.len() {
         let b = f[i];
-        // nearly every byte passes this one test
-        if b < 14 {
-            if b == 10 {
-                return Cut {
-                    stop: i,
-                    next: i + 1,
-                };
-            }
-            if b == 13 {
-                return Cut {
-                    stop: i,
-                    next: past_cr(f, i),
-                };
-            }
+        if b == 13 {
+            return Cut {
+                stop: i,
+                next: past_cr(f, i),
+            };
+        }
+        if b == 10 {
+            return Cut {
+                stop: i,
+                next: i + 1,
+            };
         }
         i = i + 1;
     }

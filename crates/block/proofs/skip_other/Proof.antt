@@ -1,53 +1,17 @@
--- `skip_other` meets its contract: each turn passes a block whose bytes are all of the kind. Assumes nothing.
-use Prim.Native.Nat.{_-_}
-use lib.ListN.{length}
+-- `skip_other` meets its contract: blocks are passed, and then bytes. Assumes nothing.
 use borrow.Author.Needs.{needs}
-use Rattle.block.specs.Blocks.{isOther, Skips}
-use Rattle.block.proofs.Turns.{skips}
+use Rattle.block.proofs.Turns.{skip-then}
 use Rattle.block.proofs.skip_other.Statement.{statement}
 use Rattle.block.proofs.skip_other.Tie as tie
 
-abbrev Inv-loop : tie.InvT-loop
-Inv-loop s at b i₀ i = Skips (isOther b) s at i
+pass-other-requires : tie.Need-pass-other-requires
+pass-other-requires c κs = search needs
 
-abbrev μ-loop : tie.MeasureT-loop
-μ-loop s at b i₀ i = length s - i
+near-other-requires : tie.Need-near-other-requires
+near-other-requires c κs = search needs
 
-loop-holds : tie.Need-loop-holds Inv-loop μ-loop
-loop-holds c = search skips
-
-sub-loop : tie.Need-sub-loop Inv-loop μ-loop
-sub-loop c = search needs
-
-other-block-requires : tie.Need-other-block-requires Inv-loop μ-loop
-other-block-requires c κs = search needs
-
-add-i : tie.Need-add-i Inv-loop μ-loop
-add-i c = search needs
-
-loop-less : tie.Need-loop-less Inv-loop μ-loop
-loop-less c = search needs
-
-loop-again : tie.Need-loop-again Inv-loop μ-loop
-loop-again c = search skips
-
-returns : tie.Need-returns Inv-loop μ-loop
-returns c = search skips
-
-returns-2 : tie.Need-returns-2 Inv-loop μ-loop
-returns-2 c = search skips
+returns : tie.Need-returns
+returns c = search skip-then
 
 pub skip-other-spec : {M : Type 1} → statement M
-skip-other-spec =
-    tie.close
-    (tie.spec
-    Inv-loop
-    μ-loop
-    loop-holds
-    sub-loop
-    other-block-requires
-    add-i
-    loop-less
-    loop-again
-    returns
-    returns-2)
+skip-other-spec = tie.close (tie.spec pass-other-requires near-other-requires returns)

@@ -1,9 +1,7 @@
 -- `next_line` meets its contract: no byte passed ends a line, and each `return` stands at a line's end. Assumes nothing.
 use Prim.Native.Nat.{_-_}
 use lib.ListN.{length}
-use mathlib.Core.Logic.{⊎-elim}
-use native.Mathlib.Omega.{arith}
-use Rattle.line.proofs.Plain.{is-plain, high-plain}
+use Rattle.line.proofs.Plain.{is-plain}
 use Rattle.line.proofs.Cutting.{Passed, passed-high, passed-more, cuts}
 use borrow.Author.Needs.{needs}
 use Rattle.line.proofs.next_line.Statement.{statement}
@@ -27,14 +25,14 @@ loop-holds c = search passed-high
 shared-slice-read-b : tie.Need-shared-slice-read-b Inv-loop μ-loop
 shared-slice-read-b c = search needs
 
-add-t10 : tie.Need-add-t10 Inv-loop μ-loop
-add-t10 c = search needs
+past-cr-requires : tie.Need-past-cr-requires Inv-loop μ-loop
+past-cr-requires c κs = search needs
 
 returns : tie.Need-returns Inv-loop μ-loop
 returns c = search cuts
 
-past-cr-requires : tie.Need-past-cr-requires Inv-loop μ-loop
-past-cr-requires c κs = search needs
+add-t10 : tie.Need-add-t10 Inv-loop μ-loop
+add-t10 c = search needs
 
 returns-2 : tie.Need-returns-2 Inv-loop μ-loop
 returns-2 c = search cuts
@@ -46,9 +44,7 @@ loop-less : tie.Need-loop-less Inv-loop μ-loop
 loop-less c = search needs
 
 loop-again : tie.Need-loop-again Inv-loop μ-loop
-loop-again c =
-    passed-more _ _ _ (c .before .before .before .loop .inv) (c .before .before .loop-test .taken)
-    (⊎-elim (λ w. is-plain _ (w .1 .left) (w .2 .left)) (λ w. high-plain _ (omega arith)) (c .if1 .came))
+loop-again c = search (passed-more, is-plain)
 
 returns-3 : tie.Need-returns-3 Inv-loop μ-loop
 returns-3 c = search cuts
@@ -62,9 +58,9 @@ next-line-spec =
     skip-high-requires
     loop-holds
     shared-slice-read-b
-    add-t10
-    returns
     past-cr-requires
+    returns
+    add-t10
     returns-2
     add-i
     loop-less
