@@ -1,2 +1,3 @@
 pub mod Turns
+pub mod Bars
 pub mod Right

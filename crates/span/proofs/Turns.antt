@@ -1,5 +1,5 @@
 -- The turns and the ways out of the functions that find parts by their places. Assumes nothing.
-use mathlib.Core.Path.{_≡_, refl, ap, _∙_}
+use mathlib.Core.Path.{_≡_, refl, sym, ap, _∙_}
 use mathlib.Core.Bool.{true, false}
 use mathlib.Core.List.{List, [], _∷_}
 use Prim.Native.Nat.{ℕ, suc, _+_, _-_, _≤_, _<_}
@@ -11,21 +11,17 @@ use borrow.Author.Tests.{ltb-true, lt-ltb, le-ltb}
 use Rattle.base.specs.Pick.{pick}
 use Rattle.base.specs.Seek.{starts, seek}
 use Rattle.base.proofs.Cases.{by-test, either}
-use Rattle.base.proofs.Seek.{seek-within}
+use Rattle.base.proofs.Seek.{seek-end, seek-within}
 use Rattle.paper.specs.Bytes.{bar}
 use Rattle.paper.specs.Texts.{others}
-use Rattle.span.specs.Places.{partTo, partAt, placed, cutsOf, foundAt, fourFrom}
+use Rattle.span.specs.Places.{span, partTo, partAt, placed, longer, cutsOf, foundAt, oneAt, fourFrom}
 use Rattle.span.specs.declared.Span.{Span}
 use Rattle.span.specs.declared.Part.{Part}
 use Rattle.span.specs.declared.Spans.{Spans}
 
--- bars: how many `|` stand from `from` on, when n stand before i
+-- how many `|` stand from `from` on, when n stand before i
 abbrev pub Counted : List ℕ → ℕ → ℕ → ℕ → Type 0
 Counted s from n i = length (others from (drop from s)) ≡ n + length (others i (drop i s))
-
--- what is known at the next one, or at the text's end
-abbrev pub Bars : List ℕ → ℕ → ℕ → ℕ → Type 0
-Bars s from n i = (i < length s → Counted s from (n + 1) (i + 1)) × (length s ≤ i → n ≡ length (others from (drop from s)))
 
 -- none stands before the first; where that is behind the text's end, none stands in it
 others-none : (at : ℕ) (s : List ℕ) → length s ≤ seek bar s → length (others at s) ≡ 0
@@ -57,10 +53,6 @@ module _ (s : List ℕ) (from n k r : ℕ) (c : Counted s from n k) (g : r ≡ k
   pub bars-none : k ≤ length s → length s ≤ r → n ≡ length (others from (drop from s))
   bars-none h l = omega (arith, others-none k (drop k s) (omega (arith, length-drop k s)))
 
-  -- what the loop knows at r
-  pub bars-at : k ≤ length s → Bars s from n r
-  bars-at h = (bars-some h, bars-none h)
-
 -- part_at
 module _ (m : List ℕ) (a e : ℕ) (g : e ≡ a + seek bar (drop a m)) where
   pub part-bar : e < length m → record { at = a; len = e - a; next = e + 1 } ≡ partAt m a
@@ -71,7 +63,12 @@ module _ (m : List ℕ) (a e : ℕ) (g : e ≡ a + seek bar (drop a m)) where
   unfolding partTo pick
   part-last h = rw (← g, le-ltb e (length m) h)
 
-pub ruleset pieces = (part-bar, part-last)
+pub part-none : (m : List ℕ) (a : ℕ) → a ≡ length m → record { at = a; len = 0; next = a } ≡ partAt m a
+part-none m a h =
+    let z : a - a ≡ 0 = omega arith in
+    rw z at (part-last m a a (sym (seek-end bar m a (omega arith))) (omega arith))
+
+pub ruleset pieces = (part-bar, part-last, part-none)
 
 -- the next part begins within the text
 pub part-next : (m : List ℕ) (from : ℕ) (p : Part) → p ≡ partAt m from → from ≤ length m → p .next ≤ length m
@@ -81,6 +78,17 @@ part-next m from p g h =
     (either (λ (n : ℕ). n ≤ length m) (ltb (from + seek bar (drop from m)) (length m))
     (λ e. omega (arith, ltb-true (from + seek bar (drop from m)) (length m) e)) (λ e. seek-within bar m from h))
 
+-- .. right behind the part, or behind its `|`
+pub part-upto : (m : List ℕ) (from : ℕ) (p : Part) → p ≡ partAt m from → p .at + p .len ≤ p .next
+unfolding partTo
+part-upto m from p g =
+    rw g (either (λ (n : ℕ). from + (from + seek bar (drop from m) - from) ≤ n) (ltb (from + seek bar (drop from m)) (length m)) (λ e. omega arith) (λ e. omega arith))
+
+pub part-near : (m : List ℕ) (from : ℕ) (p : Part) → p ≡ partAt m from → p .next ≤ p .at + p .len + 1
+unfolding partTo
+part-near m from p g =
+    rw g (either (λ (n : ℕ). n ≤ from + (from + seek bar (drop from m) - from) + 1) (ltb (from + seek bar (drop from m)) (length m)) (λ e. omega arith) (λ e. omega arith))
+
 -- gather
 pub gathered : (a b c d : Part) (at len : ℕ) (p q r s n : Span) (w : ℕ)
     → p ≡ placed (a .at) (a .len) → q ≡ placed (b .at) (b .len) → r ≡ placed (c .at) (c .len) → s ≡ placed (d .at) (d .len)
@@ -89,10 +97,26 @@ pub gathered : (a b c d : Part) (at len : ℕ) (p q r s n : Span) (w : ℕ)
 unfolding foundAt
 gathered a b c d at len p q r s n w e f g h i j = rw (e, f, g, h, i, j)
 
--- four_from
-pub four-found : (m : List ℕ) (from at len : ℕ) (a b c d : Part) (r : Spans)
-    → a ≡ partAt m from → b ≡ partAt m (a .next) → c ≡ partAt m (b .next) → d ≡ partAt m (c .next) → r ≡ foundAt a b c d at len → r ≡ fourFrom m from at len
-unfolding fourFrom
-four-found m from at len a b c d r ea eb ec ed er = er ∙ rw (ed, ec, eb, ea)
+-- one_part: v and w are what long answered
+pub one-gathered : (from size at len : ℕ) (p n : Span) (v w : ℕ) → p ≡ placed from size → n ≡ placed at len → v ≡ longer size → w ≡ longer len
+    → record { part1 = p; part2 = span 0 0; part3 = span 0 0; part4 = span 0 0; name = n; warnings = v + w } ≡ oneAt from size at len
+unfolding oneAt
+one-gathered from size at len p n v w e f g h = rw (e, f, g, h)
 
-pub ruleset fours = (part-next, four-found)
+-- one alone is one with three empty ones behind it
+one-four : (from size q at len : ℕ)
+    → oneAt from size at len
+    ≡ foundAt (record { at = from; len = size; next = q }) (record { at = q; len = 0; next = q }) (record { at = q; len = 0; next = q }) (record { at = q; len = 0; next = q }) at len
+unfolding oneAt foundAt placed longer pick
+one-four from size q at len = let z : longer size + longer len ≡ longer size + 0 + 0 + 0 + longer len = omega arith in rw z
+
+-- the parts of a text: one after another, or one alone
+module _ (m : List ℕ) (from at len : ℕ) (r : Spans) where
+  pub four-found : (a b c d : Part) → a ≡ partAt m from → b ≡ partAt m (a .next) → c ≡ partAt m (b .next) → d ≡ partAt m (c .next) → r ≡ foundAt a b c d at len → r ≡ fourFrom m from at len
+  unfolding fourFrom
+  four-found a b c d ea eb ec ed er = er ∙ rw (ed, ec, eb, ea)
+
+  pub one-found : (e : ℕ) → e ≡ from + seek bar (drop from m) → from ≤ length m → length m ≤ e → r ≡ oneAt from (e - from) at len → r ≡ fourFrom m from at len
+  one-found e g h l k =
+      let n = part-none m e (omega (arith, seek-within bar m from h)) in
+      four-found _ _ _ _ (part-last m from e g l) n n n (k ∙ one-four from (e - from) e at len)

@@ -21,6 +21,10 @@ partTo n a e = record { at = a; len = e - a; next = pick (ltb e n) (e + 1) e }
 abbrev pub partAt : List ℕ → ℕ → Part
 partAt m a = partTo (length m) a (a + seek bar (drop a m))
 
+-- 1 for a part that a `|` ends
+abbrev pub ended : Part → ℕ
+ended p = p .next - p .at - p .len
+
 -- cut to 35; the place of an empty text is 0
 unfoldable pub placed : ℕ → ℕ → Span
 placed at len = pick (eqb len 0) (span 0 0) (pick (ltb 35 len) (span at 35) (span at len))
@@ -42,6 +46,18 @@ foundAt a b c d at len =
       part4 = placed (d .at) (d .len);
       name = placed at len;
       warnings = cutsOf (a .len) (b .len) (c .len) (d .len) len;
+    }
+
+-- one part alone, and a name at `at`, cut
+unfoldable pub oneAt : ℕ → ℕ → ℕ → ℕ → Spans
+oneAt from size at len =
+    record {
+      part1 = placed from size;
+      part2 = span 0 0;
+      part3 = span 0 0;
+      part4 = span 0 0;
+      name = placed at len;
+      warnings = longer size + longer len;
     }
 
 -- the parts one after another, each told where to begin by the one before

@@ -1,10 +1,9 @@
 // Four parts of a message and a name, by their places: found one after another, and cut.
 use find::find_byte;
 ghost use mathlib.Core.Path.{_≡_};
-ghost use Prim.Native.Nat.{_≤_};
-ghost use lib.ListN.{length, drop};
-ghost use Rattle.paper.specs.Texts.{others};
-ghost use Rattle.span.specs.Places.{partAt, placed, longer, cutsOf, foundAt, fourFrom};
+ghost use Prim.Native.Nat.{_+_, _≤_};
+ghost use lib.ListN.{length};
+ghost use Rattle.span.specs.Places.{partAt, ended, placed, longer, cutsOf, foundAt, oneAt};
 
 // A place in the line and a length.
 pub struct Span {
@@ -29,25 +28,19 @@ pub struct Part {
     pub next: usize,
 }
 
-// How many `|` stand in m at or after `from`.
-pub fn bars(m: &[u8], from: usize) -> usize
-    requires { ⌜ from ≤ length (now m) ⌝ }
-    ensures { λ r. ⌜ r ≡ length (others from (drop from (now (m .entry)))) ⌝ }
-{
-    let mut n = 0;
-    let mut i = find_byte(m, from, 124);
-    while i < m.len() {
-        n += 1;
-        i = find_byte(m, i + 1, 124);
-    }
-    n
-}
-
 // The part of m that begins at `from`.
-fn part_at(m: &[u8], from: usize) -> Part
+pub fn part_at(m: &[u8], from: usize) -> Part
     requires { ⌜ from ≤ length (now m) ⌝ }
     ensures { λ r. ⌜ r ≡ partAt (now (m .entry)) from ⌝ }
 {
+    // nothing is left behind the last part
+    if from == m.len() {
+        return Part {
+            at: from,
+            len: 0,
+            next: from,
+        };
+    }
     let end = find_byte(m, from, 124);
     if end < m.len() {
         return Part {
@@ -61,6 +54,16 @@ fn part_at(m: &[u8], from: usize) -> Part
         len: end - from,
         next: end,
     }
+}
+
+// 1 for a part that a `|` ends, 0 for the last one.
+pub fn barred(p: Part) -> usize
+    requires { ⌜ p .at + p .len ≤ p .next ⌝ }
+    requires { ⌜ p .next ≤ p .at + p .len + 1 ⌝ }
+    ensures { λ r. ⌜ r ≡ ended p ⌝ }
+    ensures { λ r. ⌜ r ≤ 1 ⌝ }
+{
+    p.next - p.at - p.len
 }
 
 // A text cut to 35; the place of an empty one is 0.
@@ -95,7 +98,7 @@ fn cuts(a: usize, b: usize, c: usize, d: usize, n: usize) -> u64
 }
 
 // The four parts and the name, cut, and how many were cut.
-fn gather(a: Part, b: Part, c: Part, d: Part, at: usize, len: usize) -> Spans
+pub fn gather(a: Part, b: Part, c: Part, d: Part, at: usize, len: usize) -> Spans
     ensures { λ r. ⌜ r ≡ foundAt a b c d at len ⌝ }
 {
     let part1 = place(a.at, a.len);
@@ -114,14 +117,19 @@ fn gather(a: Part, b: Part, c: Part, d: Part, at: usize, len: usize) -> Spans
     }
 }
 
-// The parts of m from `from` on, up to four, and a name at its place.
-pub fn four_from(m: &[u8], from: usize, at: usize, len: usize) -> Spans
-    requires { ⌜ from ≤ length (now m) ⌝ }
-    ensures { λ r. ⌜ r ≡ fourFrom (now (m .entry)) from at len ⌝ }
+// One part and no other, and a name at its place.
+pub fn one_part(from: usize, size: usize, at: usize, len: usize) -> Spans
+    ensures { λ r. ⌜ r ≡ oneAt from size at len ⌝ }
 {
-    let a = part_at(m, from);
-    let b = part_at(m, a.next);
-    let c = part_at(m, b.next);
-    let d = part_at(m, c.next);
-    gather(a, b, c, d, at, len)
+    let part1 = place(from, size);
+    let name = place(at, len);
+    let warnings = long(size) + long(len);
+    Spans {
+        part1,
+        part2: Span { at: 0, len: 0 },
+        part3: Span { at: 0, len: 0 },
+        part4: Span { at: 0, len: 0 },
+        name,
+        warnings,
+    }
 }

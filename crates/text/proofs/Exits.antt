@@ -5,11 +5,12 @@ use mathlib.Core.List.{List, []}
 use Prim.Native.Nat.{ℕ, _+_, _-_, _≤_, _<_}
 use native.Mathlib.Nat.{sub-zero}
 use native.Mathlib.Omega.{arith}
+use borrow.Author.Tests.{le-leb, lt-leb}
 use lib.ListN.{length, take, drop, drop-of-length-le, length-take, length-drop}
 use lib.Seq.{drop-drop, take-all}
 use Rattle.base.specs.Pick.{pick}
 use Rattle.base.specs.Seek.{all, starts, seek}
-use Rattle.base.proofs.Cases.{either, pick-both, pick-true, pick-false}
+use Rattle.base.proofs.Cases.{by-lt, either, pick-both, pick-true, pick-false}
 use Rattle.base.proofs.Seek.{seek-le, starts-long}
 use Rattle.base.proofs.Lists.{drop-take}
 use Rattle.sheet.specs.declared.Style.{Style}
@@ -17,10 +18,15 @@ use Rattle.paper.specs.Read.{Field, fault}
 use Rattle.paper.specs.Bytes.{isText, av, np, mark, null}
 use Rattle.paper.specs.Texts.{Piece, piece, Texts, others, divide, cut, over, opens, finish, messageEnd, message, marked, readText}
 use Rattle.text.specs.Told.{told, Inside, Tells}
-use Rattle.text.specs.Finish.{finishAt}
+use Rattle.text.specs.Begun.{ofText, meant, Begins}
+use Rattle.text.specs.Finish.{finishOne, finishAt, nameAt}
+use Rattle.text.specs.declared.Begun.{Begun}
+use Rattle.text.specs.declared.Begun.the-variants as begun
 use Rattle.text.specs.declared.TextRead.{TextRead}
 use Rattle.text.specs.declared.TextRead.the-variants as answer
+use Rattle.span.specs.declared.Span.{Span}
 use Rattle.text.proofs.Right.{tells-same, finish-right}
+use Rattle.text.proofs.Turns.{finish-alone}
 
 -- an absent name may have any place
 finish-empty : (y : Style) (ps : List Piece) (a b : ℕ) → finish y ps (piece a []) ≡ finish y ps (piece b [])
@@ -57,84 +63,119 @@ end-le : (y : Style) (d : List ℕ) → messageEnd y d ≤ length d
 unfolding messageEnd
 end-le y d = either (λ (k : ℕ). k ≤ length d) (y .names) (λ e. seek-le mark d) (λ e. omega arith)
 
--- read_message: e is what message_end answered
+-- read_message: e is what message_end answered, p what name_at did
 module _ (y : Style) (s : List ℕ) (from e : ℕ) (h : from ≤ length s) (g : e ≡ from + messageEnd y (drop from s)) where
   pub end-within : e ≤ length s
   end-within = omega (arith, end-le y (drop from s), length-drop from s)
 
-  module _ (small : y .most ≤ 4) (rest : ℕ) (r : TextRead) (t : rest ≡ length s - e) where
-    pub message-bare : rest ≤ 4 → r ≡ finishAt y (take (e - 0) s) from 0 0 → Tells s r (message y from (drop from s))
-    unfolding message
-    message-bare n k =
-        tells-same (k ∙ rw (sub-zero e, g)) refl
-        (without y small s from (messageEnd y (drop from s)) (omega (arith, end-within)) (omega arith))
+  pub end-after : from ≤ length (take (e - 0) s)
+  end-after = omega (arith, end-within, length-take (e - 0) s)
 
-    pub message-named : 4 < rest → r ≡ finishAt y (take (e - 0) s) from (e + 4) (rest - 4) → Tells s r (message y from (drop from s))
-    unfolding message
-    message-named n k =
-        tells-same (k ∙ rw (sub-zero e, t, g)) refl
-        (behind y small s from (messageEnd y (drop from s)) (omega (arith, end-within)) (omega arith))
+  pub message-read : y .most ≤ 4 → (p : Span) (r : TextRead) → p ≡ nameAt e (length s) → r ≡ finishAt y (take (e - 0) s) from (p .at) (p .len)
+      → Tells s r (message y from (drop from s))
+  unfolding message nameAt pick
+  message-read small p r n k =
+      by-lt 4 (length s - e)
+      (λ l.
+      tells-same (k ∙ rw (n, lt-leb (length s - e) 4 l, sub-zero e, g)) refl
+      (behind y small s from (messageEnd y (drop from s)) (omega (arith, end-within)) (omega arith)))
+      (λ l.
+      tells-same (k ∙ rw (n, le-leb (length s - e) 4 l, sub-zero e, g)) refl
+      (without y small s from (messageEnd y (drop from s)) (omega (arith, end-within)) (omega arith)))
 
-pub ruleset messages = (end-within, message-bare, message-named)
+pub ruleset messages = (end-within, end-after, message-read)
 
--- read_marked: b is what only_name answered, c what starts_at did
+-- begin_marked: b is what only_name answered, c what starts_at did
 module _ (y : Style) (s : List ℕ) (from : ℕ) (h : from ≤ length s) (b : Bool) (g : b ≡ pick (y .names) (starts np (drop from s)) false) where
-  pub name-long : b ≡ true → 3 ≤ length s - from
-  name-long e =
-      omega (arith, starts-long np (drop from s) ((pick-both (y .names) (starts np (drop from s)) (sym g ∙ e)) .1), length-drop from s)
-
-  pub marked-name : y .most ≤ 4 → (r : TextRead) → b ≡ true → r ≡ finishAt y (take (from - 0) s) from (from + 3) (length s - from - 3) → Tells s r (marked y from (drop from s))
-  unfolding marked others seek
-  marked-name small r e k =
-      let z : from - from ≡ 0 = omega arith in
-      let n : length (drop (from + 3) s) ≤ length s - from - 3 = omega (arith, length-drop (from + 3) s) in
-      let m : drop from (take from s) ≡ [] = drop-take from from s ∙ rw z in
-      tells-same (k ∙ rw (sub-zero from))
-      (rw (m, take-all (length s - from - 3) (drop (from + 3) s) n, ← (drop-drop 3 from s)) (sym (pick-true _ _ (sym g ∙ e))))
-      (finish-right y small s (take from s) from refl from (omega (arith, length-take from s)) (from + 3) (length s - from - 3) (omega (arith, name-long e)))
+  pub begun-name : b ≡ true → Begins y s from begun.Name (marked y from (drop from s))
+  unfolding marked
+  begun-name e =
+      record {
+        means = rw (drop-drop 3 from s) (sym (pick-true _ _ (sym g ∙ e)));
+        room = omega (arith, starts-long np (drop from s) ((pick-both (y .names) (starts np (drop from s)) (sym g ∙ e)) .1), length-drop from s);
+      }
 
   module _ (n : b ≡ false) (c : Bool) (f : c ≡ starts av (drop from s)) where
     pub av-long : c ≡ true → from + 3 ≤ length s
     av-long e = omega (arith, starts-long av (drop from s) (sym f ∙ e), length-drop from s)
 
-    pub marked-av : (r : TextRead) → c ≡ true → Tells s r (message y (from + 3) (drop (from + 3) s)) → Tells s r (marked y from (drop from s))
+    pub begun-av : c ≡ true → Begins y s from (begun.Message (from + 3)) (marked y from (drop from s))
     unfolding marked
-    marked-av r e t =
-        tells-same refl
-        (sym (pick-false _ _ (sym g ∙ n) ∙ (pick-true _ _ (sym f ∙ e) ∙ rw (drop-drop 3 from s)))) t
+    begun-av e =
+        record {
+          means = rw (← (drop-drop 3 from s)) (sym (pick-false _ _ (sym g ∙ n) ∙ pick-true _ _ (sym f ∙ e)));
+          room = av-long e;
+        }
 
     module _ (e : c ≡ false) where
-      pub marked-may : (r : TextRead) → y .may ≡ true → Tells s r (message y from (drop from s)) → Tells s r (marked y from (drop from s))
+      pub begun-may : y .may ≡ true → Begins y s from (begun.Message from) (marked y from (drop from s))
       unfolding marked
-      marked-may r m t = tells-same refl (sym (pick-false _ _ (sym g ∙ n) ∙ (pick-false _ _ (sym f ∙ e) ∙ pick-true _ _ m))) t
+      begun-may m = record { means = sym (pick-false _ _ (sym g ∙ n) ∙ (pick-false _ _ (sym f ∙ e) ∙ pick-true _ _ m)); room = h }
 
-      pub marked-none : y .may ≡ false → Tells s (answer.Refused 14) (marked y from (drop from s))
+      pub begun-none : y .may ≡ false → Begins y s from (begun.Refused 14) (marked y from (drop from s))
       unfolding marked
-      marked-none m = record { says = sym (pick-false _ _ (sym g ∙ n) ∙ (pick-false _ _ (sym f ∙ e) ∙ pick-false _ _ m)); inside = tt }
+      begun-none m = record { means = sym (pick-false _ _ (sym g ∙ n) ∙ (pick-false _ _ (sym f ∙ e) ∙ pick-false _ _ m)); room = tt }
 
-pub ruleset markeds = (name-long, marked-name, av-long, marked-av, marked-may, marked-none)
+-- begin_text: c is what opens_at answered
+module _ (y : Style) (s : List ℕ) (from : ℕ) where
+  pub begun-plain : from ≤ length s → y .av ≡ false → Begins y s from (begun.Message from) (ofText y from (drop from s))
+  begun-plain h f = record { means = sym (pick-false _ _ f); room = h }
 
--- read_text: b is what all_text answered, c what opens_at did
-module _ (y : Style) (s : List ℕ) (from : ℕ) (b : Bool) (g : b ≡ all isText (drop from s)) where
+  module _ (f : y .av ≡ true) (c : Bool) (k : c ≡ opens (drop from s)) where
+    pub begun-open : (r : Begun) → c ≡ true → Begins y s from r (marked y from (drop from s)) → Begins y s from r (ofText y from (drop from s))
+    begun-open r o t = record { means = t .means ∙ sym (pick-true _ _ f ∙ pick-true _ _ (sym k ∙ o)); room = t .room }
+
+    pub begun-shut : c ≡ false → Begins y s from (begun.Refused 4) (ofText y from (drop from s))
+    begun-shut o = record { means = sym (pick-true _ _ f ∙ pick-false _ _ (sym k ∙ o)); room = tt }
+
+pub ruleset beginnings = (begun-name, av-long, begun-av, begun-may, begun-none, begun-plain, begun-open, begun-shut)
+
+-- read_text: b is what all_text answered, q what begin_text did
+module _ (y : Style) (s : List ℕ) (from : ℕ) (h : from ≤ length s) (b : Bool) (g : b ≡ all isText (drop from s)) where
   pub read-bytes : b ≡ false → fault 4 ≡ readText y from (drop from s)
   unfolding readText
   read-bytes e = sym (pick-false _ _ (sym g ∙ e))
 
-  module _ (e : b ≡ true) where
-    pub read-plain : (r : TextRead) → y .av ≡ false → Tells s r (message y from (drop from s)) → told s r ≡ readText y from (drop from s)
+  module _ (e : b ≡ true) (q : Begun) (t : Begins y s from q (ofText y from (drop from s))) where
+    begun-read : meant y s from q ≡ readText y from (drop from s)
     unfolding readText
-    read-plain r f t = t .says ∙ sym (pick-true _ _ (sym g ∙ e) ∙ pick-false _ _ f)
+    begun-read = t .means ∙ sym (pick-true _ _ (sym g ∙ e))
 
-    module _ (f : y .av ≡ true) (c : Bool) (k : c ≡ opens (drop from s)) where
-      pub read-open : (r : TextRead) → c ≡ true → Tells s r (marked y from (drop from s)) → told s r ≡ readText y from (drop from s)
-      unfolding readText
-      read-open r o t = t .says ∙ sym (pick-true _ _ (sym g ∙ e) ∙ (pick-true _ _ f ∙ pick-true _ _ (sym k ∙ o)))
+    pub read-refused : (n : ℕ) → q ≡ begun.Refused n → fault n ≡ readText y from (drop from s)
+    read-refused n k = rw k at begun-read
 
-      pub read-shut : c ≡ false → fault 4 ≡ readText y from (drop from s)
-      unfolding readText
-      read-shut o = sym (pick-true _ _ (sym g ∙ e) ∙ (pick-true _ _ f ∙ pick-false _ _ (sym k ∙ o)))
+    pub message-within : (at : ℕ) → q ≡ begun.Message at → at ≤ length s
+    message-within at k = rw k at (t .room)
+
+    pub read-message : (at : ℕ) (r : TextRead) → q ≡ begun.Message at → Tells s r (message y at (drop at s)) → told s r ≡ readText y from (drop from s)
+    read-message at r k u = u .says ∙ (rw k at begun-read)
+
+    module _ (k : q ≡ begun.Name) where
+      pub name-within : from + 3 ≤ length s
+      name-within = rw k at (t .room)
+
+      pub name-long : 3 ≤ length s - from
+      name-long = omega (arith, name-within)
+
+      name-tells : y .most ≤ 4 → (r : TextRead) → r ≡ finishOne y from 0 (from + 3) (length s - from - 3) → Tells s r (readText y from (drop from s))
+      unfolding others seek
+      name-tells small r w =
+          let z : from - from ≡ 0 = omega arith in
+          let m : drop from (take from s) ≡ [] = drop-take from from s ∙ rw z in
+          let l : length (take from s) ≡ from = omega (arith, length-take from s) in
+          let n : length (drop (from + 3) s) ≤ length s - from - 3 = omega (arith, length-drop (from + 3) s) in
+          let x = finish-alone y (take from s) from (from + 3) (length s - from - 3) from (rw m (omega arith)) (omega arith) (omega arith) r (rw z w) in
+          tells-same x
+          (rw (m, take-all (length s - from - 3) (drop (from + 3) s) n) (rw k at begun-read))
+          (finish-right y small s (take from s) from refl from (omega arith) (from + 3) (length s - from - 3) (omega (arith, name-within)))
+
+      pub read-name : y .most ≤ 4 → (r : TextRead) → r ≡ finishOne y from 0 (from + 3) (length s - from - 3) → told s r ≡ readText y from (drop from s)
+      read-name small r w = name-tells small r w .says
+
+      pub inside-name : y .most ≤ 4 → (r : TextRead) → r ≡ finishOne y from 0 (from + 3) (length s - from - 3) → Inside s r
+      inside-name small r w = name-tells small r w .inside
 
 pub tells-inside : (s : List ℕ) (r : TextRead) (x : Field Texts) → Tells s r x → Inside s r
 tells-inside s r x t = t .inside
 
-pub ruleset outs = (read-bytes, read-plain, read-open, read-shut, tells-inside)
+pub ruleset outs = (read-bytes, read-refused, message-within, read-message, name-within, name-long, read-name, inside-name, tells-inside)

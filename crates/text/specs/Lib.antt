@@ -1,2 +1,3 @@
 pub mod Told
+pub mod Begun
 pub mod Finish

@@ -3,9 +3,13 @@ use find::find_byte;
 use seek::all_text;
 use seek::starts_at;
 use sheet::Style;
+use span::Part;
+use span::Span;
 use span::Spans;
-use span::bars;
-use span::four_from;
+use span::barred;
+use span::gather;
+use span::one_part;
+use span::part_at;
 ghost use mathlib.Core.Path.{_≡_};
 ghost use mathlib.Core.Bool.{false};
 ghost use Prim.Native.Nat.{_+_, _≤_};
@@ -14,8 +18,10 @@ ghost use Rattle.base.specs.Pick.{pick};
 ghost use Rattle.base.specs.Seek.{starts, seek};
 ghost use Rattle.paper.specs.Bytes.{np, mark};
 ghost use Rattle.paper.specs.Texts.{opens, messageEnd, message, marked, readText};
+ghost use Rattle.span.specs.Places.{partAt};
 ghost use Rattle.text.specs.Told.{told, Inside, Tells};
-ghost use Rattle.text.specs.Finish.{judged, finishAt};
+ghost use Rattle.text.specs.Begun.{ofText, Begins};
+ghost use Rattle.text.specs.Finish.{judged, finishOne, finishAt, nameAt};
 
 pub enum TextRead {
     Texts(Spans),
@@ -38,16 +44,51 @@ fn judge(y: Style, f: Spans) -> TextRead
     TextRead::Refused(14)
 }
 
+// One part and no other, and a name at its place.
+fn finish_one(y: Style, from: usize, size: usize, at: usize, len: usize) -> TextRead
+    ensures { λ r. ⌜ r ≡ finishOne y from size at len ⌝ }
+{
+    let most = y.most;
+    if most == 0 {
+        return TextRead::Refused(14);
+    }
+    judge(y, one_part(from, size, at, len))
+}
+
+// The parts of m from `from` on, of which the first is a, and a name at its place.
+fn finish_parts(y: Style, m: &[u8], from: usize, a: Part, at: usize, len: usize) -> TextRead
+    requires { ⌜ y .most ≤ 4 ⌝ }
+    requires { ⌜ from ≤ length (now m) ⌝ }
+    requires { ⌜ a ≡ partAt (now m) from ⌝ }
+    ensures { λ r. ⌜ r ≡ finishAt y (now (m .entry)) from at len ⌝ }
+{
+    let b = part_at(m, a.next);
+    let c = part_at(m, b.next);
+    let d = part_at(m, c.next);
+    let most = y.most;
+    if most <= barred(a) + barred(b) + barred(c) + barred(d) {
+        return TextRead::Refused(14);
+    }
+    judge(y, gather(a, b, c, d, at, len))
+}
+
 // The parts of m from `from` on, and a name at its place: m is the line up to the message's end, so that places are the line's.
+// Most texts have one part.
 fn finish_at(y: Style, m: &[u8], from: usize, at: usize, len: usize) -> TextRead
+    requires { ⌜ y .most ≤ 4 ⌝ }
     requires { ⌜ from ≤ length (now m) ⌝ }
     ensures { λ r. ⌜ r ≡ finishAt y (now (m .entry)) from at len ⌝ }
 {
-    let most = y.most;
-    if most <= bars(m, from) {
-        return TextRead::Refused(14);
+    let end = find_byte(m, from, 124);
+    if end < m.len() {
+        let a = Part {
+            at: from,
+            len: end - from,
+            next: end + 1,
+        };
+        return finish_parts(y, m, from, a, at, len);
     }
-    judge(y, four_from(m, from, at, len))
+    finish_one(y, from, end - from, at, len)
 }
 
 // The first ` NP:` of s at or after `from`, or s's length where there is none. It is looked for by its last byte, which is rare in a text.
@@ -81,6 +122,21 @@ fn message_end(y: Style, s: &[u8], from: usize) -> usize
     s.len()
 }
 
+// Where the name stands in a line of n bytes whose message ends at `end`, with ` NP:` behind it or nothing.
+fn name_at(end: usize, n: usize) -> Span
+    requires { ⌜ end ≤ n ⌝ }
+    ensures { λ r. ⌜ r ≡ nameAt end n ⌝ }
+{
+    let rest = n - end;
+    if rest <= 4 {
+        return Span { at: 0, len: 0 };
+    }
+    Span {
+        at: end + 4,
+        len: rest - 4,
+    }
+}
+
 // The message that begins at `from`, and the name behind its ` NP:`.
 fn read_message(y: Style, s: &[u8], from: usize) -> TextRead
     requires { ⌜ y .most ≤ 4 ⌝ }
@@ -88,11 +144,8 @@ fn read_message(y: Style, s: &[u8], from: usize) -> TextRead
     ensures { λ r. ⌜ Tells (now (s .entry)) r (message y from (drop from (now (s .entry)))) ⌝ }
 {
     let end = message_end(y, s, from);
-    let rest = s.len() - end;
-    if rest <= 4 {
-        return finish_at(y, &s[0..end], from, 0, 0);
-    }
-    finish_at(y, &s[0..end], from, end + 4, rest - 4)
+    let name = name_at(end, s.len());
+    finish_at(y, &s[0..end], from, name.at, name.len)
 }
 
 // The text is `NP:` and a name.
@@ -107,23 +160,29 @@ fn only_name(y: Style, s: &[u8], from: usize) -> bool
     false
 }
 
-// A text with `AV:`, or on C one without it.
-fn read_marked(y: Style, s: &[u8], from: usize) -> TextRead
-    requires { ⌜ y .most ≤ 4 ⌝ }
+// How a text begins: where its message does, or with `NP:` and a name alone; or the refusal's number.
+enum Begun {
+    Message(usize),
+    Name,
+    Refused(u64),
+}
+
+// The beginning of a text with `AV:`, or on C of one without it.
+fn begin_marked(y: Style, s: &[u8], from: usize) -> Begun
     requires { ⌜ from ≤ length (now s) ⌝ }
-    ensures { λ r. ⌜ Tells (now (s .entry)) r (marked y from (drop from (now (s .entry)))) ⌝ }
+    ensures { λ r. ⌜ Begins y (now (s .entry)) from r (marked y from (drop from (now (s .entry)))) ⌝ }
 {
     if only_name(y, s, from) {
-        return finish_at(y, &s[0..from], from, from + 3, s.len() - from - 3);
+        return Begun::Name;
     }
     if starts_at(s, from, b"AV:") {
-        return read_message(y, s, from + 3);
+        return Begun::Message(from + 3);
     }
     let may = y.may;
     if may {
-        return read_message(y, s, from);
+        return Begun::Message(from);
     }
-    TextRead::Refused(14)
+    Begun::Refused(14)
 }
 
 // The text has a byte or more, and the first is not a space.
@@ -140,6 +199,21 @@ fn opens_at(s: &[u8], from: usize) -> bool
     true
 }
 
+// The beginning of a text whose bytes are all text bytes.
+fn begin_text(y: Style, s: &[u8], from: usize) -> Begun
+    requires { ⌜ from ≤ length (now s) ⌝ }
+    ensures { λ r. ⌜ Begins y (now (s .entry)) from r (ofText y from (drop from (now (s .entry)))) ⌝ }
+{
+    let av = y.av;
+    if av {
+        if opens_at(s, from) {
+            return begin_marked(y, s, from);
+        }
+        return Begun::Refused(4);
+    }
+    Begun::Message(from)
+}
+
 // The text that begins at `from` of the line s and runs to its end: where its parts and its name stand, or the number of the refusal.
 pub fn read_text(y: Style, s: &[u8], from: usize) -> TextRead
     requires { ⌜ y .most ≤ 4 ⌝ }
@@ -148,14 +222,11 @@ pub fn read_text(y: Style, s: &[u8], from: usize) -> TextRead
     ensures { λ r. ⌜ Inside (now (s .entry)) r ⌝ }
 {
     if all_text(s, from) {
-        let av = y.av;
-        if av {
-            if opens_at(s, from) {
-                return read_marked(y, s, from);
-            }
-            return TextRead::Refused(4);
-        }
-        return read_message(y, s, from);
+        return match begin_text(y, s, from) {
+            Begun::Refused(n) => TextRead::Refused(n),
+            Begun::Name => finish_one(y, from, 0, from + 3, s.len() - from - 3),
+            Begun::Message(at) => read_message(y, s, at),
+        };
     }
     TextRead::Refused(4)
 }
