@@ -120,3 +120,5 @@ module _ (m : List ℕ) (from at len : ℕ) (r : Spans) where
   one-found e g h l k =
       let n = part-none m e (omega (arith, seek-within bar m from h)) in
       four-found _ _ _ _ (part-last m from e g l) n n n (k ∙ one-four from (e - from) e at len)
+
+pub ruleset fours = (part-next, four-found)
