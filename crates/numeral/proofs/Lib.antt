@@ -1,9 +1,11 @@
 pub mod Digits
 pub mod Fixed
-pub mod Counting
+pub mod Long
+pub mod Join
+pub mod Wide
 pub mod Store
+pub mod Fours
 pub mod Plain
 pub mod Sound
-pub mod Long
 pub mod Back
 pub mod Split
