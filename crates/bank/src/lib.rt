@@ -1,9 +1,13 @@
 // The field of an item that holds payee bank, constant symbol and priority: reading it, writing it, and what its values may be.
 use numeral::Num;
 ghost use mathlib.Core.Path.{_≡_};
+ghost use mathlib.Core.List.{[]};
 ghost use Prim.Native.Nat.{ℕ, _+_, _≤_};
+ghost use lib.Dec.{eqb};
 ghost use lib.ListN.{length};
+ghost use Rattle.base.specs.Pick.{pick};
 ghost use Rattle.base.specs.Put.{Wrote};
+ghost use Rattle.paper.specs.Numerals.{fixed};
 ghost use Rattle.paper.specs.BankField.{ninth, readBank, bankProper, priorityProper, priorityCarried, spellBank};
 ghost use Rattle.bank.specs.Told.{told};
 
@@ -116,14 +120,24 @@ pub fn bank_len(priority: u64) -> usize
     10
 }
 
+// Writes `0p` where the priority p is spelled.
+fn put_priority(out: &mut [u8], at: usize, p: u64) -> usize
+    requires { ⌜ (at + length (pick (eqb p 5) [] (fixed 2 p)) ≤ length (now out)) × (p ≤ 9) ⌝ }
+    ensures { λ r. ⌜ Wrote (now (out .entry)) at (pick (eqb p 5) [] (fixed 2 p)) (now (out .exit)) r ⌝ }
+{
+    if p == 5 {
+        return at;
+    }
+    let e = put::put_byte(out, at, 48);
+    put::put_byte(out, e, 48 + p as u8)
+}
+
 // Writes the field at `at`, and returns the place behind it.
 pub fn put_bank(out: &mut [u8], at: usize, bank: u64, constant: u64, priority: u64) -> usize
     requires { ⌜ (at + length (spellBank bank constant priority) ≤ length (now out)) × (bank ≤ 9999) × (constant ≤ 9999) × (priority ≤ 9) ⌝ }
     ensures { λ r. ⌜ Wrote (now (out .entry)) at (spellBank bank constant priority) (now (out .exit)) r ⌝ }
 {
-    let low = bank * 10000 + constant;
-    if priority != 5 {
-        return numeral::put_fixed(out, at, 10, priority * 100000000 + low);
-    }
-    numeral::put_fixed(out, at, 8, low)
+    let e = put_priority(out, at, priority);
+    let f = numeral::put_four(out, e, bank);
+    numeral::put_four(out, f, constant)
 }
