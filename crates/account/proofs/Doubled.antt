@@ -1,12 +1,9 @@
--- The sum of digits whose weights double: one digit more on its left, or on its right, and how large it is. Assumes nothing.
-use mathlib.Core.Path.{_≡_, refl, sym, _∙_}
+-- The sum of digits whose weights double: one digit more on its right, how large it is, and of a number cut in two. Assumes nothing.
+use mathlib.Core.Path.{_≡_, refl, sym, ap, _∙_}
 use Prim.Native.Nat.{ℕ, zero, suc, _+_, _-_, _*_, _/_, _%_, _^_, _≤_, _<_}
-use native.Mathlib.Nat.{mul-zero, mul-add, mul-assoc, mul-le-mul, pow-suc, pow-le-pow-right}
-use native.Mathlib.Numerals.{add-one}
+use native.Mathlib.Nat.{mul-assoc, pow-suc, pow-succ'}
 use native.Mathlib.Omega.{arith}
-use mir.Val.{Fits}
-use mir.Syntax.{w64}
-use lib.Dec.{lit<}
+use Rattle.numeral.proofs.Join.{cut-rest, cut-digit}
 use Rattle.account.specs.Doubled.{doubled}
 
 -- no digits are left
@@ -20,14 +17,6 @@ pub doubled-le : (k n : ℕ) → doubled k n ≤ n
 unfolding doubled
 doubled-le zero n = omega arith
 doubled-le (suc k) n = omega (arith, doubled-le k (n / 10))
-
-doubled-bound : (k n : ℕ) → doubled k n + 9 ≤ 9 * 2 ^ k
-unfolding doubled
-doubled-bound zero n = omega arith
-doubled-bound (suc k) n = rw pow-suc (omega (arith, doubled-bound k (n / 10)))
-
-two-le : (i j : ℕ) → i ≤ j → 2 ^ i ≤ 2 ^ j
-two-le i j h = pow-le-pow-right (lit< tt) h
 
 -- zeros in front add nothing
 pub doubled-enough : (k j n : ℕ) → n < 10 ^ k → k ≤ j → doubled j n ≡ doubled k n
@@ -49,46 +38,52 @@ doubled-more k n d h l =
     let m : (n * 10 + d) % 10 + 2 * doubled k ((n * 10 + d) / 10) ≡ d + 2 * doubled k n = rw (r, q) in
     m ∙ omega (arith, e)
 
--- ---- the loop of `weighted_sum`: i digits from the right make `sum`, m is what is left of n, and the next digit weighs w
+-- of a number cut in two
+doubled-cut : (k j q r : ℕ) → r < 10 ^ k → doubled (k + j) (q * 10 ^ k + r) ≡ doubled k r + 2 ^ k * doubled j q
+unfolding doubled
+doubled-cut zero j q r h =
+    let e : 0 + j ≡ j = omega arith in
+    let f : q * 10 ^ 0 + r ≡ q = omega arith in
+    ap (λ (n : ℕ). doubled n (q * 10 ^ 0 + r)) e ∙ ap (doubled j) f ∙ omega arith
+doubled-cut (suc k) j q r h =
+    let e : suc k + j ≡ suc (k + j) = omega arith in
+    let t : 2 ^ suc k * doubled j q ≡ 2 * (2 ^ k * doubled j q) = rw (pow-succ', mul-assoc) in
+    ap (λ (n : ℕ). doubled n (q * 10 ^ suc k + r)) e
+    ∙ omega (arith, t, cut-digit k q r, ap (doubled (k + j)) (cut-rest k q r), doubled-cut k j q (r / 10) (omega (arith, pow-suc 10 k)))
 
-module _ (n m sum w i : ℕ) (power : w ≡ 2 ^ i) (inv : doubled 10 n ≡ sum + w * doubled (10 - i) m) where
-  module _ (h : i < 10) where
-    weight-le : w ≤ 512
-    weight-le = omega (arith, power, two-le i 9 (omega arith))
+-- ---- the sums of two, four, eight and ten digits
 
-    product : w * (m % 10) ≤ 512 * 9
-    product = let d : m % 10 ≤ 9 = omega arith in mul-le-mul weight-le d
+pub pair-sum : (n t : ℕ) → t ≡ n / 10 → n < 100 → n - 8 * t ≡ doubled 2 n
+unfolding doubled
+pair-sum n t e h = omega arith
 
-    pub fits-product : Fits w64 (w * (m % 10))
-    fits-product = omega (arith, product)
+doubled-two : (n : ℕ) → doubled 2 (n % 100) ≡ doubled 2 n
+unfolding doubled
+doubled-two n =
+    let s : n ≡ n / 100 * 10 ^ 2 + n % 100 = omega arith in
+    omega (arith, ap (doubled 2) s, doubled-cut 2 0 (n / 100) (n % 100) (omega arith))
 
-    pub fits-sum : Fits w64 (sum + w * (m % 10))
-    fits-sum = omega (arith, product, doubled-bound 10 n)
+module _ (n h x y : ℕ) where
+  pub four-sum : h ≡ n / 100 → n < 10000 → x ≡ doubled 2 (n - h * 100) → y ≡ doubled 2 h → x + 4 * y ≡ doubled 4 n
+  four-sum e l f g =
+      let s : n ≡ h * 10 ^ 2 + (n - h * 100) = omega arith in
+      omega (arith, ap (doubled 4) s, doubled-cut 2 2 h (n - h * 100) (omega arith))
 
-    pub fits-weight : Fits w64 (w * 2)
-    fits-weight = omega (arith, weight-le)
+  pub eight-sum : h ≡ n / 10000 → n < 100000000 → x ≡ doubled 4 (n - h * 10000) → y ≡ doubled 4 h → x + 16 * y ≡ doubled 8 n
+  eight-sum e l f g =
+      let s : n ≡ h * 10 ^ 4 + (n - h * 10000) = omega arith in
+      omega (arith, ap (doubled 8) s, doubled-cut 4 4 h (n - h * 10000) (omega arith))
 
-    pub power-next : w * 2 ≡ 2 ^ (i + 1)
-    power-next = rw (add-one, pow-suc, power)
+module _ (n x : ℕ) where
+  pub sum-four : n < 10000 → x ≡ doubled 4 n → x ≡ doubled 10 n
+  sum-four h e = e ∙ sym (doubled-enough 4 10 n (omega arith) (omega arith))
 
-    pub sum-next : doubled 10 n ≡ sum + w * (m % 10) + w * 2 * doubled (10 - (i + 1)) (m / 10)
-    unfolding doubled
-    sum-next =
-        let z : 10 - i ≡ suc (10 - (i + 1)) = omega arith in
-        let e : w * doubled (10 - i) m ≡ w * (m % 10) + w * 2 * doubled (10 - (i + 1)) (m / 10) = rw (z, mul-assoc) (mul-add w (m % 10) (2 * doubled (10 - (i + 1)) (m / 10))) in
-        omega arith
+  pub sum-eight : n < 100000000 → x ≡ doubled 8 n → x ≡ doubled 10 n
+  sum-eight h e = e ∙ sym (doubled-enough 8 10 n (omega arith) (omega arith))
 
-  pub sum-full : 10 ≤ i → sum ≡ doubled 10 n
-  unfolding doubled
-  sum-full h =
-      let z : 10 - i ≡ 0 = omega arith in
-      let e : w * doubled (10 - i) m ≡ 0 = rw z (mul-zero w) in
-      omega arith
+  pub sum-ten : (y : ℕ) → x ≡ doubled 8 (n - n / 100000000 * 100000000) → y ≡ doubled 2 (n / 100000000 % 100) → x + 256 * y ≡ doubled 10 n
+  sum-ten y e f =
+      let s : n ≡ n / 100000000 * 10 ^ 8 + (n - n / 100000000 * 100000000) = omega arith in
+      omega (arith, ap (doubled 10) s, doubled-cut 8 2 (n / 100000000) (n - n / 100000000 * 100000000) (omega arith), doubled-two (n / 100000000))
 
-  pub sum-done : m ≤ 0 → sum ≡ doubled 10 n
-  sum-done h =
-      let z : m ≡ 0 = omega arith in
-      let e : w * doubled (10 - i) m ≡ 0 = rw (z, doubled-none (10 - i)) (mul-zero w) in
-      omega arith
-
-pub ruleset sums = (fits-product, fits-sum, fits-weight, power-next, sum-next, sum-full, sum-done)
+pub ruleset sums = (pair-sum, four-sum, eight-sum, sum-four, sum-eight, sum-ten, doubled-none)

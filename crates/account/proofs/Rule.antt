@@ -13,7 +13,7 @@ use Rattle.base.specs.Pick.{pick}
 use Rattle.base.proofs.Cases.{by-eq, both, pick-true, pick-false}
 use Rattle.paper.specs.Accounts.{weights, weighted, nonZero, accountOk}
 use Rattle.account.specs.Doubled.{doubled, sumsOk}
-use Rattle.account.proofs.Doubled.{doubled-enough}
+use Rattle.account.proofs.Doubled.{doubled-none, doubled-enough}
 
 -- no digit from 1 to k times the weight w divides by 11
 abbrev prime : ℕ → ℕ → Bool
@@ -110,6 +110,10 @@ sums-are p b =
 
 pub sums-rule : (p b x y : ℕ) (r : Bool) → x ≡ doubled 10 p → y ≡ doubled 10 b → r ≡ sumsOk x y → r ≡ accountOk p b
 sums-rule p b x y r e f g = g ∙ rw (e, f) (sums-are p b)
+
+-- with no prefix
+pub base-rule : (p b y : ℕ) (r : Bool) → p ≡ 0 → y ≡ doubled 10 b → r ≡ sumsOk 0 y → r ≡ accountOk p b
+base-rule p b y r e f g = sums-rule p b 0 y r (rw e (sym (doubled-none 10))) f g
 
 -- of numbers with no more than ten digits, whose sums are those of all their digits
 pub sums-of : (p b : ℕ) → p < 10000000000 → b < 10000000000 → sumsOk (doubled 19 p) (doubled 19 b) ≡ accountOk p b

@@ -2,7 +2,7 @@
 use numeral::Num;
 ghost use mathlib.Core.Path.{_≡_};
 ghost use mathlib.Core.Bool.{false};
-ghost use Prim.Native.Nat.{_+_, _≤_};
+ghost use Prim.Native.Nat.{_+_, _≤_, _<_};
 ghost use lib.ListN.{length};
 ghost use Rattle.base.specs.Pick.{pick};
 ghost use Rattle.base.specs.Put.{Wrote};
@@ -19,25 +19,44 @@ pub enum Acct {
     Refused(u64),
 }
 
-// The last ten digits of n, each weighted twice as much as the digit on its right. Most prefixes are 0, so it ends with the digits that
-// are left.
+// The digits of n, each weighted twice as much as the digit on its right: two digits,
+fn pair_sum(n: u64) -> u64
+    requires { ⌜ n < 100 ⌝ }
+    ensures { λ r. ⌜ (r ≡ doubled 2 n) × (r ≤ n) ⌝ }
+{
+    n - 8 * numeral::tens(n)
+}
+
+// four,
+fn four_sum(n: u64) -> u64
+    requires { ⌜ n < 10000 ⌝ }
+    ensures { λ r. ⌜ (r ≡ doubled 4 n) × (r ≤ n) ⌝ }
+{
+    let high = numeral::hundreds(n);
+    pair_sum(n - high * 100) + 4 * pair_sum(high)
+}
+
+// and eight.
+fn eight_sum(n: u64) -> u64
+    requires { ⌜ n < 100000000 ⌝ }
+    ensures { λ r. ⌜ (r ≡ doubled 8 n) × (r ≤ n) ⌝ }
+{
+    let high = numeral::myriads(n);
+    four_sum(n - high * 10000) + 16 * four_sum(high)
+}
+
+// The last ten digits of n, weighted so.
 fn weighted_sum(n: u64) -> u64
     ensures { λ r. ⌜ r ≡ doubled 10 n ⌝ }
 {
-    let mut m = n;
-    let mut sum: u64 = 0;
-    let mut weight: u64 = 1;
-    let mut i: usize = 0;
-    while 0 < m {
-        if 10 <= i {
-            return sum;
-        }
-        sum += weight * (m % 10);
-        weight = weight * 2;
-        m = m / 10;
-        i += 1;
+    if n < 10000 {
+        return four_sum(n);
     }
-    sum
+    if n < 100000000 {
+        return eight_sum(n);
+    }
+    let high = n / 100000000;
+    eight_sum(n - high * 100000000) + 256 * pair_sum(high % 100)
 }
 
 // Do the sums of a prefix and a base keep the rule? One digit times its weight never divides by 11, so a base whose sum does, and is not
@@ -58,8 +77,12 @@ pub fn sums_ok(p: u64, b: u64) -> bool
 pub fn account_ok(prefix: u64, base: u64) -> bool
     ensures { λ r. ⌜ r ≡ accountOk prefix base ⌝ }
 {
-    let p = weighted_sum(prefix);
     let b = weighted_sum(base);
+    // most prefixes are 0
+    if prefix == 0 {
+        return sums_ok(0, b);
+    }
+    let p = weighted_sum(prefix);
     sums_ok(p, b)
 }
 

@@ -1,68 +1,59 @@
--- The loop of `weighted_sum`: i digits are read, m is what is left of n, and its last digit weighs `weight`. Assumes nothing.
-use Prim.Native.Nat.{_≤_, _+_, _-_, _*_, _^_}
-use mathlib.Core.Path.{_≡_}
+-- `weighted_sum`: by how many digits n has. Assumes nothing.
 use borrow.Author.Needs.{needs}
-use Rattle.account.specs.Doubled.{doubled}
 use Rattle.account.proofs.Doubled.{sums}
 use Rattle.account.proofs.weighted_sum.Statement.{statement}
 use Rattle.account.proofs.weighted_sum.Tie as tie
 use Rattle.account.proofs.weighted_sum.Reads as reads
 use Rattle.account.proofs.weighted_sum.Lts as lts
+use Rattle.account.proofs.eight_sum.Reads as eight-sum-reads
+use Rattle.account.proofs.four_sum.Reads as four-sum-reads
+use Rattle.account.proofs.pair_sum.Reads as pair-sum-reads
 
-abbrev Inv-loop : tie.InvT-loop
-Inv-loop n m₀ sum₀ weight₀ i₀ m sum weight i = (i ≤ 10) × (weight ≡ 2 ^ i) × (doubled 10 n ≡ sum + weight * doubled (10 - i) m)
+four-sum-requires : tie.Need-four-sum-requires
+four-sum-requires c κs = search needs
 
-abbrev μ-loop : tie.MeasureT-loop
-μ-loop n m₀ sum₀ weight₀ i₀ m sum weight i = m
+returns : tie.Need-returns
+returns c = search (sums, needs)
 
--- src/lib.rt:31:5
-loop-holds : tie.Need-loop-holds Inv-loop μ-loop
-loop-holds c = search (sums, needs)
+eight-sum-requires : tie.Need-eight-sum-requires
+eight-sum-requires c κs = search needs
 
--- src/lib.rt:33:13
-returns : tie.Need-returns Inv-loop μ-loop
-returns c = search sums
+returns-2 : tie.Need-returns-2
+returns-2 c = search (sums, needs)
 
--- src/lib.rt:35:16
-mul-sum : tie.Need-mul-sum Inv-loop μ-loop
-mul-sum c = search (sums, needs)
+mul-eight-sum : tie.Need-mul-eight-sum
+mul-eight-sum c = search needs
 
--- src/lib.rt:35:9
-add-sum : tie.Need-add-sum Inv-loop μ-loop
-add-sum c = search (sums, needs)
+sub-eight-sum : tie.Need-sub-eight-sum
+sub-eight-sum c = search needs
 
--- src/lib.rt:36:18
-mul-weight : tie.Need-mul-weight Inv-loop μ-loop
-mul-weight c = search (sums, needs)
+eight-sum-requires-2 : tie.Need-eight-sum-requires-2
+eight-sum-requires-2 c κs = search needs
 
--- src/lib.rt:38:9
-add-i : tie.Need-add-i Inv-loop μ-loop
-add-i c = search (sums, needs)
+pair-sum-requires : tie.Need-pair-sum-requires
+pair-sum-requires c κs = search needs
 
--- src/lib.rt:31:5
-loop-less : tie.Need-loop-less Inv-loop μ-loop
-loop-less c = search (sums, needs)
+mul-result : tie.Need-mul-result
+mul-result c = search needs
 
--- src/lib.rt:31:5
-loop-again : tie.Need-loop-again Inv-loop μ-loop
-loop-again c = search (sums, needs)
+add-result : tie.Need-add-result
+add-result c = search needs
 
--- src/lib.rt:24:1
-returns-2 : tie.Need-returns-2 Inv-loop μ-loop
-returns-2 c = search sums
+returns-3 : tie.Need-returns-3
+returns-3 c = search (sums, needs)
 
 pub weighted-sum-spec : {M : Type 1} → statement M
 weighted-sum-spec =
     tie.close
     (tie.spec
-    Inv-loop
-    μ-loop
-    loop-holds
+    four-sum-requires
     returns
-    mul-sum
-    add-sum
-    mul-weight
-    add-i
-    loop-less
-    loop-again
-    returns-2)
+    eight-sum-requires
+    returns-2
+    mul-eight-sum
+    sub-eight-sum
+    eight-sum-requires-2
+    pair-sum-requires
+    mul-result
+    add-result
+    returns-3)
