@@ -6,20 +6,31 @@ use Prim.Native.Nat.{ℕ, _+_, _≤_, _<_}
 use borrow.Author.Tests.{le-leb, lt-leb, eq-eqb, ne-eqb}
 use Rattle.base.specs.Pick.{pick}
 use Rattle.sheet.specs.declared.Sheet.{Sheet}
-use Rattle.paper.specs.Batch.{Item}
 use Rattle.paper.specs.Lines.{Line}
-use Rattle.paper.specs.Entries.{item, closeGroup, got, no, Kind, headLine, fileLine, groupLine, itemLine, groupEnd, fileEnd, kindOf}
+use Rattle.paper.specs.Entries.{head, file, group, item, closeGroup, closeFile, Said, got, no, Kind, headLine, fileLine, groupLine, itemLine, groupEnd, fileEnd, kindOf}
 use Rattle.paper.specs.ItemLine.{readItem}
 use Rattle.paper.specs.ClosingLine.{readClose}
 use Rattle.paper.specs.Spells.{singleIn, readAs}
 use Rattle.paper.specs.Judge.{onItem}
 use Rattle.tally.specs.Tally.{Book, Shelf, Open, Tally, tItem, tStop, No, moreItem, itemMore, added, contextOf, isDue, isFull, closed, meet, onSaid, read, step}
+use Rattle.judgeitem.specs.Brief.{kept, brief}
 
 module _ (sh : Sheet) (today k : ℕ) (t : Line) (b : Book) (s : Shelf) (o : Open) where
   -- the tests go by the line's kind
   by-kind : (kind : Kind) → kindOf (t .bytes) ≡ kind → read sh today k t kind (tItem b s o) ≡ step sh today k t (tItem b s o)
   unfolding step
   by-kind kind e = rw e
+
+  -- in a group nothing else of an item's line counts
+  by-brief : (said : Said) → onSaid sh k (t .start) (brief said) (tItem b s o) ≡ onSaid sh k (t .start) said (tItem b s o)
+  unfolding onSaid meet onItem brief
+  by-brief (got (head h) v spots) = refl
+  by-brief (got (file kind number) v spots) = refl
+  by-brief (got (group payer total date) v spots) = refl
+  by-brief (got (item x) v spots) = refl
+  by-brief (got closeGroup v spots) = refl
+  by-brief (got closeFile v spots) = refl
+  by-brief (no n off) = refl
 
   -- 3: neither an item nor a group's end is due
   other-head : tStop (No 3 k (t .start)) ≡ read sh today k t headLine (tItem b s o)
@@ -76,14 +87,18 @@ module _ (sh : Sheet) (today k : ℕ) (t : Line) (b : Book) (s : Shelf) (o : Ope
             fields : onSaid sh k (t .start) (readItem sh (o .single) (t .bytes)) (tItem b s o) ≡ read sh today k t itemLine (tItem b s o)
             fields = simp (lt-leb _ _ h, lt-leb _ _ g)
 
-        pub item-more : (x : Item) (v : ℕ) (p : List ℕ) → got (item x) v p ≡ readItem sh (o .single) (t .bytes)
-            → tItem (moreItem b v) (itemMore s) (added o (x .amount)) ≡ step sh today k t (tItem b s o)
-        unfolding onSaid meet onItem
-        item-more x v p r = ap (λ said. onSaid sh k (t .start) said (tItem b s o)) r ∙ item-read
+        -- of an item the amount and the warnings do
+        brief-read : onSaid sh k (t .start) (brief (readItem sh (o .single) (t .bytes))) (tItem b s o) ≡ step sh today k t (tItem b s o)
+        brief-read = by-brief (readItem sh (o .single) (t .bytes)) ∙ item-read
 
-        pub item-no : (n off : ℕ) → no n off ≡ readItem sh (o .single) (t .bytes) → tStop (No n k (t .start + off)) ≡ step sh today k t (tItem b s o)
+        pub item-more : (amount v : ℕ) → kept amount v ≡ brief (readItem sh (o .single) (t .bytes))
+            → tItem (moreItem b v) (itemMore s) (added o amount) ≡ step sh today k t (tItem b s o)
+        unfolding onSaid meet onItem
+        item-more amount v r = ap (λ said. onSaid sh k (t .start) said (tItem b s o)) r ∙ brief-read
+
+        pub item-no : (n off : ℕ) → no n off ≡ brief (readItem sh (o .single) (t .bytes)) → tStop (No n k (t .start + off)) ≡ step sh today k t (tItem b s o)
         unfolding onSaid
-        item-no n off r = ap (λ said. onSaid sh k (t .start) said (tItem b s o)) r ∙ item-read
+        item-no n off r = ap (λ said. onSaid sh k (t .start) said (tItem b s o)) r ∙ brief-read
 
   -- the group's end
   module _ (e : kindOf (t .bytes) ≡ groupEnd) where

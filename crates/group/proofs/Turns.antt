@@ -20,10 +20,11 @@ use Rattle.kind.specs.Told as kinds
 use Rattle.closing.specs.declared.CloseRead.{CloseRead}
 use Rattle.closing.specs.declared.CloseRead.the-variants as closing
 use Rattle.closing.specs.Told as closes
-use Rattle.itemline.specs.declared.Fields.{Fields}
-use Rattle.itemline.specs.declared.ItemRead.{ItemRead}
-use Rattle.itemline.specs.declared.ItemRead.the-variants as reads
-use Rattle.itemline.specs.Told as items
+use Rattle.judgeitem.specs.declared.Judged.{Judged}
+use Rattle.judgeitem.specs.declared.Judged.the-variants as judged
+use Rattle.judgeitem.specs.Brief.{brief}
+use Rattle.judgeitem.specs.Told as items
+use Rattle.judgeitem.proofs.Brief.{brief-no}
 use Rattle.group.specs.declared.Counts.{Counts}
 use Rattle.group.specs.declared.Shelf.{Shelf}
 use Rattle.group.specs.declared.Open.{Open}
@@ -49,10 +50,10 @@ close-within near f at stop e r t n off q a b =
     let two = kind-long (cut f at stop) groupEnd e in
     within f at stop off a b (inside-off (rw (← u) at (close-inside near closeGroup (cut f at stop) two a-group-end)))
 
-pub item-within : (sh : Sheet) (single : Bool) (f : List ℕ) (at stop : ℕ) (r : ItemRead) → items.told (cut f at stop) r ≡ readItem sh single (cut f at stop)
-    → (n off : ℕ) → r ≡ reads.Refused n off → at ≤ stop → stop ≤ length f → at + off ≤ stop
+pub item-within : (sh : Sheet) (single : Bool) (f : List ℕ) (at stop : ℕ) (r : Judged) → items.told r ≡ brief (readItem sh single (cut f at stop))
+    → (n off : ℕ) → r ≡ judged.Refused n off → at ≤ stop → stop ≤ length f → at + off ≤ stop
 item-within sh single f at stop r t n off q a b =
-    let u : no n off ≡ readItem sh single (cut f at stop) = rw q at t in
+    let u : no n off ≡ readItem sh single (cut f at stop) = brief-no (readItem sh single (cut f at stop)) n off (rw q at t) in
     within f at stop off a b (inside-off (rw (← u) at (item-inside sh single (cut f at stop))))
 
 module _ (sh : Sheet) (f : List ℕ) (at stop : ℕ) (c : Counts) (s : Shelf) (o : Open) where
@@ -79,12 +80,12 @@ module _ (sh : Sheet) (f : List ℕ) (at stop : ℕ) (c : Counts) (s : Shelf) (o
       pub turn-full : sh .fileitems ≤ c .items → Turns sh (lineIn f at stop) c s o (turn.Stop 15 at)
       turn-full j today k h l = item-full sh today k (lineIn f at stop) (bookOf h l c) (shelfOf s) (openOf o) e i j
 
-      module _ (j : c .items < sh .fileitems) (r : ItemRead) (t : items.told (cut f at stop) r ≡ readItem sh (o .single) (cut f at stop)) where
-        pub turn-item : (x : Fields) → r ≡ reads.Item x → Turns sh (lineIn f at stop) c s o (turn.Item (x .amount) (x .warnings))
-        turn-item x q today k h l =
-            item-more sh today k (lineIn f at stop) (bookOf h l c) (shelfOf s) (openOf o) e i j (items.itemAt (cut f at stop) x) (x .warnings) _ (rw q at t)
+      module _ (j : c .items < sh .fileitems) (r : Judged) (t : items.told r ≡ brief (readItem sh (o .single) (cut f at stop))) where
+        pub turn-item : (amount warnings : ℕ) → r ≡ judged.Item amount warnings → Turns sh (lineIn f at stop) c s o (turn.Item amount warnings)
+        turn-item amount warnings q today k h l =
+            item-more sh today k (lineIn f at stop) (bookOf h l c) (shelfOf s) (openOf o) e i j amount warnings (rw q at t)
 
-        pub turn-refused : (n off : ℕ) → r ≡ reads.Refused n off → Turns sh (lineIn f at stop) c s o (turn.Stop n (at + off))
+        pub turn-refused : (n off : ℕ) → r ≡ judged.Refused n off → Turns sh (lineIn f at stop) c s o (turn.Stop n (at + off))
         turn-refused n off q today k h l =
             item-no sh today k (lineIn f at stop) (bookOf h l c) (shelfOf s) (openOf o) e i j n off (rw q at t)
 

@@ -1,6 +1,6 @@
 // The items of one group, up to the line that closes it.
 use closing::CloseRead;
-use itemline::ItemRead;
+use judgeitem::Judged;
 use kind::LineKind;
 use sheet::Sheet;
 ghost use mathlib.Core.Path.{_≡_};
@@ -104,12 +104,9 @@ fn item_turn(
     if most <= items {
         return Turn::Stop(15, at as u64);
     }
-    match itemline::item_line(&f[at..stop], sh, opened.single) {
-        ItemRead::Item(x) => Turn::Item {
-            amount: x.amount,
-            warnings: x.warnings,
-        },
-        ItemRead::Refused(n, off) => Turn::Stop(n, (at + off) as u64),
+    match judgeitem::judge_item(&f[at..stop], sh, opened.single) {
+        Judged::Item { amount, warnings } => Turn::Item { amount, warnings },
+        Judged::Refused(n, off) => Turn::Stop(n, (at + off) as u64),
     }
 }
 

@@ -5,7 +5,7 @@ use Rattle.group.proofs.item_turn.Statement.{statement}
 use Rattle.group.proofs.item_turn.Tie as tie
 use Rattle.group.proofs.item_turn.Reads as reads
 use Rattle.group.proofs.item_turn.Lts as lts
-use Rattle.itemline.proofs.item_line.Reads as item-line-reads
+use Rattle.judgeitem.proofs.judge_item.Reads as judge-item-reads
 
 -- src/lib.rt:92:9
 returns : tie.Need-returns
@@ -16,35 +16,35 @@ returns-2 : tie.Need-returns-2
 returns-2 c = search items-turn
 
 -- src/lib.rt:99:31
-sub-item-line : tie.Need-sub-item-line
-sub-item-line c = search needs
+sub-judge-item : tie.Need-sub-judge-item
+sub-judge-item c = search needs
 
 -- src/lib.rt:99:31
-part-item-line-start : tie.Need-part-item-line-start
-part-item-line-start c = search needs
+part-judge-item-start : tie.Need-part-judge-item-start
+part-judge-item-start c = search needs
 
 -- src/lib.rt:99:31
-part-item-line-end : tie.Need-part-item-line-end
-part-item-line-end c = search needs
+part-judge-item-end : tie.Need-part-judge-item-end
+part-judge-item-end c = search needs
 
 -- src/lib.rt:99:11
-item-line-requires : tie.Need-item-line-requires
-item-line-requires c κs = search needs
+judge-item-requires : tie.Need-judge-item-requires
+judge-item-requires c κs = search needs
 
 -- src/lib.rt:100:24
-enum-known-x : tie.Need-enum-known-x
-enum-known-x c = search needs
+enum-known-amount : tie.Need-enum-known-amount
+enum-known-amount c = search needs
 
 -- src/lib.rt:104:27
 enum-known-n : tie.Need-enum-known-n
 enum-known-n c = search needs
 
 -- src/lib.rt:104:53
-add-t23 : tie.Need-add-t23
-add-t23 c =
+add-t24 : tie.Need-add-t24
+add-t24 c =
     let a = c .before .before .before .before .before .before .before .before .args in
     omega
-    (arith, item-within (a .sh) (a .opened .single) (a .f .now) (a .at) (a .stop) _ (c .before .before .before .item-line .ensures .0) _ _ (c .before .n .given .1) (omega arith) (omega arith))
+    (arith, item-within (a .sh) (a .opened .single) (a .f .now) (a .at) (a .stop) _ (c .before .before .before .judge-item .ensures) _ _ (c .before .n .given .1) (omega arith) (omega arith))
 
 -- src/lib.rt:84:1
 returns-3 : tie.Need-returns-3
@@ -60,12 +60,12 @@ item-turn-spec =
     (tie.spec
     returns
     returns-2
-    sub-item-line
-    part-item-line-start
-    part-item-line-end
-    item-line-requires
-    enum-known-x
+    sub-judge-item
+    part-judge-item-start
+    part-judge-item-end
+    judge-item-requires
+    enum-known-amount
     enum-known-n
-    add-t23
+    add-t24
     returns-3
     returns-4)

@@ -1,0 +1,52 @@
+-- One step of an answer r over the fields of an item's line s, for `search`: n is what a field's reader answered. Assumes nothing.
+use mathlib.Core.Path.{_≡_, sym, _∙_}
+use mathlib.Core.Bool.{Bool}
+use mathlib.Core.List.{List}
+use Prim.Native.Nat.{ℕ, _+_, _≤_}
+use native.Mathlib.Nat.{add-zero}
+use lib.ListN.{length, drop}
+use Rattle.sheet.specs.declared.Sheet.{Sheet}
+use Rattle.paper.specs.Entries.{Said, no}
+use Rattle.paper.specs.ItemLine.{readItem}
+use Rattle.base.proofs.Lists.{drop-none}
+use Rattle.field.proofs.Steps.{number-within, steps}
+use Rattle.field_account.proofs.Steps.{accounts, account-within}
+use Rattle.field_bank.proofs.Steps.{banks, bank-within}
+use Rattle.tail.proofs.Steps.{onward, text-within}
+use Rattle.itemline.proofs.Steps.{bank-low, step-texts, step-no-texts, texts-few}
+use Rattle.judgeitem.specs.declared.PayeeFrom.{PayeeFrom}
+use Rattle.judgeitem.specs.declared.PayeeFrom.the-variants as before
+use Rattle.judgeitem.specs.Brief.{kept, brief}
+use Rattle.judgeitem.specs.Told.{toldFrom, InsideFrom}
+use Rattle.judgeitem.specs.Stages.{payerFirst, byPieces}
+use Rattle.judgeitem.proofs.Brief.{line-brief}
+
+-- no text gives no warning
+pub kept-plain : (amount warnings : ℕ) → kept amount warnings ≡ kept amount (warnings + 0)
+kept-plain amount warnings = rw (add-zero warnings)
+
+-- ---- the payer: t is what its reader answered
+
+-- the whole line is read where the payer is not there
+pub no-payer : (s : List ℕ) (k : ℕ → List ℕ → Said) → k 0 (drop 0 s) ≡ k 0 s
+no-payer s k = rw drop-none
+
+module _ (joined : Bool) (least : ℕ) (single : Bool) (s : List ℕ) (t : PayeeFrom)
+    (g : (k : ℕ → List ℕ → Said) → toldFrom s t k ≡ payerFirst joined least single s k) (r : Said) (k : ℕ → List ℕ → Said) where
+  pub step-payer : (at : ℕ) → t ≡ before.At at → r ≡ k at (drop at s) → r ≡ payerFirst joined least single s k
+  step-payer at f q = q ∙ (rw f at (g k))
+
+  pub step-no-payer : (n at : ℕ) → t ≡ before.Refused n at → r ≡ no n at → r ≡ payerFirst joined least single s k
+  step-no-payer n at f q = q ∙ (rw f at (g k))
+
+pub payer-within : (s : List ℕ) (t : PayeeFrom) → InsideFrom s t → (at : ℕ) → t ≡ before.At at → at ≤ length s
+payer-within s t i at f = rw f at i
+
+-- ---- the line in the pieces of the code
+
+pub by-pieces : (sh : Sheet) (single : Bool) (s : List ℕ) (r : Said) → r ≡ byPieces sh single s → r ≡ brief (readItem sh single s)
+by-pieces sh single s r q = q ∙ sym (line-brief sh single s)
+
+pub ruleset items = (accounts, banks, step-texts, step-no-texts, onward, kept-plain, step-payer, step-no-payer, no-payer, by-pieces, steps)
+
+pub ruleset bounds = (account-within, number-within, bank-within, text-within, payer-within, bank-low, texts-few)

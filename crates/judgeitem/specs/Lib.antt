@@ -1,0 +1,3 @@
+pub mod Brief
+pub mod Told
+pub mod Stages
