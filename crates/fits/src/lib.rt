@@ -3,8 +3,8 @@ ghost use mathlib.Core.Path.{_≡_};
 ghost use mathlib.Core.Bool.{true};
 ghost use lib.Dec.{ltb};
 ghost use Rattle.base.specs.Pick.{pick};
-ghost use Rattle.paper.specs.Bytes.{null};
-ghost use Rattle.paper.specs.Texts.{nameProper, partProper, partCarried, nameCarried};
+ghost use Rattle.paper.specs.Bytes.{null, bar, mark};
+ghost use Rattle.paper.specs.Texts.{lacks, nameProper, partProper, partCarried, nameCarried};
 use sheet::Style;
 
 // A name, or a part but for its bars: 0 to 35 text bytes.
@@ -17,14 +17,31 @@ pub fn name_proper(n: &[u8]) -> bool
     seek::all_text(n, 0)
 }
 
+// p holds no `|`.
+fn no_bar(p: &[u8]) -> bool
+    ensures { λ r. ⌜ r ≡ lacks bar (now (p .entry)) ⌝ }
+{
+    find::find_byte(p, 0, 124) == p.len()
+}
+
 // A part: 0 to 35 text bytes, none of them `|`.
 pub fn part_proper(p: &[u8]) -> bool
     ensures { λ r. ⌜ r ≡ partProper (now (p .entry)) ⌝ }
 {
     if name_proper(p) {
-        return seek::lacks_pattern(p, b"|");
+        return no_bar(p);
     }
     false
+}
+
+// p holds no ` NP:`. A byte is found faster than a pattern, and most parts have no `:`.
+fn no_mark(p: &[u8]) -> bool
+    ensures { λ r. ⌜ r ≡ lacks mark (now (p .entry)) ⌝ }
+{
+    if find::find_byte(p, 0, 58) == p.len() {
+        return true;
+    }
+    seek::lacks_pattern(p, b" NP:")
 }
 
 // Part i has a place on the sheet, or needs none because it is empty.
@@ -45,7 +62,7 @@ pub fn part_carried(y: Style, i: usize, p: &[u8]) -> bool
     if has_place(y, i, p) {
         let names = y.names;
         if names {
-            return seek::lacks_pattern(p, b" NP:");
+            return no_mark(p);
         }
         return true;
     }

@@ -1,11 +1,15 @@
 -- The numbers that are seen, and a text where it stands, as the code finds them. Assumes nothing.
-use mathlib.Core.Path.{_≡_, ap, _∙_}
-use mathlib.Core.Bool.{Bool}
-use mathlib.Core.List.{List}
+use mathlib.Core.Path.{_≡_, refl, sym, ap, _∙_}
+use mathlib.Core.Bool.{Bool, true, false}
+use mathlib.Core.List.{List, []}
 use Prim.Native.Nat.{ℕ, _+_, _-_}
+use lib.Dec.{ltb}
 use lib.ListN.{take, drop}
+use Rattle.base.specs.Pick.{pick}
+use Rattle.base.specs.Seek.{seek}
 use Rattle.sheet.specs.declared.Style.{Style}
-use Rattle.paper.specs.Texts.{partCarried, nameCarried}
+use Rattle.paper.specs.Bytes.{null, mark}
+use Rattle.paper.specs.Texts.{lacks, partCarried, nameCarried}
 use Rattle.paper.specs.Batch.{Header}
 use Rattle.paper.specs.FileLine.{numberAllowed}
 use Rattle.seen.specs.Bits.{Holds}
@@ -14,7 +18,7 @@ use Rattle.fileline.specs.Free.{numberFree}
 use Rattle.fileline.proofs.Set.{free-allowed}
 use Rattle.rowread.specs.Told.{textOfSpan}
 use Rattle.rowread.specs.Sized.{Within}
-use Rattle.rowread.proofs.Laws.{cut-is}
+use Rattle.rowread.proofs.Laws.{text-within, cut-is}
 use Rattle.rowread.proofs.Fields.{passes, fails}
 
 -- the set of words stands for the list that it holds
@@ -22,6 +26,18 @@ pub free-number : (interval : Bool) (from to : ℕ) (words : List ℕ) (n : ℕ)
     → (h : Header) (l : List ℕ) → h .from ≡ from → h .to ≡ to → Holds words l → r ≡ numberAllowed interval h l n
 free-number interval from to words n r e h l f t g =
     rw (← f, ← t) at e ∙ ap (λ (p : ℕ → Bool). p n) (free-allowed interval h words l g)
+
+-- an empty part is carried
+empty : (a b : Bool) → true ≡ pick (pick a true (null {A = ℕ} [])) (pick b (lacks mark []) true) false
+unfolding lacks seek null pick
+empty true true = refl
+empty true false = refl
+empty false true = refl
+empty false false = refl
+
+blank-carried : (y : Style) (i : ℕ) → true ≡ partCarried y i []
+unfolding partCarried
+blank-carried y i = empty (ltb i (y .most)) (y .names)
 
 -- the part of the lent bytes that a test was given is the text
 module _ (y : Style) (t : List ℕ) (p : Span) (w : Within t p) where
@@ -31,6 +47,11 @@ module _ (y : Style) (t : List ℕ) (p : Span) (w : Within t p) where
   pub name-here : (r : Bool) → r ≡ nameCarried y (take (p .at + p .len - p .at) (drop (p .at) t)) → r ≡ nameCarried y (textOfSpan t p)
   name-here r e = e ∙ ap (nameCarried y) (cut-is t p w)
 
+  pub part-blank : (i : ℕ) → p .len ≡ 0 → true ≡ partCarried y i (textOfSpan t p)
+  part-blank i e =
+      let f : textOfSpan t p ≡ [] = text-within t p w ∙ ap (λ (n : ℕ). take n (drop (p .at) t)) e in
+      blank-carried y i ∙ ap (partCarried y i) (sym f)
+
 pub ruleset steps = (passes, fails)
 
-pub ruleset texts = (part-here, name-here)
+pub ruleset texts = (part-here, name-here, part-blank)

@@ -50,11 +50,14 @@ pub fn group_carried(sh: Sheet, today: u64, date: u64) -> Check
     Check::Wrong(1)
 }
 
-// Part i of an item's message, where it stands.
+// Part i of an item's message, where it stands. An empty one always can be.
 fn part_here(y: Style, i: usize, texts: &[u8], p: Span) -> bool
     requires { ⌜ Within (now texts) p ⌝ }
     ensures { λ r. ⌜ r ≡ partCarried y i (textOfSpan (now (texts .entry)) p) ⌝ }
 {
+    if p.len == 0 {
+        return true;
+    }
     let at = p.at;
     let end = at + p.len;
     fits::part_carried(y, i, &texts[at..end])

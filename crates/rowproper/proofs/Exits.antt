@@ -7,10 +7,10 @@ use native.Mathlib.Omega.{arith}
 use lib.Dec.{leb}
 use lib.ListN.{length, take, drop}
 use Rattle.base.specs.Pick.{pick}
-use Rattle.base.specs.Seek.{all}
+use Rattle.base.specs.Seek.{all, seek}
 use Rattle.base.proofs.Cases.{pick-true, pick-false}
 use Rattle.paper.specs.Bytes.{isText}
-use Rattle.paper.specs.Texts.{partProper, nameProper}
+use Rattle.paper.specs.Texts.{lacks, partProper, nameProper}
 use Rattle.paper.specs.Batch.{most14}
 use Rattle.paper.specs.Proper.{Verdict, partsFrom, itemProper}
 use Rattle.span.specs.declared.Span.{Span}
@@ -48,7 +48,23 @@ module _ (t : List ℕ) (p : Span) (l : Bool) (e : l ≡ leb (p .at + p .len) (l
   pub part-there : l ≡ true → (r : Bool) → r ≡ partProper (take (p .at + p .len - p .at) (drop (p .at) t)) → r ≡ partProper (textOfSpan t p)
   part-there h r g = rw (within h) g
 
-pub ruleset places = (name-out, part-out, name-there, part-there)
+-- an empty one lies where its place does
+module _ (t : List ℕ) (p : Span) (e : p .len ≡ 0) where
+  blank : (b : Bool) → b ≡ leb (p .at) (length t) → textOfSpan t p ≡ pick b [] (0 ∷ [])
+  unfolding textOfSpan
+  blank b g = let s : p .at + p .len ≡ p .at = omega arith in rw (s, e, g)
+
+  pub name-blank : (r : Bool) → r ≡ leb (p .at) (length t) → r ≡ nameProper (textOfSpan t p)
+  unfolding nameProper all isText pick
+  name-blank true g = rw (blank true g)
+  name-blank false g = rw (blank false g)
+
+  pub part-blank : (r : Bool) → r ≡ leb (p .at) (length t) → r ≡ partProper (textOfSpan t p)
+  unfolding partProper nameProper lacks seek all isText pick
+  part-blank true g = rw (blank true g)
+  part-blank false g = rw (blank false g)
+
+pub ruleset places = (name-out, part-out, name-there, part-there, name-blank, part-blank)
 
 -- ---- the three stages of an item
 

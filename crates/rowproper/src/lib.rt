@@ -160,10 +160,13 @@ fn symbols_check(x: ItemRow) -> Check
     Check::Fine
 }
 
-// A part of the message: it lies inside what was lent, and is one.
+// A part of the message: it lies inside what was lent, and is one. Most are empty, which their length tells.
 fn part_fine(texts: &[u8], p: Span) -> bool
     ensures { λ r. ⌜ r ≡ partProper (textOfSpan (now (texts .entry)) p) ⌝ }
 {
+    if p.len == 0 {
+        return p.at <= texts.len();
+    }
     if rowread::lies(texts, p) {
         let from = p.at;
         let to = from + p.len;
@@ -176,6 +179,9 @@ fn part_fine(texts: &[u8], p: Span) -> bool
 fn name_fine(texts: &[u8], p: Span) -> bool
     ensures { λ r. ⌜ r ≡ nameProper (textOfSpan (now (texts .entry)) p) ⌝ }
 {
+    if p.len == 0 {
+        return p.at <= texts.len();
+    }
     if rowread::lies(texts, p) {
         let from = p.at;
         let to = from + p.len;

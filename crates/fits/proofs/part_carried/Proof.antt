@@ -8,11 +8,8 @@ use Rattle.fits.proofs.part_carried.Tie as tie
 has-place-requires : tie.Need-has-place-requires
 has-place-requires c κs = search needs
 
-slice-aggregate-lacks-pattern : tie.Need-slice-aggregate-lacks-pattern
-slice-aggregate-lacks-pattern c = search needs
-
-lacks-pattern-requires : tie.Need-lacks-pattern-requires
-lacks-pattern-requires c κs = search needs
+no-mark-requires : tie.Need-no-mark-requires
+no-mark-requires c κs = search needs
 
 returns : tie.Need-returns
 unfolding partCarried
@@ -27,12 +24,4 @@ unfolding partCarried
 returns-3 c = search (picks) depth 8
 
 pub part-carried-spec : {M : Type 1} → statement M
-part-carried-spec =
-    tie.close
-    (tie.spec
-    has-place-requires
-    slice-aggregate-lacks-pattern
-    lacks-pattern-requires
-    returns
-    returns-2
-    returns-3)
+part-carried-spec = tie.close (tie.spec has-place-requires no-mark-requires returns returns-2 returns-3)

@@ -8,11 +8,8 @@ use Rattle.fits.proofs.part_proper.Tie as tie
 name-proper-requires : tie.Need-name-proper-requires
 name-proper-requires c κs = search needs
 
-slice-aggregate-lacks-pattern : tie.Need-slice-aggregate-lacks-pattern
-slice-aggregate-lacks-pattern c = search needs
-
-lacks-pattern-requires : tie.Need-lacks-pattern-requires
-lacks-pattern-requires c κs = search needs
+no-bar-requires : tie.Need-no-bar-requires
+no-bar-requires c κs = search needs
 
 returns : tie.Need-returns
 unfolding partProper
@@ -23,11 +20,4 @@ unfolding partProper
 returns-2 c = search (picks)
 
 pub part-proper-spec : {M : Type 1} → statement M
-part-proper-spec =
-    tie.close
-    (tie.spec
-    name-proper-requires
-    slice-aggregate-lacks-pattern
-    lacks-pattern-requires
-    returns
-    returns-2)
+part-proper-spec = tie.close (tie.spec name-proper-requires no-bar-requires returns returns-2)

@@ -1,40 +1,41 @@
--- `part_here` meets its contract: the part that was tested is the text. Assumes nothing.
+-- `part_here` meets its contract: an empty part, or the text that was tested. Assumes nothing.
 use borrow.Author.Needs.{needs}
 use Rattle.rowcarried.proofs.Steps.{texts}
 use Rattle.rowcarried.proofs.part_here.Statement.{statement}
 use Rattle.rowcarried.proofs.part_here.Tie as tie
+use Rattle.rowcarried.proofs.part_here.Reads as reads
+use Rattle.rowcarried.proofs.part_here.Lts as lts
+use Rattle.fits.proofs.part_carried.Reads as part-carried-reads
 
--- src/lib.rt:81:15
+returns : tie.Need-returns
+returns c = search texts
+
 add-end : tie.Need-add-end
 add-end c = search needs
 
--- src/lib.rt:82:30
 sub-part-carried : tie.Need-sub-part-carried
 sub-part-carried c = search needs
 
--- src/lib.rt:82:30
 part-part-carried-start : tie.Need-part-part-carried-start
 part-part-carried-start c = search needs
 
--- src/lib.rt:82:30
 part-part-carried-end : tie.Need-part-part-carried-end
 part-part-carried-end c = search needs
 
--- src/lib.rt:82:5
 part-carried-requires : tie.Need-part-carried-requires
 part-carried-requires c κs = search needs
 
--- src/lib.rt:76:1
-returns : tie.Need-returns
-returns c = search texts
+returns-2 : tie.Need-returns-2
+returns-2 c = search texts
 
 pub part-here-spec : {M : Type 1} → statement M
 part-here-spec =
     tie.close
     (tie.spec
+    returns
     add-end
     sub-part-carried
     part-part-carried-start
     part-part-carried-end
     part-carried-requires
-    returns)
+    returns-2)

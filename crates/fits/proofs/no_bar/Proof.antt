@@ -1,0 +1,17 @@
+-- `fits::no_bar` meets its contract. Assumes nothing.
+use borrow.Author.Needs.{needs}
+use Rattle.fits.proofs.Absent.{absent}
+use Rattle.fits.proofs.no_bar.Statement.{statement}
+use Rattle.fits.proofs.no_bar.Tie as tie
+use Rattle.fits.proofs.no_bar.Reads as reads
+use Rattle.fits.proofs.no_bar.Lts as lts
+use Rattle.find.proofs.find_byte.Reads as find-byte-reads
+
+find-byte-requires : tie.Need-find-byte-requires
+find-byte-requires c κs = search needs
+
+returns : tie.Need-returns
+returns c = search absent
+
+pub no-bar-spec : {M : Type 1} → statement M
+no-bar-spec = tie.close (tie.spec find-byte-requires returns)
