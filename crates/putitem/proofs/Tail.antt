@@ -1,5 +1,5 @@
 -- The tail of an item's line by its parts: room for each, and the tail where they are written. Assumes nothing.
-use mathlib.Core.Path.{_≡_, ap}
+use mathlib.Core.Path.{_≡_, sym, ap, _∙_}
 use mathlib.Core.Bool.{Bool, true, false}
 use mathlib.Core.List.{List, [], _∷_, _++_}
 use Prim.Native.Nat.{ℕ, _+_, _≤_, _<_}
@@ -9,8 +9,9 @@ use lib.ListN.{length}
 use borrow.Author.Tests.{eq-eqb, ne-eqb}
 use Rattle.base.specs.Pick.{pick}
 use Rattle.base.specs.Put.{Wrote}
-use Rattle.base.proofs.Cases.{pick-true, pick-false}
+use Rattle.base.proofs.Cases.{by-test, pick-true, pick-false}
 use Rattle.base.proofs.Put.{_then_}
+use Rattle.base.proofs.Seek.{never}
 use Rattle.put.proofs.Room.{wrote-none}
 use Rattle.sheet.specs.declared.Sheet.{Sheet}
 use Rattle.paper.specs.Numerals.{decimal}
@@ -72,42 +73,43 @@ module _ (n : ℕ) (o : List ℕ) (at : ℕ) where
 
 pub ruleset lones = (lone-none, lone-space, lone-number, then-lone)
 
--- put_tail: t is what no_text answered
-module _ (sh : Sheet) (specific : ℕ) (ps : List (List ℕ)) (n o : List ℕ) (at : ℕ) where
+-- put_tail: t is what `textless` answered
+module _ (sh : Sheet) (specific : ℕ) (ps : List (List ℕ)) (n o : List ℕ) (at : ℕ) (t : Bool) (f : t ≡ pick (sh .fixedtail) false (noText ps n)) where
   abbrev tail : List ℕ
   tail = spellTail sh specific ps n
 
   abbrev text : List ℕ
   text = spellText (sh .text) ps n
 
-  module _ (e : sh .fixedtail ≡ true) where
+  module _ (g : t ≡ true) where
+    alone-is : tail ≡ pick (eqb specific 0) [] (32 ∷ decimal specific)
+    alone-is =
+        by-test (sh .fixedtail)
+        (λ e. never (sym g ∙ f ∙ pick-true _ _ e))
+        (λ e. lone-is sh specific ps n e t (f ∙ pick-false _ _ e) g)
+
+    pub alone : at + length tail ≤ length o → at + length (pick (eqb specific 0) [] (32 ∷ decimal specific)) ≤ length o
+    alone h = omega (arith, ap length alone-is)
+
+    pub then-alone : {o1 : List ℕ} {p : ℕ} → Wrote o at (pick (eqb specific 0) [] (32 ∷ decimal specific)) o1 p → Wrote o at tail o1 p
+    then-alone w = wrote-as alone-is w
+
+  -- and u what `left_out` did
+  module _ (g : t ≡ false) (u : Bool) (k : u ≡ pick (sh .fixedtail) (eqb specific 0) false) where
+    text-is : tail ≡ between u specific ++ text
+    text-is =
+        by-test (sh .fixedtail)
+        (λ e. rw (k ∙ pick-true _ _ e) (fixed-is sh specific ps n e))
+        (λ e. rw (k ∙ pick-false _ _ e) (open-is sh specific ps n e t (f ∙ pick-false _ _ e) g))
+
     module _ (h : at + length tail ≤ length o) where
-      pub fixed-symbol : at + length (between (eqb specific 0) specific) ≤ length o
-      fixed-symbol = part {o = o} (between (eqb specific 0) specific) _ (whole (fixed-is sh specific ps n e) h) .room
+      pub text-symbol : at + length (between u specific) ≤ length o
+      text-symbol = part {o = o} (between u specific) _ (whole text-is h) .room
 
-      pub fixed-text : (o1 : List ℕ) (p : ℕ) → Wrote o at (between (eqb specific 0) specific) o1 p → p + length text ≤ length o1
-      fixed-text o1 p w = rest w (whole (fixed-is sh specific ps n e) h) .room
+      pub text-rest : (o1 : List ℕ) (p : ℕ) → Wrote o at (between u specific) o1 p → p + length text ≤ length o1
+      text-rest o1 p w = rest w (whole text-is h) .room
 
-    pub then-fixed : {o1 o2 : List ℕ} {p q : ℕ} → Wrote o at (between (eqb specific 0) specific) o1 p → Wrote o1 p text o2 q → Wrote o at tail o2 q
-    then-fixed w v = wrote-as (fixed-is sh specific ps n e) (w then v)
+    pub then-text : {o1 o2 : List ℕ} {p q : ℕ} → Wrote o at (between u specific) o1 p → Wrote o1 p text o2 q → Wrote o at tail o2 q
+    then-text w v = wrote-as text-is (w then v)
 
-  module _ (e : sh .fixedtail ≡ false) (t : Bool) (f : t ≡ noText ps n) where
-    module _ (g : t ≡ true) where
-      pub alone : at + length tail ≤ length o → at + length (pick (eqb specific 0) [] (32 ∷ decimal specific)) ≤ length o
-      alone h = omega (arith, ap length (lone-is sh specific ps n e t f g))
-
-      pub then-alone : {o1 : List ℕ} {p : ℕ} → Wrote o at (pick (eqb specific 0) [] (32 ∷ decimal specific)) o1 p → Wrote o at tail o1 p
-      then-alone w = wrote-as (lone-is sh specific ps n e t f g) w
-
-    module _ (g : t ≡ false) where
-      module _ (h : at + length tail ≤ length o) where
-        pub open-symbol : at + length (between false specific) ≤ length o
-        open-symbol = part {o = o} (between false specific) _ (whole (open-is sh specific ps n e t f g) h) .room
-
-        pub open-text : (o1 : List ℕ) (p : ℕ) → Wrote o at (between false specific) o1 p → p + length text ≤ length o1
-        open-text o1 p w = rest w (whole (open-is sh specific ps n e t f g) h) .room
-
-      pub then-open : {o1 o2 : List ℕ} {p q : ℕ} → Wrote o at (between false specific) o1 p → Wrote o1 p text o2 q → Wrote o at tail o2 q
-      then-open w v = wrote-as (open-is sh specific ps n e t f g) (w then v)
-
-pub ruleset tails = (fixed-symbol, fixed-text, then-fixed, alone, then-alone, open-symbol, open-text, then-open)
+pub ruleset tails = (alone, then-alone, text-symbol, text-rest, then-text)

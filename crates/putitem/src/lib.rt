@@ -1,4 +1,6 @@
 // An item's line, put into the output with CR LF behind it.
+ghost use mathlib.Core.Path.{_≡_};
+ghost use mathlib.Core.Bool.{false};
 ghost use mathlib.Core.List.{[], _∷_, _++_};
 ghost use Prim.Native.Nat.{_+_, _≤_};
 ghost use lib.Dec.{eqb};
@@ -6,6 +8,7 @@ ghost use lib.ListN.{length};
 ghost use Rattle.base.specs.Pick.{pick};
 ghost use Rattle.base.specs.Put.{Wrote};
 ghost use Rattle.paper.specs.Numerals.{decimal};
+ghost use Rattle.paper.specs.Texts.{noText};
 ghost use Rattle.paper.specs.ItemLine.{spellTail, spellItem};
 ghost use Rattle.extent.specs.Four.{four};
 ghost use Rattle.rowread.specs.Sized.{Sized};
@@ -59,6 +62,26 @@ fn put_lone(out: &mut [u8], at: usize, n: u64) -> usize
     numeral::put_number(out, e, n)
 }
 
+// Is the symbol left out where a text follows? On sheets whose tail is fixed, if it is 0.
+fn left_out(fixed: bool, n: u64) -> bool
+    ensures { λ r. ⌜ r ≡ pick fixed (eqb n 0) false ⌝ }
+{
+    if fixed {
+        return n == 0;
+    }
+    false
+}
+
+// Does no text follow the symbol? On sheets whose tail is fixed, one always does.
+fn textless(fixed: bool, a: &[u8], b: &[u8], c: &[u8], d: &[u8], n: &[u8]) -> bool
+    ensures { λ r. ⌜ r ≡ pick fixed false (noText (four (now (a .entry)) (now (b .entry)) (now (c .entry)) (now (d .entry))) (now (n .entry))) ⌝ }
+{
+    if fixed {
+        return false;
+    }
+    extent::no_text(a, b, c, d, n)
+}
+
 // Writes the tail of an item with these texts.
 fn put_tail(
     out: &mut [u8],
@@ -74,14 +97,10 @@ fn put_tail(
     requires { ⌜ at + length (spellTail sh specific (four (now a) (now b) (now c) (now d)) (now n)) ≤ length (now out) ⌝ }
     ensures { λ r. ⌜ Wrote (now (out .entry)) at (spellTail sh specific (four (now (a .entry)) (now (b .entry)) (now (c .entry)) (now (d .entry))) (now (n .entry))) (now (out .exit)) r ⌝ }
 {
-    if sh.fixedtail {
-        let e = put_symbol(out, at, specific == 0, specific);
-        return spell::put_text(out, e, sh.text, a, b, c, d, n);
-    }
-    if extent::no_text(a, b, c, d, n) {
+    if textless(sh.fixedtail, a, b, c, d, n) {
         return put_lone(out, at, specific);
     }
-    let e = put_symbol(out, at, false, specific);
+    let e = put_symbol(out, at, left_out(sh.fixedtail, specific), specific);
     spell::put_text(out, e, sh.text, a, b, c, d, n)
 }
 

@@ -1,28 +1,40 @@
--- `spell::put_text` meets its contract. Assumes nothing.
+-- `spell::put_text` meets its contract: mark, parts and name. Assumes nothing.
 use borrow.Author.Needs.{needs}
 use Rattle.spell.proofs.Writes.{wholes}
 use Rattle.spell.proofs.put_text.Statement.{statement}
 use Rattle.spell.proofs.put_text.Tie as tie
+use Rattle.spell.proofs.put_text.Reads as reads
+use Rattle.spell.proofs.put_text.Lts as lts
+use Rattle.extent.proofs.no_parts.Reads as no-parts-reads
+use Rattle.joins.proofs.put_parts.Reads as put-parts-reads
+use Rattle.spell.proofs.put_end.Reads as put-end-reads
+use Rattle.spell.proofs.put_mark.Reads as put-mark-reads
 
-put-marked-requires : tie.Need-put-marked-requires
-put-marked-requires c κs = search (wholes, needs)
+no-parts-requires : tie.Need-no-parts-requires
+no-parts-requires c κs = search needs
+
+put-mark-requires : tie.Need-put-mark-requires
+put-mark-requires c κs = search (wholes, needs)
+
+put-parts-requires : tie.Need-put-parts-requires
+put-parts-requires c κs = search (wholes, needs)
+
+put-end-requires : tie.Need-put-end-requires
+put-end-requires c κs = search (wholes, needs)
 
 same-length : tie.Need-same-length
 same-length c = search needs
 
 returns : tie.Need-returns
-returns c = search (wholes)
-
-put-parts-requires : tie.Need-put-parts-requires
-put-parts-requires c κs = search (wholes, needs)
-
-same-length-2 : tie.Need-same-length-2
-same-length-2 c = search needs
-
-returns-2 : tie.Need-returns-2
-returns-2 c = search (wholes)
+returns c = search wholes
 
 pub put-text-spec : {M : Type 1} → statement M
 put-text-spec =
     tie.close
-    (tie.spec put-marked-requires same-length returns put-parts-requires same-length-2 returns-2)
+    (tie.spec
+    no-parts-requires
+    put-mark-requires
+    put-parts-requires
+    put-end-requires
+    same-length
+    returns)

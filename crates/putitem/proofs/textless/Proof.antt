@@ -1,0 +1,20 @@
+-- `putitem::textless` meets its contract. Assumes nothing.
+use borrow.Author.Needs.{needs}
+use Rattle.base.proofs.Cases.{picks}
+use Rattle.putitem.proofs.textless.Statement.{statement}
+use Rattle.putitem.proofs.textless.Tie as tie
+use Rattle.putitem.proofs.textless.Reads as reads
+use Rattle.putitem.proofs.textless.Lts as lts
+use Rattle.extent.proofs.no_text.Reads as no-text-reads
+
+returns : tie.Need-returns
+returns c = search picks
+
+no-text-requires : tie.Need-no-text-requires
+no-text-requires c κs = search needs
+
+returns-2 : tie.Need-returns-2
+returns-2 c = search picks
+
+pub textless-spec : {M : Type 1} → statement M
+textless-spec = tie.close (tie.spec returns no-text-requires returns-2)
