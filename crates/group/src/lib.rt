@@ -4,13 +4,13 @@ use judgeitem::Judged;
 use kind::LineKind;
 use sheet::Sheet;
 ghost use mathlib.Core.Path.{_≡_};
-ghost use Prim.Native.Nat.{_-_, _≤_};
+ghost use Prim.Native.Nat.{_+_, _-_, _≤_, _<_};
 ghost use lib.ListN.{length, take, drop};
 ghost use Rattle.sheet.proofs.Laws.{Sane};
 ghost use Rattle.paper.specs.Entries.{itemLine, groupEnd, kindOf};
 ghost use Rattle.paper.specs.Judge.{totalBroken};
 ghost use Rattle.paper.specs.Spells.{differs};
-ghost use Rattle.group.specs.Stands.{lineIn, Turns, closedAs, LowItem, Begun, Ended};
+ghost use Rattle.group.specs.Stands.{lineIn, Turns, closedAs, LowItem, Begun, Ended, countsMore, shelfMore, openMore};
 
 // Of the whole file so far: account files, items, rows and warnings.
 pub struct Counts {
@@ -158,6 +158,45 @@ fn item_step(
     }
 }
 
+// An item more in the whole file, with its warnings.
+fn counts_more(c: Counts, warnings: u64) -> Counts
+    requires { ⌜ (c .items + 1 < 18446744073709551616) × (c .rows + 1 < 18446744073709551616) × (c .warnings + warnings < 18446744073709551616) ⌝ }
+    ensures { λ r. ⌜ r ≡ countsMore c warnings ⌝ }
+{
+    Counts {
+        files: c.files,
+        items: c.items + 1,
+        rows: c.rows + 1,
+        warnings: c.warnings + warnings,
+    }
+}
+
+// An item more in the account file.
+fn shelf_more(s: Shelf) -> Shelf
+    requires { ⌜ s .items + 1 < 18446744073709551616 ⌝ }
+    ensures { λ r. ⌜ r ≡ shelfMore s ⌝ }
+{
+    Shelf {
+        items: s.items + 1,
+        groups: s.groups,
+    }
+}
+
+// An item more in the group, of that amount.
+fn open_more(o: Open, amount: u64) -> Open
+    requires { ⌜ (o .sum + amount < 18446744073709551616) × (o .count + 1 < 18446744073709551616) ⌝ }
+    ensures { λ r. ⌜ r ≡ openMore o amount ⌝ }
+{
+    Open {
+        single: o.single,
+        total: o.total,
+        line: o.line,
+        byte: o.byte,
+        sum: o.sum + amount,
+        count: o.count + 1,
+    }
+}
+
 // The group's end: 10 at its total, or what stands behind it.
 fn close_group(
     strict: bool,
@@ -215,27 +254,9 @@ pub fn group_items(
         let stop = cut.stop;
         match item_step(f, sh, at, stop, counts, shelf, opened) {
             Turn::Item { amount, warnings } => {
-                let counted = Counts {
-                    files: counts.files,
-                    items: counts.items + 1,
-                    rows: counts.rows + 1,
-                    warnings: counts.warnings + warnings,
-                };
-                let shelved = Shelf {
-                    items: shelf.items + 1,
-                    groups: shelf.groups,
-                };
-                let added = Open {
-                    single: opened.single,
-                    total: opened.total,
-                    line: opened.line,
-                    byte: opened.byte,
-                    sum: opened.sum + amount,
-                    count: opened.count + 1,
-                };
-                counts = counted;
-                shelf = shelved;
-                opened = added;
+                counts = counts_more(counts, warnings);
+                shelf = shelf_more(shelf);
+                opened = open_more(opened, amount);
                 at = cut.next;
                 line = line + 1;
             }

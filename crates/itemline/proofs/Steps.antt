@@ -1,33 +1,25 @@
--- One step of an answer r over the fields of an item's line s, for `search`: n is what a field's reader answered. Assumes nothing.
-use mathlib.Core.Path.{_≡_, sym, _∙_}
+-- Laws for whoever reads an item's line: its bank field, its texts, the item put together, the line in pieces. Assumes nothing.
+use mathlib.Core.Path.{_≡_, sym}
 use mathlib.Core.Bool.{Bool}
 use mathlib.Core.List.{List}
 use Prim.Native.Nat.{ℕ, _≤_}
 use native.Mathlib.Omega.{arith}
-use lib.ListN.{length, drop}
-use Rattle.base.proofs.Lists.{drop-none}
+use lib.ListN.{drop}
 use Rattle.sheet.specs.declared.Style.{Style}
 use Rattle.sheet.specs.declared.Sheet.{Sheet}
-use Rattle.paper.specs.Accounts as paper
-use Rattle.paper.specs.Amounts.{readItemAmount}
 use Rattle.paper.specs.BankField.{Bank, readBank}
 use Rattle.paper.specs.Texts.{Texts, readText}
 use Rattle.paper.specs.Entries.{Said, no, onField, field}
 use Rattle.paper.specs.Batch.{most14}
 use Rattle.paper.specs.ItemLine.{noTexts, tail, readItem}
 use Rattle.paper.specs.ItemLine as lines
-use Rattle.amount.proofs.Sound.{amount-within}
 use Rattle.bank.proofs.Sound.{bank-warnings}
 use Rattle.field.specs.At.{fieldAt}
-use Rattle.field.specs.declared.NumAt.{NumAt}
-use Rattle.field.specs.declared.NumAt.the-variants as num
-use Rattle.field.specs.Told as number
-use Rattle.field.proofs.Steps.{step-known, step-unknown, found-value, number-within, steps}
-use Rattle.field_account.proofs.Steps.{accounts, account-within}
+use Rattle.field.proofs.Steps.{step-known, step-unknown, found-value}
 use Rattle.field_bank.specs.declared.BankAt.{BankAt}
 use Rattle.field_bank.specs.declared.BankAt.the-variants as bank
 use Rattle.field_bank.specs.Told as banks
-use Rattle.field_bank.proofs.Steps.{bankOf, banks as bank-steps, bank-within}
+use Rattle.field_bank.proofs.Steps.{bankOf}
 use Rattle.text.specs.declared.TextRead.{TextRead}
 use Rattle.text.specs.declared.TextRead.the-variants as text
 use Rattle.text.specs.Told as texts
@@ -35,20 +27,12 @@ use Rattle.span.specs.declared.Spans.{Spans}
 use Rattle.span.specs.Held.{Held, textsAt}
 use Rattle.wording.proofs.Warnings.{text-warnings}
 use Rattle.tail.specs.Told.{tailOf}
-use Rattle.tail.proofs.Steps.{onward, text-within}
 use Rattle.itemline.specs.declared.Front.{Front}
 use Rattle.itemline.specs.declared.ItemRead.{ItemRead}
-use Rattle.itemline.specs.declared.PayerRead.{PayerRead}
-use Rattle.itemline.specs.declared.PayerRead.the-variants as before
-use Rattle.itemline.specs.Told.{noSpans, told, Kept, toldPayer, InsidePayer}
+use Rattle.itemline.specs.Told.{noSpans, told, Kept}
 use Rattle.itemline.specs.Stages.{withTexts, says, withTail, fromBank, fromVariable, fromAmount, payerFirst, fromPayee, byPieces}
 
--- ---- the amount is low, and the bank field warns once at most
-
-pub amount-low : (s : List ℕ) (at : ℕ) (n : NumAt) (v e : ℕ) → n ≡ num.Value v e → (may : Bool) (most max : ℕ)
-    → number.told n ≡ fieldAt (readItemAmount may most max) s at → (high : ℕ) → max ≤ high → v ≤ high
-amount-low s at n v e f may most max g high l =
-    omega (arith, amount-within may most max _ v (found-value (readItemAmount may most max) s at v e (rw f at g)) .within)
+-- ---- the bank field warns once at most
 
 module _ (ranked : Bool) (s : List ℕ) (n : BankAt) (b c p w e : ℕ) (f : n ≡ bank.Bank b c p w e) where
   pub bank-low : (at : ℕ) → banks.told n ≡ fieldAt (readBank ranked) s at → w ≤ 1
@@ -66,9 +50,6 @@ module _ (y : Style) (s : List ℕ) (from : ℕ) (t : TextRead) (g : texts.told 
 
   pub texts-few : y .most ≤ 4 → (f : Spans) → t ≡ text.Texts f → f .warnings ≤ 5
   texts-few l f e = text-warnings y l from (drop from s) (textsAt s f) (rw e at (sym g))
-
-pub texts-held : (s : List ℕ) (t : TextRead) → texts.Inside s t → (f : Spans) → t ≡ text.Texts f → Held s f
-texts-held s t i f e = rw e at i
 
 pub none-few : (f : Spans) → f ≡ noSpans → f .warnings ≤ 5
 none-few f e = rw e (omega arith)
@@ -99,29 +80,8 @@ module _ (x : Front) (s : List ℕ) (v : ℕ) (f : Spans) (m : ItemRead) (g : m 
           few = omega arith;
         })
 
--- ---- the payer: t is what its reader answered
-
--- the whole line is read where the payer is not there
-pub no-payer : (s : List ℕ) (k : paper.Account → ℕ → List ℕ → Said) → k paper.nobody 0 (drop 0 s) ≡ k paper.nobody 0 s
-no-payer s k = rw drop-none
-
-module _ (joined : Bool) (least : ℕ) (single : Bool) (s : List ℕ) (t : PayerRead)
-    (g : (k : paper.Account → ℕ → List ℕ → Said) → toldPayer s t k ≡ payerFirst joined least single s k) (r : Said) (k : paper.Account → ℕ → List ℕ → Said) where
-  pub step-payer : (p b at : ℕ) → t ≡ before.Payer p b at → r ≡ k (paper.account p b) at (drop at s) → r ≡ payerFirst joined least single s k
-  step-payer p b at f q = q ∙ (rw f at (g k))
-
-  pub step-no-payer : (n at : ℕ) → t ≡ before.Refused n at → r ≡ no n at → r ≡ payerFirst joined least single s k
-  step-no-payer n at f q = q ∙ (rw f at (g k))
-
-pub payer-within : (s : List ℕ) (t : PayerRead) → InsidePayer s t → (p b at : ℕ) → t ≡ before.Payer p b at → at ≤ length s
-payer-within s t i p b at f = rw f at i
-
 -- ---- the line in the pieces of the code
 
 pub by-pieces : (sh : Sheet) (single : Bool) (s : List ℕ) (r : Said) → r ≡ byPieces sh single s → r ≡ readItem sh single s
 unfolding readItem lines.fromPayee byPieces payerFirst fromPayee fromAmount fromVariable fromBank withTail says tailOf tail
 by-pieces sh single s r q = q
-
-pub ruleset items = (accounts, bank-steps, step-texts, step-no-texts, onward, says-texts, says-plain, step-payer, step-no-payer, no-payer, by-pieces, steps)
-
-pub ruleset bounds = (account-within, number-within, bank-within, text-within, payer-within, amount-low, bank-low, texts-few, none-few, texts-held, kept-texts, kept-plain)

@@ -1,7 +1,6 @@
 -- What the answer of the line's reader stands for in document 01, "The batch", "Lines" and "Numbers returned". Assumes nothing.
 use Prim.Native.Nat.{ℕ, _≤_}
 use mathlib.Core.List.{List}
-use lib.ListN.{length, drop}
 use Rattle.paper.specs.Accounts.{Account, account}
 use Rattle.paper.specs.Batch.{Item, most14}
 use Rattle.paper.specs.Entries.{item, Said, got, no}
@@ -12,8 +11,6 @@ use Rattle.span.specs.Held.{pieceAt, textsAt, Held}
 use Rattle.itemline.specs.declared.Fields.{Fields}
 use Rattle.itemline.specs.declared.ItemRead.{ItemRead}
 use Rattle.itemline.specs.declared.ItemRead.the-variants as answer
-use Rattle.itemline.specs.declared.PayerRead.{PayerRead}
-use Rattle.itemline.specs.declared.PayerRead.the-variants as before
 
 -- no message and no name
 abbrev none : Span
@@ -52,13 +49,3 @@ pub record Sound (s : List ℕ) (f : Fields) : Type 0 where
 abbrev pub Kept : List ℕ → ItemRead → Type 0
 Kept s (answer.Item f) = Sound s f
 Kept s (answer.Refused n at) = Unit
-
--- the reading goes on (k) with the payer and the line from its place on; or it is refused
-abbrev pub toldPayer : List ℕ → PayerRead → (Account → ℕ → List ℕ → Said) → Said
-toldPayer s (before.Payer prefix base at) k = k (account prefix base) at (drop at s)
-toldPayer s (before.Refused n at) k = no n at
-
--- the payee begins in the line, or with its end
-abbrev pub InsidePayer : List ℕ → PayerRead → Type 0
-InsidePayer s (before.Payer prefix base at) = at ≤ length s
-InsidePayer s (before.Refused n at) = Unit

@@ -1,3 +1,4 @@
+-- `group_items`: line after line the file's answer stays and the place moves on. Assumes nothing.
 use borrow.Author.Needs.{needs}
 use Prim.Native.Nat.{ℕ, _+_, _-_}
 use mathlib.Core.Path.{_≡_}
@@ -11,6 +12,9 @@ use Rattle.group.proofs.group_items.Tie as tie
 use Rattle.group.proofs.group_items.Reads as reads
 use Rattle.group.proofs.group_items.Lts as lts
 use Rattle.group.proofs.close_group.Reads as close-group-reads
+use Rattle.group.proofs.counts_more.Reads as counts-more-reads
+use Rattle.group.proofs.open_more.Reads as open-more-reads
+use Rattle.group.proofs.shelf_more.Reads as shelf-more-reads
 use Rattle.group.proofs.item_step.Reads as item-step-reads
 use Rattle.line.proofs.next_line.Reads as next-line-reads
 
@@ -48,41 +52,31 @@ item-step-requires c κs = search needs
 enum-known-amount : tie.Need-enum-known-amount Inv-loop μ-loop
 enum-known-amount c = search needs
 
--- src/lib.rt:184:28
-add-t25 : tie.Need-add-t25 Inv-loop μ-loop
-add-t25 c = let g = item-on (c .before .before .before .before) _ _ (c .before .before .amount .given .1) in omega arith
+counts-more-requires : tie.Need-counts-more-requires Inv-loop μ-loop
+counts-more-requires c κs =
+    let g = item-on (c .before .before .before) _ _ (c .before .amount .given .1) in
+    (omega arith, omega arith, omega arith)
 
--- src/lib.rt:185:27
-add-t26 : tie.Need-add-t26 Inv-loop μ-loop
-add-t26 c = let g = item-on (c .before .before .before .before .before) _ _ (c .before .before .before .amount .given .1) in omega arith
+shelf-more-requires : tie.Need-shelf-more-requires Inv-loop μ-loop
+shelf-more-requires c κs = let g = item-on (c .before .before .before .before) _ _ (c .before .before .amount .given .1) in omega arith
 
--- src/lib.rt:186:31
-add-t27 : tie.Need-add-t27 Inv-loop μ-loop
-add-t27 c = let g = item-on (c .before .before .before .before .before .before) _ _ (c .before .before .before .before .amount .given .1) in omega arith
+open-more-requires : tie.Need-open-more-requires Inv-loop μ-loop
+open-more-requires c κs =
+    let g = item-on (c .before .before .before .before .before) _ _ (c .before .before .before .amount .given .1) in
+    (omega arith, omega arith)
 
--- src/lib.rt:189:28
-add-t25-2 : tie.Need-add-t25-2 Inv-loop μ-loop
-add-t25-2 c = let g = item-on (c .before .before .before .before .before .before .before) _ _ (c .before .before .before .before .before .amount .given .1) in omega arith
-
--- src/lib.rt:197:26
-add-t27-2 : tie.Need-add-t27-2 Inv-loop μ-loop
-add-t27-2 c = let g = item-on (c .before .before .before .before .before .before .before .before) _ _ (c .before .before .before .before .before .before .amount .given .1) in omega arith
-
--- src/lib.rt:198:28
-add-t25-3 : tie.Need-add-t25-3 Inv-loop μ-loop
-add-t25-3 c = let g = item-on (c .before .before .before .before .before .before .before .before .before) _ _ (c .before .before .before .before .before .before .before .amount .given .1) in omega arith
-
--- src/lib.rt:204:24
 add-line : tie.Need-add-line Inv-loop μ-loop
-add-line c = let g = item-on (c .before .before .before .before .before .before .before .before .before) _ _ (c .before .before .before .before .before .before .before .amount .given .1) in omega (arith, c .before .before .before .before .before .before .before .before .before .before .before .before .before .before .good .0)
+add-line c =
+    let g = item-on (c .before .before .before .before .before .before) _ _ (c .before .before .before .before .amount .given .1) in
+    omega (arith, c .before .before .before .before .before .before .before .before .before .before .before .good .0)
 
--- src/lib.rt:177:5
 loop-less : tie.Need-loop-less Inv-loop μ-loop
-loop-less c = let cuts = c .before .before .before .before .before .before .before .before .before .before .next-line .ensures in omega arith
+loop-less c = let cuts = c .before .before .before .before .before .before .before .next-line .ensures in omega arith
 
--- src/lib.rt:177:5
 loop-again : tie.Need-loop-again Inv-loop μ-loop
-loop-again c = item-on (c .before .before .before .before .before .before .before .before .before) _ _ (c .before .before .before .before .before .before .before .amount .given .1)
+loop-again c =
+    rw (c .open-more .ensures, c .before .shelf-more .ensures, c .before .before .counts-more .ensures)
+    (item-on (c .before .before .before .before .before .before) _ _ (c .before .before .before .before .amount .given .1))
 
 -- src/lib.rt:207:57
 enum-told : tie.Need-enum-told Inv-loop μ-loop
@@ -126,12 +120,9 @@ group-items-spec =
     next-line-requires
     item-step-requires
     enum-known-amount
-    add-t25
-    add-t26
-    add-t27
-    add-t25-2
-    add-t27-2
-    add-t25-3
+    counts-more-requires
+    shelf-more-requires
+    open-more-requires
     add-line
     loop-less
     loop-again

@@ -1,0 +1,128 @@
+#!/usr/bin/env python3
+"""Looks whether the house is in order, by rules that a reader can check by hand. The last line is 'N passed, M failed'.
+
+  - crates.txt, crates/ and README's table name the same crates, and a crate names only crates above it
+  - docs/CRATES.md draws the crates as crates.txt has them (tools/graph.py writes it)
+  - each file of code, definitions or proofs says in its first line what it holds; lists of modules (Lib.antt) need not
+  - a function has at most 40 lines without its contract, and at most one loop
+  - a file of definitions or proofs has at most 400 lines
+  - what a must-fail edit takes out stands in its file exactly once
+  - what a page links to is there
+  - no proof names a line of the source by its number, as the next edit moves it
+"""
+import pathlib
+import re
+import subprocess
+import sys
+
+ROOT = pathlib.Path(__file__).resolve().parent.parent
+MOST_LINES = 40
+MOST_FILE = 400
+# the kit's own libraries
+KIT = {"std", "check", "io", "bytes", "os", "libc"}
+
+passed = 0
+faults = []
+
+
+def check(good, sentence):
+    global passed
+    if good:
+        passed += 1
+    else:
+        faults.append(sentence)
+
+
+def listed():
+    """The crates of crates.txt in order, each with what it stands on."""
+    crates = {}
+    for line in (ROOT / "crates.txt").read_text().splitlines():
+        if line and not line.startswith("#"):
+            name, below = line.split(":")
+            crates[name] = below.split()
+    return crates
+
+
+def the_list():
+    crates = listed()
+    there = {p.name for p in (ROOT / "crates").iterdir() if p.is_dir()}
+    for name in sorted(there | set(crates)):
+        check(name in crates, f"crates/{name} is not in crates.txt")
+        check(name in there, f"crates.txt names {name}, which is not in crates/")
+    done = set(KIT)
+    for name, below in crates.items():
+        for other in below:
+            check(other in done or other in crates, f"{name} stands on {other}, which is no crate")
+        done.add(name)
+    table = "\n".join(l for l in (ROOT / "README.md").read_text().splitlines() if l.startswith("|"))
+    for name in crates:
+        check(re.search(rf"`(crates/)?{name}`", table), f"README's table does not name {name}")
+
+
+def the_drawing():
+    drawn = subprocess.run([sys.executable, ROOT / "tools/graph.py"], capture_output=True, text=True).stdout
+    page = ROOT / "docs/CRATES.md"
+    check(page.exists() and page.read_text() == drawn, "docs/CRATES.md is not what tools/graph.py draws")
+
+
+def first_lines():
+    for path in sorted((ROOT / "crates").rglob("*")):
+        if path.suffix in (".rt", ".antt") and path.name != "Lib.antt":
+            first = path.read_text().split("\n", 1)[0]
+            check(re.match(r"(//|--) \S", first), f"{path.relative_to(ROOT)} does not say in its first line what it holds")
+
+
+def functions():
+    start = re.compile(r"^(pub )?(extern \"C\" )?fn (\w+)|^pub extern \"C\" fn (\w+)")
+    for path in sorted((ROOT / "crates").rglob("*.rt")):
+        name, lines, loops = None, 0, 0
+        for line in path.read_text().splitlines():
+            text = line.strip()
+            found = start.match(text) if not line.startswith("        ") else None
+            if found and name is None:
+                name, lines, loops, indent = found.group(3) or found.group(4), 0, 0, len(line) - len(text)
+            if name is None:
+                continue
+            if not text.startswith(("requires", "ensures", "//", "invariant", "decreases")):
+                lines += 1
+            if re.match(r"(while|for|loop)\b", text):
+                loops += 1
+            if text == "}" and len(line) - len(text) == indent:
+                where = f"{path.relative_to(ROOT)}: {name}"
+                check(lines <= MOST_LINES, f"{where} has {lines} lines without its contract")
+                check(loops <= 1, f"{where} has {loops} loops")
+                name = None
+
+
+def files():
+    for path in sorted((ROOT / "crates").rglob("*.antt")):
+        text = path.read_text()
+        count = text.count("\n")
+        check(count <= MOST_FILE, f"{path.relative_to(ROOT)} has {count} lines")
+        check(not re.search(r"src/\w+\.rt:\d", text), f"{path.relative_to(ROOT)} names lines of the source by number")
+
+
+def edits():
+    for path in sorted((ROOT / "crates").glob("*/must-fail/*.edit")):
+        crate, target = path.parent.parent, None
+        for line in path.read_text().splitlines():
+            if line.startswith("file: "):
+                target = (crate / line[6:]).read_text()
+            if line.startswith("old: "):
+                count = target.count(line[5:])
+                check(count == 1, f"{path.relative_to(ROOT)}: what it takes out stands {count} times there: {line[5:].strip()}")
+
+
+def links():
+    pages = [ROOT / "README.md", *sorted((ROOT / "docs").glob("*.md"))]
+    for page in pages:
+        for target in re.findall(r"\]\(([^)#:]+)(?:#[^)]*)?\)", page.read_text()):
+            check((page.parent / target).exists(), f"{page.relative_to(ROOT)} links to {target}, which is not there")
+
+
+for look in (the_list, the_drawing, first_lines, functions, files, edits, links):
+    look()
+for sentence in faults:
+    print(f"failed: {sentence}")
+print(f"{passed} passed, {len(faults)} failed")
+sys.exit(1 if faults else 0)
