@@ -7,27 +7,21 @@ use Rattle.account.proofs.account_len.Reads as reads
 use Rattle.account.proofs.account_len.Lts as lts
 use Rattle.numeral.proofs.width.Reads as width-reads
 
--- src/lib.rt:209:9
 width-requires : tie.Need-width-requires
 width-requires c κs = search needs
 
--- src/lib.rt:211:9
 returns : tie.Need-returns
 returns c = search spelled
 
--- src/lib.rt:213:5
 width-requires-2 : tie.Need-width-requires-2
 width-requires-2 c κs = search needs
 
--- src/lib.rt:213:5
 add-result : tie.Need-add-result
 add-result c = search needs
 
--- src/lib.rt:213:5
 add-result-2 : tie.Need-add-result-2
 add-result-2 c = search needs
 
--- src/lib.rt:206:1
 returns-2 : tie.Need-returns-2
 returns-2 c = search spelled
 

@@ -8,21 +8,17 @@ use Rattle.account.proofs.account_proper.Reads as reads
 use Rattle.account.proofs.account_proper.Lts as lts
 use Rattle.account.proofs.account_ok.Reads as account-ok-reads
 
--- src/lib.rt:61:9
 returns : tie.Need-returns
 unfolding accountProper
 returns c = search picks
 
--- src/lib.rt:64:9
 returns-2 : tie.Need-returns-2
 unfolding accountProper
 returns-2 c = search picks
 
--- src/lib.rt:66:5
 account-ok-requires : tie.Need-account-ok-requires
 account-ok-requires c κs = search needs
 
--- src/lib.rt:57:1
 returns-3 : tie.Need-returns-3
 unfolding accountProper
 returns-3 c = search picks

@@ -17,31 +17,24 @@ Inv-loop f i₀ i = (i ≤ length f) × (all isZero f ≡ all isZero (drop i f))
 abbrev μ-loop : tie.MeasureT-loop
 μ-loop f i₀ i = length f - i
 
--- src/lib.rt:84:5
 loop-holds : tie.Need-loop-holds Inv-loop μ-loop
 loop-holds c = search (turns, needs)
 
--- src/lib.rt:85:12
 shared-slice-read-if1 : tie.Need-shared-slice-read-if1 Inv-loop μ-loop
 shared-slice-read-if1 c = search (turns, needs)
 
--- src/lib.rt:86:13
 returns : tie.Need-returns Inv-loop μ-loop
 returns c = search turns
 
--- src/lib.rt:88:9
 add-i : tie.Need-add-i Inv-loop μ-loop
 add-i c = search (turns, needs)
 
--- src/lib.rt:84:5
 loop-less : tie.Need-loop-less Inv-loop μ-loop
 loop-less c = search (turns, needs)
 
--- src/lib.rt:84:5
 loop-again : tie.Need-loop-again Inv-loop μ-loop
 loop-again c = search (turns, needs)
 
--- src/lib.rt:80:1
 returns-2 : tie.Need-returns-2 Inv-loop μ-loop
 returns-2 c = search turns
 

@@ -9,16 +9,13 @@ use Rattle.account.proofs.by_rule.Reads as reads
 use Rattle.account.proofs.by_rule.Lts as lts
 use Rattle.account.proofs.account_ok.Reads as account-ok-reads
 
--- src/lib.rt:139:8
 account-ok-requires : tie.Need-account-ok-requires
 account-ok-requires c κs = search needs
 
--- src/lib.rt:136:1
 returns : tie.Need-returns
 unfolding ruled
 returns c = search picks
 
--- src/lib.rt:136:1
 returns-2 : tie.Need-returns-2
 unfolding ruled
 returns-2 c = search picks

@@ -6,12 +6,10 @@ use Rattle.account.proofs.is_nobody.Tie as tie
 use Rattle.account.proofs.is_nobody.Reads as reads
 use Rattle.account.proofs.is_nobody.Lts as lts
 
--- src/lib.rt:74:9
 returns : tie.Need-returns
 unfolding isNobody
 returns c = search picks
 
--- src/lib.rt:70:1
 returns-2 : tie.Need-returns-2
 unfolding isNobody
 returns-2 c = search picks

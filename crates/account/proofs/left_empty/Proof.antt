@@ -5,11 +5,9 @@ use Rattle.account.proofs.left_empty.Tie as tie
 use Rattle.account.proofs.left_empty.Reads as reads
 use Rattle.account.proofs.left_empty.Lts as lts
 
--- src/lib.rt:130:9
 returns : tie.Need-returns
 returns c = search exits
 
--- src/lib.rt:126:1
 returns-2 : tie.Need-returns-2
 returns-2 c = search exits
 

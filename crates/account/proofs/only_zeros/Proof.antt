@@ -8,63 +8,48 @@ use Rattle.account.proofs.only_zeros.Lts as lts
 use Rattle.account.proofs.some_zeros.Reads as some-zeros-reads
 use Rattle.find.proofs.find_byte.Reads as find-byte-reads
 
--- src/lib.rt:111:9
 returns : tie.Need-returns
 returns c = search exits
 
--- src/lib.rt:114:9
 find-byte-requires : tie.Need-find-byte-requires
 find-byte-requires c κs = search needs
 
--- src/lib.rt:116:9
 some-zeros-requires : tie.Need-some-zeros-requires
 some-zeros-requires c κs = search needs
 
--- src/lib.rt:116:9
 returns-2 : tie.Need-returns-2
 returns-2 c = search exits
 
--- src/lib.rt:118:19
 sub-some-zeros : tie.Need-sub-some-zeros
 sub-some-zeros c = search needs
 
--- src/lib.rt:118:19
 part-some-zeros-start : tie.Need-part-some-zeros-start
 part-some-zeros-start c = search needs
 
--- src/lib.rt:118:19
 part-some-zeros-end : tie.Need-part-some-zeros-end
 part-some-zeros-end c = search needs
 
--- src/lib.rt:118:8
 some-zeros-requires-2 : tie.Need-some-zeros-requires-2
 some-zeros-requires-2 c κs = search needs
 
--- src/lib.rt:119:20
 add-from : tie.Need-add-from
 add-from c = search needs
 
--- src/lib.rt:120:27
 sub-some-zeros-2 : tie.Need-sub-some-zeros-2
 sub-some-zeros-2 c = search needs
 
--- src/lib.rt:120:27
 part-some-zeros-start-2 : tie.Need-part-some-zeros-start-2
 part-some-zeros-start-2 c = search needs
 
--- src/lib.rt:120:27
 part-some-zeros-end-2 : tie.Need-part-some-zeros-end-2
 part-some-zeros-end-2 c = search needs
 
--- src/lib.rt:120:9
 some-zeros-requires-3 : tie.Need-some-zeros-requires-3
 some-zeros-requires-3 c κs = search needs
 
--- src/lib.rt:120:9
 returns-3 : tie.Need-returns-3
 returns-3 c = search exits
 
--- src/lib.rt:107:1
 returns-4 : tie.Need-returns-4
 returns-4 c = search exits
 

@@ -8,35 +8,27 @@ use Rattle.account.proofs.put_account.Lts as lts
 use Rattle.numeral.proofs.put_number.Reads as put-number-reads
 use Rattle.put.proofs.put_byte.Reads as put-byte-reads
 
--- src/lib.rt:222:9
 put-number-requires : tie.Need-put-number-requires
 put-number-requires c κs = search (spelled, needs)
 
--- src/lib.rt:222:9
 same-length : tie.Need-same-length
 same-length c = search needs
 
--- src/lib.rt:222:9
 returns : tie.Need-returns
 returns c = search spelled
 
--- src/lib.rt:224:9
 put-number-requires-2 : tie.Need-put-number-requires-2
 put-number-requires-2 c κs = search (spelled, needs)
 
--- src/lib.rt:225:9
 put-byte-requires : tie.Need-put-byte-requires
 put-byte-requires c κs = search (spelled, needs)
 
--- src/lib.rt:226:5
 put-number-requires-3 : tie.Need-put-number-requires-3
 put-number-requires-3 c κs = search (spelled, needs)
 
--- src/lib.rt:217:1
 same-length-2 : tie.Need-same-length-2
 same-length-2 c = search needs
 
--- src/lib.rt:217:1
 returns-2 : tie.Need-returns-2
 returns-2 c = search spelled
 

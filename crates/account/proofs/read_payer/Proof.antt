@@ -9,39 +9,30 @@ use Rattle.account.proofs.left_empty.Reads as left-empty-reads
 use Rattle.account.proofs.only_zeros.Reads as only-zeros-reads
 use Rattle.account.proofs.read_account.Reads as read-account-reads
 
--- src/lib.rt:192:8
 left-empty-requires : tie.Need-left-empty-requires
 left-empty-requires c κs = search needs
 
--- src/lib.rt:193:9
 returns : tie.Need-returns
 returns c = search exits
 
--- src/lib.rt:195:11
 read-account-requires : tie.Need-read-account-requires
 read-account-requires c κs = search needs
 
--- src/lib.rt:196:23
 enum-known-prefix : tie.Need-enum-known-prefix
 enum-known-prefix c = search needs
 
--- src/lib.rt:197:23
 enum-known-n : tie.Need-enum-known-n
 enum-known-n c = search needs
 
--- src/lib.rt:197:32
 only-zeros-requires : tie.Need-only-zeros-requires
 only-zeros-requires c κs = search needs
 
--- src/lib.rt:189:1
 returns-2 : tie.Need-returns-2
 returns-2 c = search exits
 
--- src/lib.rt:189:1
 returns-3 : tie.Need-returns-3
 returns-3 c = search exits
 
--- src/lib.rt:189:1
 returns-4 : tie.Need-returns-4
 returns-4 c = search exits
 

@@ -8,21 +8,17 @@ use Rattle.account.proofs.some_zeros.Reads as reads
 use Rattle.account.proofs.some_zeros.Lts as lts
 use Rattle.account.proofs.all_zero.Reads as all-zero-reads
 
--- src/lib.rt:98:9
 returns : tie.Need-returns
 unfolding zeros
 returns c = search picks
 
--- src/lib.rt:101:9
 returns-2 : tie.Need-returns-2
 unfolding zeros
 returns-2 c = search picks
 
--- src/lib.rt:103:5
 all-zero-requires : tie.Need-all-zero-requires
 all-zero-requires c κs = search needs
 
--- src/lib.rt:94:1
 returns-3 : tie.Need-returns-3
 unfolding zeros
 returns-3 c = search picks

@@ -6,17 +6,14 @@ use Rattle.account.proofs.sums_ok.Tie as tie
 use Rattle.account.proofs.sums_ok.Reads as reads
 use Rattle.account.proofs.sums_ok.Lts as lts
 
--- src/lib.rt:49:9
 returns : tie.Need-returns
 unfolding sumsOk
 returns c = search picks
 
--- src/lib.rt:52:9
 returns-2 : tie.Need-returns-2
 unfolding sumsOk
 returns-2 c = search picks
 
--- src/lib.rt:45:1
 returns-3 : tie.Need-returns-3
 unfolding sumsOk
 returns-3 c = search picks

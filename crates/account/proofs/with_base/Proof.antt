@@ -8,27 +8,21 @@ use Rattle.account.proofs.with_base.Lts as lts
 use Rattle.account.proofs.by_rule.Reads as by-rule-reads
 use Rattle.numeral.proofs.read_digits.Reads as read-digits-reads
 
--- src/lib.rt:150:11
 read-digits-requires : tie.Need-read-digits-requires
 read-digits-requires c κs = search needs
 
--- src/lib.rt:151:20
 enum-known-base : tie.Need-enum-known-base
 enum-known-base c = search needs
 
--- src/lib.rt:151:29
 by-rule-requires : tie.Need-by-rule-requires
 by-rule-requires c κs = search needs
 
--- src/lib.rt:152:22
 enum-known-n : tie.Need-enum-known-n
 enum-known-n c = search needs
 
--- src/lib.rt:147:1
 returns : tie.Need-returns
 returns c = search steps
 
--- src/lib.rt:147:1
 returns-2 : tie.Need-returns-2
 returns-2 c = search steps
 

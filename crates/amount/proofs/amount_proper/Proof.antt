@@ -6,12 +6,10 @@ use Rattle.amount.proofs.amount_proper.Tie as tie
 use Rattle.amount.proofs.amount_proper.Reads as reads
 use Rattle.amount.proofs.amount_proper.Lts as lts
 
--- src/lib.rt:58:9
 returns : tie.Need-returns
 unfolding amountProper
 returns c = search picks depth 8
 
--- src/lib.rt:54:1
 returns-2 : tie.Need-returns-2
 unfolding amountProper
 returns-2 c = search picks depth 8

@@ -9,31 +9,24 @@ use Rattle.amount.proofs.with_comma.Reads as with-comma-reads
 use Rattle.find.proofs.find_byte.Reads as find-byte-reads
 use Rattle.numeral.proofs.read_digits.Reads as read-digits-reads
 
--- src/lib.rt:37:13
 find-byte-requires : tie.Need-find-byte-requires
 find-byte-requires c κs = search needs
 
--- src/lib.rt:39:13
 with-comma-requires : tie.Need-with-comma-requires
 with-comma-requires c κs = search needs
 
--- src/lib.rt:39:13
 returns : tie.Need-returns
 returns c = search exits
 
--- src/lib.rt:41:9
 read-digits-requires : tie.Need-read-digits-requires
 read-digits-requires c κs = search needs
 
--- src/lib.rt:41:9
 returns-2 : tie.Need-returns-2
 returns-2 c = search exits
 
--- src/lib.rt:43:5
 read-digits-requires-2 : tie.Need-read-digits-requires-2
 read-digits-requires-2 c κs = search needs
 
--- src/lib.rt:32:1
 returns-3 : tie.Need-returns-3
 returns-3 c = search exits
 

@@ -10,33 +10,26 @@ use Rattle.amount.proofs.read_item_amount.Lts as lts
 use Rattle.amount.proofs.amount_proper.Reads as amount-proper-reads
 use Rattle.amount.proofs.read_amount.Reads as read-amount-reads
 
--- src/lib.rt:68:11
 read-amount-requires : tie.Need-read-amount-requires
 read-amount-requires c κs = search needs
 
--- src/lib.rt:69:22
 enum-known-n : tie.Need-enum-known-n
 enum-known-n c = search needs
 
--- src/lib.rt:70:20
 enum-known-v : tie.Need-enum-known-v
 enum-known-v c = search needs
 
--- src/lib.rt:71:16
 amount-proper-requires : tie.Need-amount-proper-requires
 amount-proper-requires c κs = search needs
 
--- src/lib.rt:72:17
 returns : tie.Need-returns
 unfolding readItemAmount
 returns c = search (steps, picks)
 
--- src/lib.rt:64:1
 returns-2 : tie.Need-returns-2
 unfolding readItemAmount
 returns-2 c = search (steps, picks)
 
--- src/lib.rt:64:1
 returns-3 : tie.Need-returns-3
 unfolding readItemAmount
 returns-3 c = search (steps, picks)

@@ -7,11 +7,9 @@ use Rattle.amount.proofs.read_total.Reads as reads
 use Rattle.amount.proofs.read_total.Lts as lts
 use Rattle.amount.proofs.read_amount.Reads as read-amount-reads
 
--- src/lib.rt:50:5
 read-amount-requires : tie.Need-read-amount-requires
 read-amount-requires c κs = search needs
 
--- src/lib.rt:47:1
 returns : tie.Need-returns
 unfolding readTotal
 returns c = search needs

@@ -7,75 +7,57 @@ use Rattle.amount.proofs.with_comma.Reads as reads
 use Rattle.amount.proofs.with_comma.Lts as lts
 use Rattle.numeral.proofs.read_digits.Reads as read-digits-reads
 
--- src/lib.rt:16:32
 sub-read-digits : tie.Need-sub-read-digits
 sub-read-digits c = search needs
 
--- src/lib.rt:16:32
 part-read-digits-start : tie.Need-part-read-digits-start
 part-read-digits-start c = search needs
 
--- src/lib.rt:16:32
 part-read-digits-end : tie.Need-part-read-digits-end
 part-read-digits-end c = search needs
 
--- src/lib.rt:16:11
 read-digits-requires : tie.Need-read-digits-requires
 read-digits-requires c κs = search needs
 
--- src/lib.rt:17:22
 enum-known-n : tie.Need-enum-known-n
 enum-known-n c = search needs
 
--- src/lib.rt:18:20
 enum-known-crowns : tie.Need-enum-known-crowns
 enum-known-crowns c = search needs
 
--- src/lib.rt:19:24
 add-from : tie.Need-add-from
 add-from c = search needs
 
--- src/lib.rt:20:40
 sub-read-digits-2 : tie.Need-sub-read-digits-2
 sub-read-digits-2 c = search needs
 
--- src/lib.rt:20:40
 part-read-digits-start-2 : tie.Need-part-read-digits-start-2
 part-read-digits-start-2 c = search needs
 
--- src/lib.rt:20:40
 part-read-digits-end-2 : tie.Need-part-read-digits-end-2
 part-read-digits-end-2 c = search needs
 
--- src/lib.rt:20:19
 read-digits-requires-2 : tie.Need-read-digits-requires-2
 read-digits-requires-2 c κs = search needs
 
--- src/lib.rt:21:30
 enum-known-n-2 : tie.Need-enum-known-n-2
 enum-known-n-2 c = search needs
 
--- src/lib.rt:22:28
 enum-known-rest : tie.Need-enum-known-rest
 enum-known-rest c = search needs
 
--- src/lib.rt:23:31
 mul-sum : tie.Need-mul-sum
 mul-sum c = search (exits, needs)
 
--- src/lib.rt:23:31
 add-sum : tie.Need-add-sum
 add-sum c = search (exits, needs)
 
--- src/lib.rt:12:1
 returns : tie.Need-returns
 returns c = search exits
 
--- src/lib.rt:12:1
 returns-2 : tie.Need-returns-2
 returns-2 c = search exits
 
--- src/lib.rt:12:1
 returns-3 : tie.Need-returns-3
 returns-3 c = search exits
 

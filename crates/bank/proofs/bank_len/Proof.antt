@@ -5,11 +5,9 @@ use Rattle.bank.proofs.bank_len.Tie as tie
 use Rattle.bank.proofs.bank_len.Reads as reads
 use Rattle.bank.proofs.bank_len.Lts as lts
 
--- src/lib.rt:114:9
 returns : tie.Need-returns
 returns c = search spelled
 
--- src/lib.rt:110:1
 returns-2 : tie.Need-returns-2
 returns-2 c = search spelled
 

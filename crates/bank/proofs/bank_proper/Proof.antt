@@ -6,12 +6,10 @@ use Rattle.bank.proofs.bank_proper.Tie as tie
 use Rattle.bank.proofs.bank_proper.Reads as reads
 use Rattle.bank.proofs.bank_proper.Lts as lts
 
--- src/lib.rt:84:9
 returns : tie.Need-returns
 unfolding bankProper
 returns c = search picks depth 8
 
--- src/lib.rt:80:1
 returns-2 : tie.Need-returns-2
 unfolding bankProper
 returns-2 c = search picks depth 8

@@ -5,23 +5,18 @@ use Rattle.bank.proofs.ninth_digit.Tie as tie
 use Rattle.bank.proofs.ninth_digit.Reads as reads
 use Rattle.bank.proofs.ninth_digit.Lts as lts
 
--- src/lib.rt:27:13
 returns : tie.Need-returns
 returns c = search ranks
 
--- src/lib.rt:35:13
 returns-2 : tie.Need-returns-2
 returns-2 c = search ranks
 
--- src/lib.rt:42:9
 returns-3 : tie.Need-returns-3
 returns-3 c = search ranks
 
--- src/lib.rt:50:9
 returns-4 : tie.Need-returns-4
 returns-4 c = search ranks
 
--- src/lib.rt:22:1
 returns-5 : tie.Need-returns-5
 returns-5 c = search ranks
 

@@ -6,12 +6,10 @@ use Rattle.bank.proofs.priority_carried.Tie as tie
 use Rattle.bank.proofs.priority_carried.Reads as reads
 use Rattle.bank.proofs.priority_carried.Lts as lts
 
--- src/lib.rt:104:9
 returns : tie.Need-returns
 unfolding priorityCarried
 returns c = search picks depth 8
 
--- src/lib.rt:100:1
 returns-2 : tie.Need-returns-2
 unfolding priorityCarried
 returns-2 c = search picks depth 8

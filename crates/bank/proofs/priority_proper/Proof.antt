@@ -6,12 +6,10 @@ use Rattle.bank.proofs.priority_proper.Tie as tie
 use Rattle.bank.proofs.priority_proper.Reads as reads
 use Rattle.bank.proofs.priority_proper.Lts as lts
 
--- src/lib.rt:94:9
 returns : tie.Need-returns
 unfolding priorityProper
 returns c = search picks depth 8
 
--- src/lib.rt:90:1
 returns-2 : tie.Need-returns-2
 unfolding priorityProper
 returns-2 c = search picks depth 8

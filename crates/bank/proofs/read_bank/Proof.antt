@@ -10,38 +10,30 @@ use Rattle.bank.proofs.read_bank.Lts as lts
 use Rattle.bank.proofs.ninth_digit.Reads as ninth-digit-reads
 use Rattle.numeral.proofs.read_digits.Reads as read-digits-reads
 
--- src/lib.rt:64:11
 read-digits-requires : tie.Need-read-digits-requires
 read-digits-requires c κs = search needs
 
--- src/lib.rt:65:22
 enum-known-n : tie.Need-enum-known-n
 enum-known-n c = search needs
 
--- src/lib.rt:66:20
 enum-known-n-2 : tie.Need-enum-known-n-2
 enum-known-n-2 c = search needs
 
--- src/lib.rt:69:17
 returns : tie.Need-returns
 unfolding readBank
 returns c = search (steps, picks)
 
--- src/lib.rt:72:17
 returns-2 : tie.Need-returns-2
 unfolding readBank
 returns-2 c = search (steps, picks)
 
--- src/lib.rt:74:13
 ninth-digit-requires : tie.Need-ninth-digit-requires
 ninth-digit-requires c κs = search needs
 
--- src/lib.rt:61:1
 returns-3 : tie.Need-returns-3
 unfolding readBank
 returns-3 c = search (steps, picks)
 
--- src/lib.rt:61:1
 returns-4 : tie.Need-returns-4
 unfolding readBank
 returns-4 c = search (steps, picks)

@@ -6,59 +6,45 @@ use Rattle.calendar.proofs.day_number.Tie as tie
 use Rattle.calendar.proofs.day_number.Reads as reads
 use Rattle.calendar.proofs.day_number.Lts as lts
 
--- src/lib.rt:56:13
 sub-n : tie.Need-sub-n
 sub-n c = search numbers
 
--- src/lib.rt:58:14
 sub-i : tie.Need-sub-i
 sub-i c = search numbers
 
--- src/lib.rt:59:16
 mul-days : tie.Need-mul-days
 mul-days c = search needs
 
--- src/lib.rt:59:27
 add-days : tie.Need-add-days
 add-days c = search needs
 
--- src/lib.rt:59:16
 add-days-2 : tie.Need-add-days-2
 add-days-2 c = search needs
 
--- src/lib.rt:59:40
 mul-days-2 : tie.Need-mul-days-2
 mul-days-2 c = search needs
 
--- src/lib.rt:59:40
 array-read-days : tie.Need-array-read-days
 array-read-days c = search numbers
 
--- src/lib.rt:59:16
 add-days-3 : tie.Need-add-days-3
 add-days-3 c = search numbers
 
--- src/lib.rt:59:53
 sub-days : tie.Need-sub-days
 sub-days c = search numbers
 
--- src/lib.rt:59:16
 add-days-4 : tie.Need-add-days-4
 add-days-4 c = search numbers
 
--- src/lib.rt:61:9
 returns : tie.Need-returns
 returns c = search numbers
 
--- src/lib.rt:64:16
 add-result : tie.Need-add-result
 add-result c = search numbers
 
--- src/lib.rt:64:9
 returns-2 : tie.Need-returns-2
 returns-2 c = search numbers
 
--- src/lib.rt:52:1
 returns-3 : tie.Need-returns-3
 returns-3 c = search numbers
 

@@ -7,23 +7,18 @@ use Rattle.calendar.proofs.due_allowed.Reads as reads
 use Rattle.calendar.proofs.due_allowed.Lts as lts
 use Rattle.calendar.proofs.day_number.Reads as day-number-reads
 
--- src/lib.rt:76:9
 returns : tie.Need-returns
 returns c = search dues
 
--- src/lib.rt:78:5
 day-number-requires : tie.Need-day-number-requires
 day-number-requires c κs = search needs
 
--- src/lib.rt:78:21
 day-number-requires-2 : tie.Need-day-number-requires-2
 day-number-requires-2 c κs = search needs
 
--- src/lib.rt:78:5
 sub-result : tie.Need-sub-result
 sub-result c = search (dues, needs)
 
--- src/lib.rt:70:1
 returns-2 : tie.Need-returns-2
 returns-2 c = search dues
 

@@ -6,15 +6,12 @@ use Rattle.calendar.proofs.due_warnings.Tie as tie
 use Rattle.calendar.proofs.due_warnings.Reads as reads
 use Rattle.calendar.proofs.due_warnings.Lts as lts
 
--- src/lib.rt:93:9
 returns : tie.Need-returns
 returns c = (search dues, search needs)
 
--- src/lib.rt:96:9
 returns-2 : tie.Need-returns-2
 returns-2 c = (search dues, search needs)
 
--- src/lib.rt:86:1
 returns-3 : tie.Need-returns-3
 returns-3 c = (search dues, search needs)
 

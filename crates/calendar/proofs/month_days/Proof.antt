@@ -7,29 +7,23 @@ use Rattle.calendar.proofs.month_days.Tie as tie
 use Rattle.calendar.proofs.month_days.Reads as reads
 use Rattle.calendar.proofs.month_days.Lts as lts
 
--- src/lib.rt:43:13
 returns : tie.Need-returns
 unfolding monthDays
 returns c = search real-steps
 
--- src/lib.rt:45:9
 returns-2 : tie.Need-returns-2
 unfolding monthDays
 returns-2 c = search real-steps
 
--- src/lib.rt:47:14
 sub-i : tie.Need-sub-i
 sub-i c = search needs
 
--- src/lib.rt:48:5
 mul-result : tie.Need-mul-result
 mul-result c = search needs
 
--- src/lib.rt:48:5
 array-read-result : tie.Need-array-read-result
 array-read-result c = search needs
 
--- src/lib.rt:37:1
 returns-3 : tie.Need-returns-3
 unfolding monthDays
 returns-3 c = search real-steps

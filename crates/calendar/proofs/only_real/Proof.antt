@@ -8,16 +8,13 @@ use Rattle.calendar.proofs.only_real.Reads as reads
 use Rattle.calendar.proofs.only_real.Lts as lts
 use Rattle.calendar.proofs.real_day.Reads as real-day-reads
 
--- src/lib.rt:104:8
 real-day-requires : tie.Need-real-day-requires
 real-day-requires c κs = search needs
 
--- src/lib.rt:105:9
 returns : tie.Need-returns
 unfolding real
 returns c = search reading
 
--- src/lib.rt:101:1
 returns-2 : tie.Need-returns-2
 unfolding real
 returns-2 c = search reading

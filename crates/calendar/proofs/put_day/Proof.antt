@@ -7,31 +7,24 @@ use Rattle.calendar.proofs.put_day.Reads as reads
 use Rattle.calendar.proofs.put_day.Lts as lts
 use Rattle.numeral.proofs.put_fixed.Reads as put-fixed-reads
 
--- src/lib.rt:169:13
 mul-n : tie.Need-mul-n
 mul-n c = search needs
 
--- src/lib.rt:169:31
 mul-n-2 : tie.Need-mul-n-2
 mul-n-2 c = search needs
 
--- src/lib.rt:169:13
 add-n : tie.Need-add-n
 add-n c = search needs
 
--- src/lib.rt:169:13
 add-n-2 : tie.Need-add-n-2
 add-n-2 c = search needs
 
--- src/lib.rt:170:5
 put-fixed-requires : tie.Need-put-fixed-requires
 put-fixed-requires c κs = search needs
 
--- src/lib.rt:165:1
 same-length : tie.Need-same-length
 same-length c = search needs
 
--- src/lib.rt:165:1
 returns : tie.Need-returns
 unfolding spellDay
 returns c = search needs

@@ -8,27 +8,21 @@ use Rattle.calendar.proofs.read_day.Lts as lts
 use Rattle.calendar.proofs.read_long.Reads as read-long-reads
 use Rattle.calendar.proofs.read_short.Reads as read-short-reads
 
--- src/lib.rt:136:13
 read-long-requires : tie.Need-read-long-requires
 read-long-requires c κs = search needs
 
--- src/lib.rt:136:13
 returns : tie.Need-returns
 returns c = search reading
 
--- src/lib.rt:138:9
 read-short-requires : tie.Need-read-short-requires
 read-short-requires c κs = search needs
 
--- src/lib.rt:138:9
 returns-2 : tie.Need-returns-2
 returns-2 c = search reading
 
--- src/lib.rt:140:5
 read-short-requires-2 : tie.Need-read-short-requires-2
 read-short-requires-2 c κs = search needs
 
--- src/lib.rt:131:1
 returns-3 : tie.Need-returns-3
 returns-3 c = search reading
 

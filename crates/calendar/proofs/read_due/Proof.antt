@@ -10,33 +10,26 @@ use Rattle.calendar.proofs.read_due.Lts as lts
 use Rattle.calendar.proofs.due_allowed.Reads as due-allowed-reads
 use Rattle.calendar.proofs.read_day.Reads as read-day-reads
 
--- src/lib.rt:147:11
 read-day-requires : tie.Need-read-day-requires
 read-day-requires c κs = search needs
 
--- src/lib.rt:148:20
 enum-known-d : tie.Need-enum-known-d
 enum-known-d c = search needs
 
--- src/lib.rt:149:16
 due-allowed-requires : tie.Need-due-allowed-requires
 due-allowed-requires c κs = search (day-told, needs)
 
--- src/lib.rt:150:17
 returns : tie.Need-returns
 unfolding readDue
 returns c = search reading
 
--- src/lib.rt:154:22
 enum-known-e : tie.Need-enum-known-e
 enum-known-e c = search needs
 
--- src/lib.rt:143:1
 returns-2 : tie.Need-returns-2
 unfolding readDue
 returns-2 c = search reading
 
--- src/lib.rt:143:1
 returns-3 : tie.Need-returns-3
 unfolding readDue
 returns-3 c = search reading

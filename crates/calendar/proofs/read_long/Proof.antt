@@ -9,28 +9,22 @@ use Rattle.calendar.proofs.read_long.Lts as lts
 use Rattle.calendar.proofs.only_real.Reads as only-real-reads
 use Rattle.numeral.proofs.read_digits.Reads as read-digits-reads
 
--- src/lib.rt:124:11
 read-digits-requires : tie.Need-read-digits-requires
 read-digits-requires c κs = search needs
 
--- src/lib.rt:125:20
 enum-known-n : tie.Need-enum-known-n
 enum-known-n c = search needs
 
--- src/lib.rt:125:26
 only-real-requires : tie.Need-only-real-requires
 only-real-requires c κs = search needs
 
--- src/lib.rt:126:22
 enum-known-e : tie.Need-enum-known-e
 enum-known-e c = search needs
 
--- src/lib.rt:121:1
 returns : tie.Need-returns
 unfolding longDay
 returns c = search reading
 
--- src/lib.rt:121:1
 returns-2 : tie.Need-returns-2
 unfolding longDay
 returns-2 c = search reading

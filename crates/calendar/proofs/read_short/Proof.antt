@@ -9,48 +9,37 @@ use Rattle.calendar.proofs.read_short.Lts as lts
 use Rattle.calendar.proofs.only_real.Reads as only-real-reads
 use Rattle.numeral.proofs.read_digits.Reads as read-digits-reads
 
--- src/lib.rt:114:11
 read-digits-requires : tie.Need-read-digits-requires
 read-digits-requires c κs = search needs
 
--- src/lib.rt:115:20
 enum-known-n : tie.Need-enum-known-n
 enum-known-n c = search needs
 
--- src/lib.rt:115:37
 add-only-real : tie.Need-add-only-real
 add-only-real c = search needs
 
--- src/lib.rt:115:36
 mul-only-real : tie.Need-mul-only-real
 mul-only-real c = search needs
 
--- src/lib.rt:115:63
 mul-only-real-2 : tie.Need-mul-only-real-2
 mul-only-real-2 c = search needs
 
--- src/lib.rt:115:36
 add-only-real-2 : tie.Need-add-only-real-2
 add-only-real-2 c = search needs
 
--- src/lib.rt:115:36
 add-only-real-3 : tie.Need-add-only-real-3
 add-only-real-3 c = search needs
 
--- src/lib.rt:115:26
 only-real-requires : tie.Need-only-real-requires
 only-real-requires c κs = search needs
 
--- src/lib.rt:116:22
 enum-known-e : tie.Need-enum-known-e
 enum-known-e c = search needs
 
--- src/lib.rt:111:1
 returns : tie.Need-returns
 unfolding shortDay
 returns c = search reading
 
--- src/lib.rt:111:1
 returns-2 : tie.Need-returns-2
 unfolding shortDay
 returns-2 c = search reading

@@ -8,36 +8,29 @@ use Rattle.calendar.proofs.real_day.Reads as reads
 use Rattle.calendar.proofs.real_day.Lts as lts
 use Rattle.calendar.proofs.month_days.Reads as month-days-reads
 
--- src/lib.rt:17:9
 returns : tie.Need-returns
 unfolding realDay
 returns c = search real-steps depth 10
 
--- src/lib.rt:20:9
 returns-2 : tie.Need-returns-2
 unfolding realDay
 returns-2 c = search real-steps depth 10
 
--- src/lib.rt:24:9
 returns-3 : tie.Need-returns-3
 unfolding realDay
 returns-3 c = search real-steps depth 10
 
--- src/lib.rt:27:9
 returns-4 : tie.Need-returns-4
 unfolding realDay
 returns-4 c = search real-steps depth 10
 
--- src/lib.rt:31:9
 returns-5 : tie.Need-returns-5
 unfolding realDay
 returns-5 c = search real-steps depth 10
 
--- src/lib.rt:33:10
 month-days-requires : tie.Need-month-days-requires
 month-days-requires c κs = search needs
 
--- src/lib.rt:12:1
 returns-6 : tie.Need-returns-6
 unfolding realDay
 returns-6 c = search real-steps depth 10

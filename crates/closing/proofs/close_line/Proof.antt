@@ -7,31 +7,24 @@ use Rattle.closing.proofs.close_line.Reads as reads
 use Rattle.closing.proofs.close_line.Lts as lts
 use Rattle.closing.proofs.plus_at.Reads as plus-at-reads
 
--- src/lib.rt:36:9
 returns : tie.Need-returns
 returns c = search closes
 
--- src/lib.rt:38:8
 shared-slice-read-if2 : tie.Need-shared-slice-read-if2
 shared-slice-read-if2 c = search needs
 
--- src/lib.rt:39:9
 plus-at-requires : tie.Need-plus-at-requires
 plus-at-requires c κs = search needs
 
--- src/lib.rt:39:9
 returns-2 : tie.Need-returns-2
 returns-2 c = search closes
 
--- src/lib.rt:42:9
 plus-at-requires-2 : tie.Need-plus-at-requires-2
 plus-at-requires-2 c κs = search needs
 
--- src/lib.rt:42:9
 returns-3 : tie.Need-returns-3
 returns-3 c = search closes
 
--- src/lib.rt:32:1
 returns-4 : tie.Need-returns-4
 returns-4 c = search closes
 

@@ -6,27 +6,21 @@ use Rattle.closing.proofs.plus_at.Tie as tie
 use Rattle.closing.proofs.plus_at.Reads as reads
 use Rattle.closing.proofs.plus_at.Lts as lts
 
--- src/lib.rt:19:9
 returns : tie.Need-returns
 returns c = search closes
 
--- src/lib.rt:21:8
 shared-slice-read-if2 : tie.Need-shared-slice-read-if2
 shared-slice-read-if2 c = search needs
 
--- src/lib.rt:22:21
 add-after : tie.Need-add-after
 add-after c = search needs
 
--- src/lib.rt:24:13
 returns-2 : tie.Need-returns-2
 returns-2 c = search closes
 
--- src/lib.rt:26:9
 returns-3 : tie.Need-returns-3
 returns-3 c = search closes
 
--- src/lib.rt:15:1
 returns-4 : tie.Need-returns-4
 returns-4 c = search closes
 

@@ -7,23 +7,18 @@ use Rattle.explain.proofs.accepted_len.Reads as reads
 use Rattle.explain.proofs.accepted_len.Lts as lts
 use Rattle.numeral.proofs.width.Reads as width-reads
 
--- src/lib.rt:80:10
 width-requires : tie.Need-width-requires
 width-requires c κs = search needs
 
--- src/lib.rt:80:5
 add-result : tie.Need-add-result
 add-result c = search needs
 
--- src/lib.rt:80:33
 width-requires-2 : tie.Need-width-requires-2
 width-requires-2 c κs = search needs
 
--- src/lib.rt:80:5
 add-result-2 : tie.Need-add-result-2
 add-result-2 c = search needs
 
--- src/lib.rt:77:1
 returns : tie.Need-returns
 returns c = search (acceptances, needs)
 

@@ -9,27 +9,21 @@ use Rattle.explain.proofs.line_len.Reads as line-len-reads
 use Rattle.explain.proofs.put_line.Reads as put-line-reads
 use Rattle.explain.proofs.verdict_for.Reads as verdict-for-reads
 
--- src/lib.rt:142:9
 verdict-for-requires : tie.Need-verdict-for-requires
 verdict-for-requires c κs = search needs
 
--- src/lib.rt:143:9
 line-len-requires : tie.Need-line-len-requires
 line-len-requires c κs = search needs
 
--- src/lib.rt:145:9
 returns : tie.Need-returns
 returns c = search outputs
 
--- src/lib.rt:147:5
 put-line-requires : tie.Need-put-line-requires
 put-line-requires c κs = search needs
 
--- src/lib.rt:138:1
 same-length : tie.Need-same-length
 same-length c = search needs
 
--- src/lib.rt:138:1
 returns-2 : tie.Need-returns-2
 returns-2 c = search outputs
 

@@ -8,19 +8,15 @@ use Rattle.explain.proofs.line_len.Lts as lts
 use Rattle.explain.proofs.accepted_len.Reads as accepted-len-reads
 use Rattle.explain.proofs.refused_len.Reads as refused-len-reads
 
--- src/lib.rt:88:9
 accepted-len-requires : tie.Need-accepted-len-requires
 accepted-len-requires c κs = search needs
 
--- src/lib.rt:88:9
 returns : tie.Need-returns
 returns c = search (lines, needs)
 
--- src/lib.rt:90:5
 refused-len-requires : tie.Need-refused-len-requires
 refused-len-requires c κs = search needs
 
--- src/lib.rt:84:1
 returns-2 : tie.Need-returns-2
 returns-2 c = search (lines, needs)
 

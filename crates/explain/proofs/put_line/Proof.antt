@@ -8,27 +8,21 @@ use Rattle.explain.proofs.put_line.Lts as lts
 use Rattle.explain.proofs.put_accepted.Reads as put-accepted-reads
 use Rattle.explain.proofs.put_refused.Reads as put-refused-reads
 
--- src/lib.rt:129:9
 put-accepted-requires : tie.Need-put-accepted-requires
 put-accepted-requires c κs = search (lines, needs)
 
--- src/lib.rt:129:9
 same-length : tie.Need-same-length
 same-length c = search needs
 
--- src/lib.rt:129:9
 returns : tie.Need-returns
 returns c = search lines
 
--- src/lib.rt:131:5
 put-refused-requires : tie.Need-put-refused-requires
 put-refused-requires c κs = search (lines, needs)
 
--- src/lib.rt:124:1
 same-length-2 : tie.Need-same-length-2
 same-length-2 c = search needs
 
--- src/lib.rt:124:1
 returns-2 : tie.Need-returns-2
 returns-2 c = search lines
 

@@ -8,39 +8,30 @@ use Rattle.explain.proofs.put_refused.Lts as lts
 use Rattle.explain.proofs.put_said.Reads as put-said-reads
 use Rattle.put.proofs.put_byte.Reads as put-byte-reads
 
--- src/lib.rt:107:31
 slice-aggregate-put-said : tie.Need-slice-aggregate-put-said
 slice-aggregate-put-said c = search needs
 
--- src/lib.rt:107:9
 put-said-requires : tie.Need-put-said-requires
 put-said-requires c κs = search (refusals, needs)
 
--- src/lib.rt:108:30
 slice-aggregate-put-said-2 : tie.Need-slice-aggregate-put-said-2
 slice-aggregate-put-said-2 c = search needs
 
--- src/lib.rt:108:9
 put-said-requires-2 : tie.Need-put-said-requires-2
 put-said-requires-2 c κs = search (refusals, needs)
 
--- src/lib.rt:109:30
 slice-aggregate-put-said-3 : tie.Need-slice-aggregate-put-said-3
 slice-aggregate-put-said-3 c = search needs
 
--- src/lib.rt:109:9
 put-said-requires-3 : tie.Need-put-said-requires-3
 put-said-requires-3 c κs = search (refusals, needs)
 
--- src/lib.rt:110:5
 put-byte-requires : tie.Need-put-byte-requires
 put-byte-requires c κs = search refused-end
 
--- src/lib.rt:103:1
 same-length : tie.Need-same-length
 same-length c = search needs
 
--- src/lib.rt:103:1
 returns : tie.Need-returns
 returns c = search refusals
 

@@ -8,19 +8,15 @@ use Rattle.explain.proofs.put_said.Lts as lts
 use Rattle.numeral.proofs.put_number.Reads as put-number-reads
 use Rattle.put.proofs.put_bytes.Reads as put-bytes-reads
 
--- src/lib.rt:98:9
 put-bytes-requires : tie.Need-put-bytes-requires
 put-bytes-requires c κs = search (rooms, needs)
 
--- src/lib.rt:99:5
 put-number-requires : tie.Need-put-number-requires
 put-number-requires c κs = search (rooms, needs)
 
--- src/lib.rt:94:1
 same-length : tie.Need-same-length
 same-length c = search needs
 
--- src/lib.rt:94:1
 returns : tie.Need-returns
 returns c = search rooms
 

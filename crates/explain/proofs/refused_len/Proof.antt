@@ -7,31 +7,24 @@ use Rattle.explain.proofs.refused_len.Reads as reads
 use Rattle.explain.proofs.refused_len.Lts as lts
 use Rattle.numeral.proofs.width.Reads as width-reads
 
--- src/lib.rt:73:10
 width-requires : tie.Need-width-requires
 width-requires c κs = search needs
 
--- src/lib.rt:73:5
 add-result : tie.Need-add-result
 add-result c = search needs
 
--- src/lib.rt:73:35
 width-requires-2 : tie.Need-width-requires-2
 width-requires-2 c κs = search needs
 
--- src/lib.rt:73:5
 add-result-2 : tie.Need-add-result-2
 add-result-2 c = search needs
 
--- src/lib.rt:73:58
 width-requires-3 : tie.Need-width-requires-3
 width-requires-3 c κs = search needs
 
--- src/lib.rt:73:5
 add-result-3 : tie.Need-add-result-3
 add-result-3 c = search needs
 
--- src/lib.rt:70:1
 returns : tie.Need-returns
 returns c = search (refusals, needs)
 

@@ -8,27 +8,21 @@ use Rattle.explain.proofs.verdict_for.Lts as lts
 use Rattle.explain.proofs.verdict_on.Reads as verdict-on-reads
 use Rattle.sheet.proofs.sheet_of.Reads as sheet-of-reads
 
--- src/lib.rt:61:11
 sheet-of-requires : tie.Need-sheet-of-requires
 sheet-of-requires c κs = search needs
 
--- src/lib.rt:62:22
 enum-known-sh : tie.Need-enum-known-sh
 enum-known-sh c = search needs
 
--- src/lib.rt:62:29
 verdict-on-requires : tie.Need-verdict-on-requires
 verdict-on-requires c κs = search (sheets, needs)
 
--- src/lib.rt:63:27
 enum-told : tie.Need-enum-told
 enum-told c = search needs
 
--- src/lib.rt:58:1
 returns : tie.Need-returns
 returns c = search sheets
 
--- src/lib.rt:58:1
 returns-2 : tie.Need-returns-2
 returns-2 c = search sheets
 

@@ -8,31 +8,24 @@ use Rattle.explain.proofs.verdict_on.Lts as lts
 use Rattle.calendar.proofs.real_day.Reads as real-day-reads
 use Rattle.reading.proofs.judge_file.Reads as judge-file-reads
 
--- src/lib.rt:43:8
 real-day-requires : tie.Need-real-day-requires
 real-day-requires c κs = search needs
 
--- src/lib.rt:44:15
 judge-file-requires : tie.Need-judge-file-requires
 judge-file-requires c κs = search (verdicts, needs)
 
--- src/lib.rt:45:29
 enum-known-n : tie.Need-enum-known-n
 enum-known-n c = search needs
 
--- src/lib.rt:48:17
 enum-known-rows : tie.Need-enum-known-rows
 enum-known-rows c = search needs
 
--- src/lib.rt:39:1
 returns : tie.Need-returns
 returns c = search verdicts
 
--- src/lib.rt:39:1
 returns-2 : tie.Need-returns-2
 returns-2 c = search verdicts
 
--- src/lib.rt:39:1
 returns-3 : tie.Need-returns-3
 returns-3 c = search verdicts
 

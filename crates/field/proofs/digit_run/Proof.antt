@@ -16,47 +16,36 @@ Inv-loop s at most stop v₀ i₀ v i = Reads s at most stop v i
 abbrev μ-loop : tie.MeasureT-loop
 μ-loop s at most stop v₀ i₀ v i = stop - i
 
--- src/lib.rt:43:9
 stop-of-requires : tie.Need-stop-of-requires Inv-loop μ-loop
 stop-of-requires c κs = search (turns, needs)
 
--- src/lib.rt:46:5
 loop-holds : tie.Need-loop-holds Inv-loop μ-loop
 loop-holds c = search (turns, needs)
 
--- src/lib.rt:47:23
 shared-slice-read-worth : tie.Need-shared-slice-read-worth Inv-loop μ-loop
 shared-slice-read-worth c = search (turns, needs)
 
--- src/lib.rt:47:13
 worth-requires : tie.Need-worth-requires Inv-loop μ-loop
 worth-requires c κs = search needs
 
--- src/lib.rt:49:13
 returns : tie.Need-returns Inv-loop μ-loop
 returns c = search turns
 
--- src/lib.rt:51:13
 mul-v : tie.Need-mul-v Inv-loop μ-loop
 mul-v c = search (turns, needs)
 
--- src/lib.rt:51:13
 add-v : tie.Need-add-v Inv-loop μ-loop
 add-v c = search (turns, needs)
 
--- src/lib.rt:52:9
 add-i : tie.Need-add-i Inv-loop μ-loop
 add-i c = search (turns, needs)
 
--- src/lib.rt:46:5
 loop-less : tie.Need-loop-less Inv-loop μ-loop
 loop-less c = search (turns, needs)
 
--- src/lib.rt:46:5
 loop-again : tie.Need-loop-again Inv-loop μ-loop
 loop-again c = search (turns, needs)
 
--- src/lib.rt:39:1
 returns-2 : tie.Need-returns-2 Inv-loop μ-loop
 returns-2 c = search turns
 

@@ -6,15 +6,12 @@ use Rattle.field.proofs.ends.Tie as tie
 use Rattle.field.proofs.ends.Reads as reads
 use Rattle.field.proofs.ends.Lts as lts
 
--- src/lib.rt:59:9
 returns : tie.Need-returns
 returns c = search stops
 
--- src/lib.rt:61:5
 shared-slice-read-result : tie.Need-shared-slice-read-result
 shared-slice-read-result c = search needs
 
--- src/lib.rt:54:1
 returns-2 : tie.Need-returns-2
 returns-2 c = search stops
 

@@ -8,27 +8,21 @@ use Rattle.field.proofs.number_at.Lts as lts
 use Rattle.field.proofs.digit_run.Reads as digit-run-reads
 use Rattle.field.proofs.ends.Reads as ends-reads
 
--- src/lib.rt:75:9
 digit-run-requires : tie.Need-digit-run-requires
 digit-run-requires c κs = search needs
 
--- src/lib.rt:77:8
 ends-requires : tie.Need-ends-requires
 ends-requires c κs = search (numbers, needs)
 
--- src/lib.rt:78:12
 sub-if2 : tie.Need-sub-if2
 sub-if2 c = search needs
 
--- src/lib.rt:79:13
 returns : tie.Need-returns
 returns c = search numbers
 
--- src/lib.rt:81:9
 returns-2 : tie.Need-returns-2
 returns-2 c = search numbers
 
--- src/lib.rt:71:1
 returns-3 : tie.Need-returns-3
 returns-3 c = search numbers
 

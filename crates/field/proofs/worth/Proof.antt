@@ -8,11 +8,9 @@ use Rattle.field.proofs.worth.Reads as reads
 use Rattle.field.proofs.worth.Lts as lts
 use Rattle.std.proofs.num.wrapping_sub_u64.Reads as wrapping-sub-u64-reads
 
--- src/lib.rt:35:5
 wrapping-sub-u64-requires : tie.Need-wrapping-sub-u64-requires
 wrapping-sub-u64-requires c κs = search needs
 
--- src/lib.rt:32:1
 returns : tie.Need-returns
 returns c = record { digit = search needs; other = λ h. no-digit _ (λ l. omega arith) }
 

@@ -14,43 +14,33 @@ use Rattle.field_account.proofs.sum_run.Reads as sum-run-reads
 use Rattle.field_account.proofs.whole_account.Reads as whole-account-reads
 use Rattle.field_account.proofs.with_base.Reads as with-base-reads
 
--- src/lib.rt:152:9
 sum-run-requires : tie.Need-sum-run-requires
 sum-run-requires c κs = search needs
 
--- src/lib.rt:154:8
 ends-requires : tie.Need-ends-requires
 ends-requires c κs = search (numbers, smalls, needs)
 
--- src/lib.rt:155:42
 sub-plain : tie.Need-sub-plain
 sub-plain c = search needs
 
--- src/lib.rt:155:9
 plain-requires : tie.Need-plain-requires
 plain-requires c κs = search (numbers, smalls, needs)
 
--- src/lib.rt:155:9
 returns : tie.Need-returns
 returns c = search exits
 
--- src/lib.rt:157:8
 has-prefix-requires : tie.Need-has-prefix-requires
 has-prefix-requires c κs = search (numbers, smalls, needs)
 
--- src/lib.rt:158:9
 with-base-requires : tie.Need-with-base-requires
 with-base-requires c κs = search (numbers, smalls, needs)
 
--- src/lib.rt:158:9
 returns-2 : tie.Need-returns-2
 returns-2 c = search exits
 
--- src/lib.rt:160:5
 whole-account-requires : tie.Need-whole-account-requires
 whole-account-requires c κs = search needs
 
--- src/lib.rt:148:1
 returns-3 : tie.Need-returns-3
 returns-3 c = search needs
 

@@ -8,16 +8,13 @@ use Rattle.field_account.proofs.by_rule.Reads as reads
 use Rattle.field_account.proofs.by_rule.Lts as lts
 use Rattle.account.proofs.account_ok.Reads as account-ok-reads
 
--- src/lib.rt:22:8
 account-ok-requires : tie.Need-account-ok-requires
 account-ok-requires c κs = search needs
 
--- src/lib.rt:23:9
 returns : tie.Need-returns
 unfolding ruled
 returns c = search onwards
 
--- src/lib.rt:19:1
 returns-2 : tie.Need-returns-2
 unfolding ruled
 returns-2 c = search onwards

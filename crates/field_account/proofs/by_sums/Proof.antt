@@ -9,16 +9,13 @@ use Rattle.field_account.proofs.by_sums.Reads as reads
 use Rattle.field_account.proofs.by_sums.Lts as lts
 use Rattle.account.proofs.sums_ok.Reads as sums-ok-reads
 
--- src/lib.rt:80:8
 sums-ok-requires : tie.Need-sums-ok-requires
 sums-ok-requires c κs = search needs
 
--- src/lib.rt:81:9
 returns : tie.Need-returns
 unfolding ruled
 returns c = search (onwards, rule-by-sums)
 
--- src/lib.rt:76:1
 returns-2 : tie.Need-returns-2
 unfolding ruled
 returns-2 c = search (onwards, rule-by-sums)

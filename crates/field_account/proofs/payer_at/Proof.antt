@@ -9,39 +9,30 @@ use Rattle.field_account.proofs.payer_at.Lts as lts
 use Rattle.account.proofs.read_payer.Reads as read-payer-reads
 use Rattle.line.proofs.field_end.Reads as field-end-reads
 
--- src/lib.rt:103:9
 field-end-requires : tie.Need-field-end-requires
 field-end-requires c κs = search needs
 
--- src/lib.rt:104:31
 sub-read-payer : tie.Need-sub-read-payer
 sub-read-payer c = search needs
 
--- src/lib.rt:104:31
 part-read-payer-start : tie.Need-part-read-payer-start
 part-read-payer-start c = search needs
 
--- src/lib.rt:104:31
 part-read-payer-end : tie.Need-part-read-payer-end
 part-read-payer-end c = search (end-within, needs)
 
--- src/lib.rt:104:11
 read-payer-requires : tie.Need-read-payer-requires
 read-payer-requires c κs = search needs
 
--- src/lib.rt:105:23
 enum-known-prefix : tie.Need-enum-known-prefix
 enum-known-prefix c = search needs
 
--- src/lib.rt:106:23
 enum-known-n : tie.Need-enum-known-n
 enum-known-n c = search needs
 
--- src/lib.rt:99:1
 returns : tie.Need-returns
 returns c = search exits
 
--- src/lib.rt:99:1
 returns-2 : tie.Need-returns-2
 returns-2 c = search exits
 

@@ -10,30 +10,24 @@ use Rattle.field_account.proofs.plain.Lts as lts
 use Rattle.field_account.proofs.by_rule.Reads as by-rule-reads
 use Rattle.field_account.proofs.by_sums.Reads as by-sums-reads
 
--- src/lib.rt:93:13
 by-rule-requires : tie.Need-by-rule-requires
 by-rule-requires c κs = search needs
 
--- src/lib.rt:93:13
 returns : tie.Need-returns
 unfolding undashed
 returns c = search onwards
 
--- src/lib.rt:95:9
 returns-2 : tie.Need-returns-2
 unfolding undashed
 returns-2 c = search onwards
 
--- src/lib.rt:98:9
 returns-3 : tie.Need-returns-3
 unfolding undashed
 returns-3 c = search onwards
 
--- src/lib.rt:100:5
 by-sums-requires : tie.Need-by-sums-requires
 by-sums-requires c κs = search (smalls, needs)
 
--- src/lib.rt:87:1
 returns-4 : tie.Need-returns-4
 unfolding undashed
 returns-4 c = search onwards

@@ -19,55 +19,42 @@ Inv-loop s at most stop v₀ sum₀ i₀ v sum i = Reads s at most stop v i × (
 abbrev μ-loop : tie.MeasureT-loop
 μ-loop s at most stop v₀ sum₀ i₀ v sum i = stop - i
 
--- src/lib.rt:34:9
 stop-of-requires : tie.Need-stop-of-requires Inv-loop μ-loop
 stop-of-requires c κs = search (turns, sums, needs)
 
--- src/lib.rt:38:5
 loop-holds : tie.Need-loop-holds Inv-loop μ-loop
 loop-holds c = search (turns, sums, needs)
 
--- src/lib.rt:39:17
 shared-slice-read-worth : tie.Need-shared-slice-read-worth Inv-loop μ-loop
 shared-slice-read-worth c = search (turns, sums, needs)
 
--- src/lib.rt:41:13
 worth-requires : tie.Need-worth-requires Inv-loop μ-loop
 worth-requires c κs = search needs
 
--- src/lib.rt:41:13
 returns : tie.Need-returns Inv-loop μ-loop
 returns c = search (turns, sums)
 
--- src/lib.rt:54:13
 mul-v : tie.Need-mul-v Inv-loop μ-loop
 mul-v c = search (turns, sums, needs)
 
--- src/lib.rt:54:13
 add-v : tie.Need-add-v Inv-loop μ-loop
 add-v c = search (turns, sums, needs)
 
--- src/lib.rt:55:15
 mul-sum : tie.Need-mul-sum Inv-loop μ-loop
 mul-sum c = search (turns, sums, needs)
 
--- src/lib.rt:55:15
 add-sum : tie.Need-add-sum Inv-loop μ-loop
 add-sum c = search (turns, sums, needs)
 
--- src/lib.rt:56:9
 add-i : tie.Need-add-i Inv-loop μ-loop
 add-i c = search (turns, sums, needs)
 
--- src/lib.rt:38:5
 loop-less : tie.Need-loop-less Inv-loop μ-loop
 loop-less c = search (turns, sums, needs)
 
--- src/lib.rt:38:5
 loop-again : tie.Need-loop-again Inv-loop μ-loop
 loop-again c = search (turns, sums, needs)
 
--- src/lib.rt:30:1
 returns-2 : tie.Need-returns-2 Inv-loop μ-loop
 returns-2 c = search (turns, sums)
 

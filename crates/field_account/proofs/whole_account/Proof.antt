@@ -9,39 +9,30 @@ use Rattle.field_account.proofs.whole_account.Lts as lts
 use Rattle.account.proofs.read_account.Reads as read-account-reads
 use Rattle.line.proofs.field_end.Reads as field-end-reads
 
--- src/lib.rt:75:9
 field-end-requires : tie.Need-field-end-requires
 field-end-requires c κs = search needs
 
--- src/lib.rt:76:33
 sub-read-account : tie.Need-sub-read-account
 sub-read-account c = search needs
 
--- src/lib.rt:76:33
 part-read-account-start : tie.Need-part-read-account-start
 part-read-account-start c = search needs
 
--- src/lib.rt:76:33
 part-read-account-end : tie.Need-part-read-account-end
 part-read-account-end c = search (end-within, needs)
 
--- src/lib.rt:76:11
 read-account-requires : tie.Need-read-account-requires
 read-account-requires c κs = search needs
 
--- src/lib.rt:77:23
 enum-known-prefix : tie.Need-enum-known-prefix
 enum-known-prefix c = search needs
 
--- src/lib.rt:78:23
 enum-known-n : tie.Need-enum-known-n
 enum-known-n c = search needs
 
--- src/lib.rt:71:1
 returns : tie.Need-returns
 returns c = search exits
 
--- src/lib.rt:71:1
 returns-2 : tie.Need-returns-2
 returns-2 c = search exits
 

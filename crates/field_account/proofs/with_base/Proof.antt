@@ -11,35 +11,27 @@ use Rattle.field.proofs.ends.Reads as ends-reads
 use Rattle.field_account.proofs.by_sums.Reads as by-sums-reads
 use Rattle.field_account.proofs.sum_run.Reads as sum-run-reads
 
--- src/lib.rt:108:16
 add-from : tie.Need-add-from
 add-from c = search needs
 
--- src/lib.rt:109:9
 sum-run-requires : tie.Need-sum-run-requires
 sum-run-requires c κs = search needs
 
--- src/lib.rt:111:8
 ends-requires : tie.Need-ends-requires
 ends-requires c κs = search (numbers, smalls, needs)
 
--- src/lib.rt:112:12
 sub-if2 : tie.Need-sub-if2
 sub-if2 c = search needs
 
--- src/lib.rt:113:13
 returns : tie.Need-returns
 returns c = search exits
 
--- src/lib.rt:115:9
 by-sums-requires : tie.Need-by-sums-requires
 by-sums-requires c κs = search (numbers, smalls, needs)
 
--- src/lib.rt:115:9
 returns-2 : tie.Need-returns-2
 returns-2 c = search exits
 
--- src/lib.rt:104:1
 returns-3 : tie.Need-returns-3
 returns-3 c = search exits
 

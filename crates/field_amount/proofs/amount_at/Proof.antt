@@ -9,31 +9,24 @@ use Rattle.field.proofs.number_at.Reads as number-at-reads
 use Rattle.field_amount.proofs.in_limit.Reads as in-limit-reads
 use Rattle.field_amount.proofs.whole_amount.Reads as whole-amount-reads
 
--- src/lib.rt:40:32
 number-at-requires : tie.Need-number-at-requires
 number-at-requires c κs = search needs
 
--- src/lib.rt:40:22
 enum-known-v : tie.Need-enum-known-v
 enum-known-v c = search needs
 
--- src/lib.rt:41:9
 enum-told : tie.Need-enum-told
 enum-told c = search needs
 
--- src/lib.rt:41:9
 whole-amount-requires : tie.Need-whole-amount-requires
 whole-amount-requires c κs = search needs
 
--- src/lib.rt:41:9
 returns : tie.Need-returns
 returns c = search needs
 
--- src/lib.rt:43:5
 in-limit-requires : tie.Need-in-limit-requires
 in-limit-requires c κs = search needs
 
--- src/lib.rt:36:1
 returns-2 : tie.Need-returns-2
 returns-2 c = search digits-amount
 

@@ -7,15 +7,12 @@ use Rattle.field_amount.proofs.in_limit.Reads as reads
 use Rattle.field_amount.proofs.in_limit.Lts as lts
 use Rattle.amount.proofs.amount_proper.Reads as amount-proper-reads
 
--- src/lib.rt:17:8
 amount-proper-requires : tie.Need-amount-proper-requires
 amount-proper-requires c κs = search needs
 
--- src/lib.rt:18:9
 returns : tie.Need-returns
 returns c = search onwards
 
--- src/lib.rt:14:1
 returns-2 : tie.Need-returns-2
 returns-2 c = search onwards
 

@@ -9,39 +9,30 @@ use Rattle.field_amount.proofs.total_at.Lts as lts
 use Rattle.amount.proofs.read_total.Reads as read-total-reads
 use Rattle.line.proofs.field_end.Reads as field-end-reads
 
--- src/lib.rt:51:9
 field-end-requires : tie.Need-field-end-requires
 field-end-requires c κs = search needs
 
--- src/lib.rt:52:30
 sub-read-total : tie.Need-sub-read-total
 sub-read-total c = search needs
 
--- src/lib.rt:52:30
 part-read-total-start : tie.Need-part-read-total-start
 part-read-total-start c = search needs
 
--- src/lib.rt:52:30
 part-read-total-end : tie.Need-part-read-total-end
 part-read-total-end c = search (end-within, needs)
 
--- src/lib.rt:52:11
 read-total-requires : tie.Need-read-total-requires
 read-total-requires c κs = search needs
 
--- src/lib.rt:53:20
 enum-known-total : tie.Need-enum-known-total
 enum-known-total c = search needs
 
--- src/lib.rt:54:22
 enum-known-n : tie.Need-enum-known-n
 enum-known-n c = search needs
 
--- src/lib.rt:47:1
 returns : tie.Need-returns
 returns c = search wholes
 
--- src/lib.rt:47:1
 returns-2 : tie.Need-returns-2
 returns-2 c = search wholes
 

@@ -9,35 +9,27 @@ use Rattle.field_bank.proofs.bank_at.Lts as lts
 use Rattle.field.proofs.number_at.Reads as number-at-reads
 use Rattle.field_bank.proofs.by_ninth.Reads as by-ninth-reads
 
--- src/lib.rt:46:11
 number-at-requires : tie.Need-number-at-requires
 number-at-requires c κs = search needs
 
--- src/lib.rt:47:22
 enum-known-n : tie.Need-enum-known-n
 enum-known-n c = search needs
 
--- src/lib.rt:50:17
 returns : tie.Need-returns
 returns c = search (bank-field, onwards)
 
--- src/lib.rt:53:17
 returns-2 : tie.Need-returns-2
 returns-2 c = search (bank-field, onwards)
 
--- src/lib.rt:55:13
 by-ninth-requires : tie.Need-by-ninth-requires
 by-ninth-requires c κs = search needs
 
--- src/lib.rt:57:24
 enum-known-c : tie.Need-enum-known-c
 enum-known-c c = search needs
 
--- src/lib.rt:42:1
 returns-3 : tie.Need-returns-3
 returns-3 c = search (bank-field, onwards)
 
--- src/lib.rt:42:1
 returns-4 : tie.Need-returns-4
 returns-4 c = search (bank-field, onwards)
 

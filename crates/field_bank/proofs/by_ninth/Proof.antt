@@ -6,23 +6,18 @@ use Rattle.field_bank.proofs.by_ninth.Tie as tie
 use Rattle.field_bank.proofs.by_ninth.Reads as reads
 use Rattle.field_bank.proofs.by_ninth.Lts as lts
 
--- src/lib.rt:28:13
 returns : tie.Need-returns
 returns c = search ranks
 
--- src/lib.rt:31:13
 returns-2 : tie.Need-returns-2
 returns-2 c = search ranks
 
--- src/lib.rt:33:9
 returns-3 : tie.Need-returns-3
 returns-3 c = search ranks
 
--- src/lib.rt:36:9
 returns-4 : tie.Need-returns-4
 returns-4 c = search ranks
 
--- src/lib.rt:23:1
 returns-5 : tie.Need-returns-5
 returns-5 c = search ranks
 

@@ -9,39 +9,30 @@ use Rattle.field_day.proofs.due_at.Lts as lts
 use Rattle.calendar.proofs.read_due.Reads as read-due-reads
 use Rattle.line.proofs.field_end.Reads as field-end-reads
 
--- src/lib.rt:18:9
 field-end-requires : tie.Need-field-end-requires
 field-end-requires c κs = search needs
 
--- src/lib.rt:19:30
 sub-read-due : tie.Need-sub-read-due
 sub-read-due c = search needs
 
--- src/lib.rt:19:30
 part-read-due-start : tie.Need-part-read-due-start
 part-read-due-start c = search needs
 
--- src/lib.rt:19:30
 part-read-due-end : tie.Need-part-read-due-end
 part-read-due-end c = search (end-within, needs)
 
--- src/lib.rt:19:11
 read-due-requires : tie.Need-read-due-requires
 read-due-requires c κs = search needs
 
--- src/lib.rt:20:20
 enum-known-d : tie.Need-enum-known-d
 enum-known-d c = search needs
 
--- src/lib.rt:21:22
 enum-known-n : tie.Need-enum-known-n
 enum-known-n c = search needs
 
--- src/lib.rt:13:1
 returns : tie.Need-returns
 returns c = search wholes
 
--- src/lib.rt:13:1
 returns-2 : tie.Need-returns-2
 returns-2 c = search wholes
 

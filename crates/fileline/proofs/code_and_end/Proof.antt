@@ -7,27 +7,21 @@ use Rattle.fileline.proofs.code_and_end.Reads as reads
 use Rattle.fileline.proofs.code_and_end.Lts as lts
 use Rattle.fileline.proofs.code_at.Reads as code-at-reads
 
--- src/lib.rt:92:11
 code-at-requires : tie.Need-code-at-requires
 code-at-requires c κs = search needs
 
--- src/lib.rt:93:24
 enum-known-c : tie.Need-enum-known-c
 enum-known-c c = search needs
 
--- src/lib.rt:94:22
 enum-known-code : tie.Need-enum-known-code
 enum-known-code c = search needs
 
--- src/lib.rt:96:17
 returns : tie.Need-returns
 returns c = search steps depth 12
 
--- src/lib.rt:88:1
 returns-2 : tie.Need-returns-2
 returns-2 c = search steps depth 12
 
--- src/lib.rt:88:1
 returns-3 : tie.Need-returns-3
 returns-3 c = search steps depth 12
 

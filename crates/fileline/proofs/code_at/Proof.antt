@@ -9,31 +9,24 @@ use Rattle.fileline.proofs.code_at.Lts as lts
 use Rattle.field.proofs.number_at.Reads as number-at-reads
 use Rattle.sheet.proofs.Sheet.bank_allowed.Reads as bank-allowed-reads
 
--- src/lib.rt:39:11
 number-at-requires : tie.Need-number-at-requires
 number-at-requires c κs = search needs
 
--- src/lib.rt:40:22
 enum-known-code : tie.Need-enum-known-code
 enum-known-code c = search needs
 
--- src/lib.rt:40:39
 bank-allowed-requires : tie.Need-bank-allowed-requires
 bank-allowed-requires c κs = search needs
 
--- src/lib.rt:45:24
 enum-known-c : tie.Need-enum-known-c
 enum-known-c c = search needs
 
--- src/lib.rt:35:1
 returns : tie.Need-returns
 returns c = search (fields, onwards)
 
--- src/lib.rt:35:1
 returns-2 : tie.Need-returns-2
 returns-2 c = search (fields, onwards)
 
--- src/lib.rt:35:1
 returns-3 : tie.Need-returns-3
 returns-3 c = search (fields, onwards)
 

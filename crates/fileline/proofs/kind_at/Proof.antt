@@ -9,31 +9,24 @@ use Rattle.fileline.proofs.kind_at.Lts as lts
 use Rattle.field.proofs.number_at.Reads as number-at-reads
 use Rattle.sheet.proofs.Sheet.kind_allowed.Reads as kind-allowed-reads
 
--- src/lib.rt:24:11
 number-at-requires : tie.Need-number-at-requires
 number-at-requires c κs = search needs
 
--- src/lib.rt:25:22
 enum-known-kind : tie.Need-enum-known-kind
 enum-known-kind c = search needs
 
--- src/lib.rt:25:39
 kind-allowed-requires : tie.Need-kind-allowed-requires
 kind-allowed-requires c κs = search needs
 
--- src/lib.rt:30:24
 enum-known-c : tie.Need-enum-known-c
 enum-known-c c = search needs
 
--- src/lib.rt:20:1
 returns : tie.Need-returns
 returns c = search (fields, onwards)
 
--- src/lib.rt:20:1
 returns-2 : tie.Need-returns-2
 returns-2 c = search (fields, onwards)
 
--- src/lib.rt:20:1
 returns-3 : tie.Need-returns-3
 returns-3 c = search (fields, onwards)
 

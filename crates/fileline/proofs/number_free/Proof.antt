@@ -8,31 +8,25 @@ use Rattle.fileline.proofs.number_free.Reads as reads
 use Rattle.fileline.proofs.number_free.Lts as lts
 use Rattle.seen.proofs.Seen.has.Reads as has-reads
 
--- src/lib.rt:58:13
 returns : tie.Need-returns
 unfolding numberFree
 returns c = search picks depth 8
 
--- src/lib.rt:61:13
 returns-2 : tie.Need-returns-2
 unfolding numberFree
 returns-2 c = search picks depth 8
 
--- src/lib.rt:63:12
 has-requires : tie.Need-has-requires
 has-requires c κs = search needs
 
--- src/lib.rt:64:13
 returns-3 : tie.Need-returns-3
 unfolding numberFree
 returns-3 c = search picks depth 8
 
--- src/lib.rt:66:9
 returns-4 : tie.Need-returns-4
 unfolding numberFree
 returns-4 c = search picks depth 8
 
--- src/lib.rt:51:1
 returns-5 : tie.Need-returns-5
 unfolding numberFree
 returns-5 c = search picks depth 8

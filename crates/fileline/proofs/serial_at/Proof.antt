@@ -9,31 +9,24 @@ use Rattle.fileline.proofs.serial_at.Lts as lts
 use Rattle.field.proofs.number_at.Reads as number-at-reads
 use Rattle.fileline.proofs.number_free.Reads as number-free-reads
 
--- src/lib.rt:76:11
 number-at-requires : tie.Need-number-at-requires
 number-at-requires c κs = search needs
 
--- src/lib.rt:77:22
 enum-known-n : tie.Need-enum-known-n
 enum-known-n c = search needs
 
--- src/lib.rt:77:36
 number-free-requires : tie.Need-number-free-requires
 number-free-requires c κs = search (serial-below, needs)
 
--- src/lib.rt:82:24
 enum-known-c : tie.Need-enum-known-c
 enum-known-c c = search needs
 
--- src/lib.rt:72:1
 returns : tie.Need-returns
 returns c = search (fields, onwards)
 
--- src/lib.rt:72:1
 returns-2 : tie.Need-returns-2
 returns-2 c = search (fields, onwards)
 
--- src/lib.rt:72:1
 returns-3 : tie.Need-returns-3
 returns-3 c = search (fields, onwards)
 

@@ -1,3 +1,4 @@
+-- `fill_line`: the row of a line that was judged before, put where it goes. Assumes nothing.
 use borrow.Author.Needs.{needs}
 use Rattle.filling.proofs.Said.{file-long, group-long}
 use Rattle.filling.proofs.Put.{judged-item, room-file, room-group, room-item, reach-item, step-head, step-group-end, step-file-end, step-file-no, step-file, step-group-no, step-group, step-item}
@@ -16,127 +17,96 @@ use Rattle.row.proofs.put_group_row.Reads as put-group-row-reads
 use Rattle.seen.proofs.Seen.none.Reads as none-reads
 use Rattle.takeitem.proofs.take_item.Reads as take-item-reads
 
--- src/lib.rt:54:11
 kind-of-requires : tie.Need-kind-of-requires
 kind-of-requires c κs = search needs
 
--- src/lib.rt:56:41
 enum-told : tie.Need-enum-told
 enum-told c = search needs
 
--- src/lib.rt:56:53
 take-item-requires : tie.Need-take-item-requires
 take-item-requires c κs = search (judged-item, needs)
 
--- src/lib.rt:56:19
 put-item-row-requires : tie.Need-put-item-row-requires
 put-item-row-requires c κs = search (room-item, reach-item, needs)
 
--- src/lib.rt:59:34
 enum-told-2 : tie.Need-enum-told-2
 enum-told-2 c = search needs
 
--- src/lib.rt:59:34
 group-line-requires : tie.Need-group-line-requires
 group-line-requires c κs = search (group-long, needs)
 
--- src/lib.rt:61:17
 enum-known-prefix : tie.Need-enum-known-prefix
 enum-known-prefix c = search needs
 
--- src/lib.rt:66:23
 put-group-row-requires : tie.Need-put-group-row-requires
 put-group-row-requires c κs = search (room-group, needs)
 
--- src/lib.rt:67:25
 is-nobody-requires : tie.Need-is-nobody-requires
 is-nobody-requires c κs = search needs
 
--- src/lib.rt:69:41
 enum-told-3 : tie.Need-enum-told-3
 enum-told-3 c = search needs
 
--- src/lib.rt:71:56
 enum-told-4 : tie.Need-enum-told-4
 enum-told-4 c = search needs
 
--- src/lib.rt:71:56
 any-number-requires : tie.Need-any-number-requires
 any-number-requires c κs = search needs
 
--- src/lib.rt:71:78
 none-requires : tie.Need-none-requires
 none-requires c κs = search needs
 
--- src/lib.rt:71:33
 file-line-requires : tie.Need-file-line-requires
 file-line-requires c κs = search (file-long, needs)
 
--- src/lib.rt:72:30
 enum-known-kind : tie.Need-enum-known-kind
 enum-known-kind c = search needs
 
--- src/lib.rt:73:23
 put-file-row-requires : tie.Need-put-file-row-requires
 put-file-row-requires c κs = search (room-file, needs)
 
--- src/lib.rt:76:40
 enum-told-5 : tie.Need-enum-told-5
 enum-told-5 c = search needs
 
--- src/lib.rt:78:27
 enum-told-6 : tie.Need-enum-told-6
 enum-told-6 c = search needs
 
--- src/lib.rt:79:31
 enum-told-7 : tie.Need-enum-told-7
 enum-told-7 c = search needs
 
--- src/lib.rt:80:30
 enum-told-8 : tie.Need-enum-told-8
 enum-told-8 c = search needs
 
--- src/lib.rt:38:1
 same-length : tie.Need-same-length
 same-length c = search needs
 
--- src/lib.rt:38:1
 returns : tie.Need-returns
 returns c = search step-item
 
--- src/lib.rt:38:1
 same-length-2 : tie.Need-same-length-2
 same-length-2 c = search needs
 
--- src/lib.rt:38:1
 returns-2 : tie.Need-returns-2
 returns-2 c = search step-group
 
--- src/lib.rt:38:1
 returns-3 : tie.Need-returns-3
 returns-3 c = search step-group-no
 
--- src/lib.rt:38:1
 same-length-3 : tie.Need-same-length-3
 same-length-3 c = search needs
 
--- src/lib.rt:38:1
 returns-4 : tie.Need-returns-4
 returns-4 c = search step-file
 
--- src/lib.rt:38:1
 returns-5 : tie.Need-returns-5
 returns-5 c = search step-file-no
 
--- src/lib.rt:38:1
 returns-6 : tie.Need-returns-6
 returns-6 c = search step-head
 
--- src/lib.rt:38:1
 returns-7 : tie.Need-returns-7
 returns-7 c = search step-group-end
 
--- src/lib.rt:38:1
 returns-8 : tie.Need-returns-8
 returns-8 c = search step-file-end
 

@@ -1,3 +1,4 @@
+-- `fill_rows`: line after line the rows stand in front of the old bytes. Assumes nothing.
 use Prim.Native.Nat.{_-_, _≤_}
 use native.Mathlib.Omega.{arith}
 use lib.ListN.{length}

@@ -8,15 +8,12 @@ use Rattle.firstline.proofs.first_line.Reads as reads
 use Rattle.firstline.proofs.first_line.Lts as lts
 use Rattle.firstline.proofs.read_date.Reads as read-date-reads
 
--- src/lib.rt:31:9
 read-date-requires : tie.Need-read-date-requires
 read-date-requires c κs = search needs
 
--- src/lib.rt:31:9
 returns : tie.Need-returns
 returns c = search firsts
 
--- src/lib.rt:26:1
 returns-2 : tie.Need-returns-2
 unfolding readFirst
 returns-2 c = search firsts

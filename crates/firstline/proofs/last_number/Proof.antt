@@ -8,34 +8,27 @@ use Rattle.firstline.proofs.last_number.Reads as reads
 use Rattle.firstline.proofs.last_number.Lts as lts
 use Rattle.numeral.proofs.read_digits.Reads as read-digits-reads
 
--- src/lib.rt:114:11
 read-digits-requires : tie.Need-read-digits-requires
 read-digits-requires c κs = search needs
 
--- src/lib.rt:115:20
 enum-known-to : tie.Need-enum-known-to
 enum-known-to c = search needs
 
--- src/lib.rt:118:21
 returns : tie.Need-returns
 unfolding readTo
 returns c = search rests
 
--- src/lib.rt:123:22
 enum-known-e : tie.Need-enum-known-e
 enum-known-e c = search needs
 
--- src/lib.rt:111:1
 returns-2 : tie.Need-returns-2
 unfolding readTo
 returns-2 c = search rests
 
--- src/lib.rt:111:1
 returns-3 : tie.Need-returns-3
 unfolding readTo
 returns-3 c = search rests
 
--- src/lib.rt:111:1
 returns-4 : tie.Need-returns-4
 unfolding readTo
 returns-4 c = search rests

@@ -9,45 +9,35 @@ use Rattle.firstline.proofs.read_date.Lts as lts
 use Rattle.calendar.proofs.read_day.Reads as read-day-reads
 use Rattle.firstline.proofs.read_name.Reads as read-name-reads
 
--- src/lib.rt:41:9
 returns : tie.Need-returns
 unfolding onDate
 returns c = search fields
 
--- src/lib.rt:43:30
 sub-read-day : tie.Need-sub-read-day
 sub-read-day c = search needs
 
--- src/lib.rt:43:30
 part-read-day-start : tie.Need-part-read-day-start
 part-read-day-start c = search needs
 
--- src/lib.rt:43:30
 part-read-day-end : tie.Need-part-read-day-end
 part-read-day-end c = search needs
 
--- src/lib.rt:43:11
 read-day-requires : tie.Need-read-day-requires
 read-day-requires c κs = search needs
 
--- src/lib.rt:44:20
 enum-known-date : tie.Need-enum-known-date
 enum-known-date c = search needs
 
--- src/lib.rt:44:29
 read-name-requires : tie.Need-read-name-requires
 read-name-requires c κs = search needs
 
--- src/lib.rt:45:22
 enum-known-e : tie.Need-enum-known-e
 enum-known-e c = search needs
 
--- src/lib.rt:37:1
 returns-2 : tie.Need-returns-2
 unfolding onDate
 returns-2 c = search fields
 
--- src/lib.rt:37:1
 returns-3 : tie.Need-returns-3
 unfolding onDate
 returns-3 c = search fields

@@ -9,45 +9,35 @@ use Rattle.firstline.proofs.read_start.Lts as lts
 use Rattle.firstline.proofs.read_stop.Reads as read-stop-reads
 use Rattle.numeral.proofs.read_digits.Reads as read-digits-reads
 
--- src/lib.rt:83:9
 returns : tie.Need-returns
 unfolding onFrom
 returns c = search fields
 
--- src/lib.rt:85:32
 sub-read-digits : tie.Need-sub-read-digits
 sub-read-digits c = search needs
 
--- src/lib.rt:85:32
 part-read-digits-start : tie.Need-part-read-digits-start
 part-read-digits-start c = search needs
 
--- src/lib.rt:85:32
 part-read-digits-end : tie.Need-part-read-digits-end
 part-read-digits-end c = search needs
 
--- src/lib.rt:85:11
 read-digits-requires : tie.Need-read-digits-requires
 read-digits-requires c κs = search needs
 
--- src/lib.rt:86:20
 enum-known-from : tie.Need-enum-known-from
 enum-known-from c = search needs
 
--- src/lib.rt:86:29
 read-stop-requires : tie.Need-read-stop-requires
 read-stop-requires c κs = search needs
 
--- src/lib.rt:87:22
 enum-known-e : tie.Need-enum-known-e
 enum-known-e c = search needs
 
--- src/lib.rt:78:1
 returns-2 : tie.Need-returns-2
 unfolding onFrom
 returns-2 c = search fields
 
--- src/lib.rt:78:1
 returns-3 : tie.Need-returns-3
 unfolding onFrom
 returns-3 c = search fields

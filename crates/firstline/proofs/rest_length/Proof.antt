@@ -7,22 +7,18 @@ use Rattle.firstline.proofs.rest_length.Tie as tie
 use Rattle.firstline.proofs.rest_length.Reads as reads
 use Rattle.firstline.proofs.rest_length.Lts as lts
 
--- src/lib.rt:143:9
 returns : tie.Need-returns
 unfolding restLength
 returns c = search rests
 
--- src/lib.rt:147:13
 returns-2 : tie.Need-returns-2
 unfolding restLength
 returns-2 c = search rests
 
--- src/lib.rt:149:9
 returns-3 : tie.Need-returns-3
 unfolding restLength
 returns-3 c = search rests
 
--- src/lib.rt:139:1
 returns-4 : tie.Need-returns-4
 unfolding restLength
 returns-4 c = search rests

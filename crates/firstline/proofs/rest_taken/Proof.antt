@@ -8,23 +8,18 @@ use Rattle.firstline.proofs.rest_taken.Lts as lts
 use Rattle.firstline.proofs.rest_length.Reads as rest-length-reads
 use Rattle.seek.proofs.all_text.Reads as all-text-reads
 
--- src/lib.rt:132:20
 sub-rest-length : tie.Need-sub-rest-length
 sub-rest-length c = search needs
 
--- src/lib.rt:132:8
 rest-length-requires : tie.Need-rest-length-requires
 rest-length-requires c κs = search needs
 
--- src/lib.rt:133:9
 all-text-requires : tie.Need-all-text-requires
 all-text-requires c κs = search needs
 
--- src/lib.rt:133:9
 returns : tie.Need-returns
 returns c = search rests
 
--- src/lib.rt:128:1
 returns-2 : tie.Need-returns-2
 returns-2 c = search rests
 

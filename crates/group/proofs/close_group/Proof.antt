@@ -1,3 +1,4 @@
+-- `close_group`: 10 at the total, or a group more. Assumes nothing.
 use borrow.Author.Needs.{needs}
 use native.Mathlib.Omega.{arith}
 use Rattle.group.proofs.Turns.{end-fits, ends}
@@ -8,29 +9,23 @@ use Rattle.group.proofs.close_group.Lts as lts
 use Rattle.group.proofs.total_broken.Reads as total-broken-reads
 use Rattle.group.proofs.total_differs.Reads as total-differs-reads
 
--- src/lib.rt:101:8
 total-broken-requires : tie.Need-total-broken-requires
 total-broken-requires c κs = search needs
 
--- src/lib.rt:102:9
 returns : tie.Need-returns
 returns c = search ends
 
--- src/lib.rt:111:41
 total-differs-requires : tie.Need-total-differs-requires
 total-differs-requires c κs = search needs
 
--- src/lib.rt:111:23
 add-t11 : tie.Need-add-t11
 add-t11 c =
     let start = c .before .before .before .before in
     omega (arith, end-fits (start .args .counts) (start .args .shelf) (start .args .opened) _ (start .pre) (c .before .total-differs .ensures))
 
--- src/lib.rt:115:21
 add-t13 : tie.Need-add-t13
 add-t13 c = search needs
 
--- src/lib.rt:95:1
 returns-2 : tie.Need-returns-2
 returns-2 c = search ends
 

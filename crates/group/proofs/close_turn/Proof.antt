@@ -1,3 +1,4 @@
+-- `close_turn`: a closing line ends a group that has an item. Assumes nothing.
 use borrow.Author.Needs.{needs}
 use native.Mathlib.Omega.{arith}
 use Rattle.group.proofs.Turns.{close-within, closings}
@@ -7,35 +8,27 @@ use Rattle.group.proofs.close_turn.Reads as reads
 use Rattle.group.proofs.close_turn.Lts as lts
 use Rattle.closing.proofs.close_line.Reads as close-line-reads
 
--- src/lib.rt:86:9
 returns : tie.Need-returns
 returns c = search closings
 
--- src/lib.rt:88:31
 sub-close-line : tie.Need-sub-close-line
 sub-close-line c = search needs
 
--- src/lib.rt:88:31
 part-close-line-start : tie.Need-part-close-line-start
 part-close-line-start c = search needs
 
--- src/lib.rt:88:31
 part-close-line-end : tie.Need-part-close-line-end
 part-close-line-end c = search needs
 
--- src/lib.rt:88:11
 close-line-requires : tie.Need-close-line-requires
 close-line-requires c κs = search needs
 
--- src/lib.rt:89:30
 enum-told : tie.Need-enum-told
 enum-told c = search needs
 
--- src/lib.rt:90:28
 enum-known-n : tie.Need-enum-known-n
 enum-known-n c = search needs
 
--- src/lib.rt:90:54
 add-t19 : tie.Need-add-t19
 add-t19 c =
     let start = c .before .before .before .before .before .before .before in
@@ -43,11 +36,9 @@ add-t19 c =
     omega
     (arith, close-within (a .sh .near) (a .f .now) (a .at) (a .stop) (start .pre .1) _ (c .before .before .before .close-line .ensures) _ _ (c .before .n .given .1) (start .pre .0 .0) (start .pre .0 .1))
 
--- src/lib.rt:79:1
 returns-2 : tie.Need-returns-2
 returns-2 c = search closings
 
--- src/lib.rt:79:1
 returns-3 : tie.Need-returns-3
 returns-3 c = search closings
 

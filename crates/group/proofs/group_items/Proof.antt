@@ -36,19 +36,15 @@ item-on c amount warnings e =
     let start = now .before .before in
     going-item (now .loop .inv) (c .before .next-line .result) (c .before .next-line .ensures) (c .item-step .result) (c .item-step .ensures) (start .pre .0) amount warnings e
 
--- src/lib.rt:177:5
 loop-holds : tie.Need-loop-holds Inv-loop μ-loop
 loop-holds c = going-start _ _ _ _ _ _ _ (c .before .pre .1)
 
--- src/lib.rt:178:13
 next-line-requires : tie.Need-next-line-requires Inv-loop μ-loop
 next-line-requires c κs = search needs
 
--- src/lib.rt:180:15
 item-step-requires : tie.Need-item-step-requires Inv-loop μ-loop
 item-step-requires c κs = search needs
 
--- src/lib.rt:181:26
 enum-known-amount : tie.Need-enum-known-amount Inv-loop μ-loop
 enum-known-amount c = search needs
 
@@ -78,35 +74,28 @@ loop-again c =
     rw (c .open-more .ensures, c .before .shelf-more .ensures, c .before .before .counts-more .ensures)
     (item-on (c .before .before .before .before .before .before) _ _ (c .before .before .before .before .amount .given .1))
 
--- src/lib.rt:207:57
 enum-told : tie.Need-enum-told Inv-loop μ-loop
 enum-told c = search needs
 
--- src/lib.rt:207:57
 add-close-group : tie.Need-add-close-group Inv-loop μ-loop
 add-close-group c = let cuts = c .before .before .before .next-line .ensures in let going = c .before .before .before .before .before .loop .inv in omega arith
 
--- src/lib.rt:207:17
 close-group-requires : tie.Need-close-group-requires Inv-loop μ-loop
 close-group-requires c κs = c .before .before .before .before .before .loop .inv .begun .low
 
--- src/lib.rt:207:17
 returns : tie.Need-returns Inv-loop μ-loop
 returns c =
     let now = c .before .before .before .before .before .before in
     going-close (now .loop .inv) (c .before .before .before .before .next-line .result) (c .before .before .before .before .next-line .ensures) (c .before .before .before .item-step .result) (c .before .before .before .item-step .ensures) (now .before .before .pre .0) (c .before .enum-told .given .1) _ (c .close-group .ensures)
 
--- src/lib.rt:209:24
 enum-known-n : tie.Need-enum-known-n Inv-loop μ-loop
 enum-known-n c = search needs
 
--- src/lib.rt:210:17
 returns-2 : tie.Need-returns-2 Inv-loop μ-loop
 returns-2 c =
     let now = c .before .before .before .before .before .before in
     going-stop (now .loop .inv) (c .before .before .before .before .next-line .result) (c .before .before .before .before .next-line .ensures) (c .before .before .before .item-step .result) (c .before .before .before .item-step .ensures) _ _ (c .before .n .given .1)
 
--- src/lib.rt:167:1
 returns-3 : tie.Need-returns-3 Inv-loop μ-loop
 returns-3 c = going-end (c .before .loop .inv) (let b = c .before .loop .inv .begun in omega arith)
 

@@ -1,3 +1,4 @@
+-- `item_turn`: 15 before the fields, then the item as it is judged. Assumes nothing.
 use borrow.Author.Needs.{needs}
 use native.Mathlib.Omega.{arith}
 use Rattle.group.proofs.Turns.{item-within, items-turn}
@@ -7,50 +8,39 @@ use Rattle.group.proofs.item_turn.Reads as reads
 use Rattle.group.proofs.item_turn.Lts as lts
 use Rattle.judgeitem.proofs.judge_item.Reads as judge-item-reads
 
--- src/lib.rt:92:9
 returns : tie.Need-returns
 returns c = search items-turn
 
--- src/lib.rt:97:9
 returns-2 : tie.Need-returns-2
 returns-2 c = search items-turn
 
--- src/lib.rt:99:31
 sub-judge-item : tie.Need-sub-judge-item
 sub-judge-item c = search needs
 
--- src/lib.rt:99:31
 part-judge-item-start : tie.Need-part-judge-item-start
 part-judge-item-start c = search needs
 
--- src/lib.rt:99:31
 part-judge-item-end : tie.Need-part-judge-item-end
 part-judge-item-end c = search needs
 
--- src/lib.rt:99:11
 judge-item-requires : tie.Need-judge-item-requires
 judge-item-requires c κs = search needs
 
--- src/lib.rt:100:24
 enum-known-amount : tie.Need-enum-known-amount
 enum-known-amount c = search needs
 
--- src/lib.rt:104:27
 enum-known-n : tie.Need-enum-known-n
 enum-known-n c = search needs
 
--- src/lib.rt:104:53
 add-t24 : tie.Need-add-t24
 add-t24 c =
     let a = c .before .before .before .before .before .before .before .before .args in
     omega
     (arith, item-within (a .sh) (a .opened .single) (a .f .now) (a .at) (a .stop) _ (c .before .before .before .judge-item .ensures) _ _ (c .before .n .given .1) (omega arith) (omega arith))
 
--- src/lib.rt:84:1
 returns-3 : tie.Need-returns-3
 returns-3 c = search items-turn
 
--- src/lib.rt:84:1
 returns-4 : tie.Need-returns-4
 returns-4 c = search items-turn
 

@@ -1,3 +1,4 @@
+-- `total_broken`: by the tests of its three numbers. Assumes nothing.
 use borrow.Author.Tests.{eq-eqb, ne-eqb, lt-ltb, le-ltb, lt-leb, le-leb}
 use Rattle.base.specs.Pick.{pick}
 use Rattle.paper.specs.Judge.{totalBroken}
@@ -6,7 +7,6 @@ use Rattle.group.proofs.total_broken.Tie as tie
 use Rattle.group.proofs.total_broken.Reads as reads
 use Rattle.group.proofs.total_broken.Lts as lts
 
--- src/lib.rt:62:9
 returns : tie.Need-returns
 unfolding totalBroken pick
 returns c =
@@ -15,7 +15,6 @@ returns c =
       lt-leb _ _ (c .if1 .taken),
     )
 
--- src/lib.rt:66:13
 returns-2 : tie.Need-returns-2
 unfolding totalBroken pick
 returns-2 c =
@@ -26,7 +25,6 @@ returns-2 c =
       eq-eqb _ _ (c .if3 .taken),
     )
 
--- src/lib.rt:68:9
 returns-3 : tie.Need-returns-3
 unfolding totalBroken pick
 returns-3 c =
@@ -37,7 +35,6 @@ returns-3 c =
       ne-eqb _ _ (c .if3 .left),
     )
 
--- src/lib.rt:58:1
 returns-4 : tie.Need-returns-4
 unfolding totalBroken pick
 returns-4 c =

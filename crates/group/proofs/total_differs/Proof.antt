@@ -1,3 +1,4 @@
+-- `total_differs`: by the one test. Assumes nothing.
 use borrow.Author.Tests.{eq-eqb, ne-eqb}
 use Rattle.base.specs.Pick.{pick}
 use Rattle.paper.specs.Spells.{differs}
@@ -6,13 +7,11 @@ use Rattle.group.proofs.total_differs.Tie as tie
 use Rattle.group.proofs.total_differs.Reads as reads
 use Rattle.group.proofs.total_differs.Lts as lts
 
--- src/lib.rt:78:9
 returns : tie.Need-returns
 unfolding differs pick
 returns c =
     simp (eq-eqb _ _ (c .if1 .taken))
 
--- src/lib.rt:74:1
 returns-2 : tie.Need-returns-2
 unfolding differs pick
 returns-2 c =

@@ -10,50 +10,39 @@ use Rattle.groupline.proofs.has_payer.Reads as has-payer-reads
 use Rattle.groupline.proofs.total_and_date.Reads as total-and-date-reads
 use Rattle.field_account.proofs.payer_at.Reads as payer-at-reads
 
--- src/lib.rt:80:8
 has-payer-requires : tie.Need-has-payer-requires
 has-payer-requires c κs = search needs
 
--- src/lib.rt:81:15
 payer-at-requires : tie.Need-payer-at-requires
 payer-at-requires c κs = search needs
 
--- src/lib.rt:82:29
 enum-known-n : tie.Need-enum-known-n
 enum-known-n c = search needs
 
--- src/lib.rt:83:29
 enum-known-prefix : tie.Need-enum-known-prefix
 enum-known-prefix c = search needs
 
--- src/lib.rt:85:21
 returns : tie.Need-returns
 unfolding readGroup
 returns c = (search groups depth 12, search (bounds, needs))
 
--- src/lib.rt:87:35
 add-total-and-date : tie.Need-add-total-and-date
 add-total-and-date c = search needs
 
--- src/lib.rt:87:17
 total-and-date-requires : tie.Need-total-and-date-requires
 total-and-date-requires c κs = search needs
 
--- src/lib.rt:91:9
 total-and-date-requires-2 : tie.Need-total-and-date-requires-2
 total-and-date-requires-2 c κs = search needs
 
--- src/lib.rt:74:1
 returns-2 : tie.Need-returns-2
 unfolding readGroup
 returns-2 c = (search groups depth 12, search (bounds, needs))
 
--- src/lib.rt:74:1
 returns-3 : tie.Need-returns-3
 unfolding readGroup
 returns-3 c = (search groups depth 12, search (bounds, needs))
 
--- src/lib.rt:74:1
 returns-4 : tie.Need-returns-4
 unfolding readGroup
 returns-4 c = (search groups depth 12, search (bounds, needs))

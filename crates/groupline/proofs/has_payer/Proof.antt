@@ -7,15 +7,12 @@ use Rattle.groupline.proofs.has_payer.Reads as reads
 use Rattle.groupline.proofs.has_payer.Lts as lts
 use Rattle.line.proofs.spaces.Reads as spaces-reads
 
--- src/lib.rt:33:9
 returns : tie.Need-returns
 returns c = search payers
 
--- src/lib.rt:35:10
 spaces-requires : tie.Need-spaces-requires
 spaces-requires c κs = search needs
 
--- src/lib.rt:29:1
 returns-2 : tie.Need-returns-2
 returns-2 c = search payers
 

@@ -10,59 +10,46 @@ use Rattle.calendar.proofs.due_warnings.Reads as due-warnings-reads
 use Rattle.field_day.proofs.due_at.Reads as due-at-reads
 use Rattle.field_amount.proofs.total_at.Reads as total-at-reads
 
--- src/lib.rt:45:11
 total-at-requires : tie.Need-total-at-requires
 total-at-requires c κs = search needs
 
--- src/lib.rt:46:24
 enum-known-n : tie.Need-enum-known-n
 enum-known-n c = search needs
 
--- src/lib.rt:47:22
 enum-known-total : tie.Need-enum-known-total
 enum-known-total c = search needs
 
--- src/lib.rt:49:17
 returns : tie.Need-returns
 unfolding totalAndDate
 returns c = (search groups depth 12, search (bounds, needs))
 
--- src/lib.rt:51:24
 add-from : tie.Need-add-from
 add-from c = search needs
 
--- src/lib.rt:52:19
 due-at-requires : tie.Need-due-at-requires
 due-at-requires c κs = search needs
 
--- src/lib.rt:53:32
 enum-known-n-2 : tie.Need-enum-known-n-2
 enum-known-n-2 c = search needs
 
--- src/lib.rt:54:30
 enum-known-date : tie.Need-enum-known-date
 enum-known-date c = search needs
 
--- src/lib.rt:56:25
 returns-2 : tie.Need-returns-2
 unfolding totalAndDate
 returns-2 c = (search groups depth 12, search (bounds, needs))
 
--- src/lib.rt:58:25
 due-warnings-requires : tie.Need-due-warnings-requires
 due-warnings-requires c κs = search (bounds, needs)
 
--- src/lib.rt:39:1
 returns-3 : tie.Need-returns-3
 unfolding totalAndDate
 returns-3 c = (search groups depth 12, search (bounds, needs))
 
--- src/lib.rt:39:1
 returns-4 : tie.Need-returns-4
 unfolding totalAndDate
 returns-4 c = (search groups depth 12, search (bounds, needs))
 
--- src/lib.rt:39:1
 returns-5 : tie.Need-returns-5
 unfolding totalAndDate
 returns-5 c = (search groups depth 12, search (bounds, needs))

@@ -6,15 +6,12 @@ use Rattle.itemrow.proofs.place_word.Tie as tie
 use Rattle.itemrow.proofs.place_word.Reads as reads
 use Rattle.itemrow.proofs.place_word.Lts as lts
 
--- src/lib.rt:21:9
 returns : tie.Need-returns
 returns c = search picks
 
--- src/lib.rt:23:6
 add-result : tie.Need-add-result
 add-result c = search needs
 
--- src/lib.rt:16:1
 returns-2 : tie.Need-returns-2
 returns-2 c = search picks
 

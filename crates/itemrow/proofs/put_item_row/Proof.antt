@@ -8,35 +8,27 @@ use Rattle.itemrow.proofs.put_item_row.Lts as lts
 use Rattle.itemrow.proofs.place_word.Reads as place-word-reads
 use Rattle.row.proofs.put_row.Reads as put-row-reads
 
--- src/lib.rt:33:9
 place-word-requires : tie.Need-place-word-requires
 place-word-requires c κs = search needs
 
--- src/lib.rt:34:9
 place-word-requires-2 : tie.Need-place-word-requires-2
 place-word-requires-2 c κs = search needs
 
--- src/lib.rt:35:9
 place-word-requires-3 : tie.Need-place-word-requires-3
 place-word-requires-3 c κs = search needs
 
--- src/lib.rt:36:9
 place-word-requires-4 : tie.Need-place-word-requires-4
 place-word-requires-4 c κs = search needs
 
--- src/lib.rt:37:9
 place-word-requires-5 : tie.Need-place-word-requires-5
 place-word-requires-5 c κs = search needs
 
--- src/lib.rt:38:5
 put-row-requires : tie.Need-put-row-requires
 put-row-requires c κs = search needs
 
--- src/lib.rt:27:1
 same-length : tie.Need-same-length
 same-length c = search needs
 
--- src/lib.rt:27:1
 returns : tie.Need-returns
 returns c = search item-row
 

@@ -1,3 +1,4 @@
+-- `from_amount`: the amount, and what follows it. Assumes nothing.
 use borrow.Author.Needs.{needs}
 use Rattle.judgeitem.specs.Stages.{fromAmount}
 use Rattle.judgeitem.proofs.Steps.{items, bounds}
@@ -8,37 +9,29 @@ use Rattle.judgeitem.proofs.from_amount.Lts as lts
 use Rattle.field_amount.proofs.amount_at.Reads as amount-at-reads
 use Rattle.judgeitem.proofs.from_variable.Reads as from-variable-reads
 
--- src/lib.rt:100:11
 amount-at-requires : tie.Need-amount-at-requires
 amount-at-requires c κs = search needs
 
--- src/lib.rt:101:24
 enum-known-n : tie.Need-enum-known-n
 enum-known-n c = search needs
 
--- src/lib.rt:102:22
 enum-known-amount : tie.Need-enum-known-amount
 enum-known-amount c = search needs
 
--- src/lib.rt:104:17
 returns : tie.Need-returns
 unfolding fromAmount
 returns c = search items depth 12
 
--- src/lib.rt:106:30
 add-from-variable : tie.Need-add-from-variable
 add-from-variable c = search needs
 
--- src/lib.rt:106:13
 from-variable-requires : tie.Need-from-variable-requires
 from-variable-requires c κs = search needs
 
--- src/lib.rt:95:1
 returns-2 : tie.Need-returns-2
 unfolding fromAmount
 returns-2 c = search items depth 12
 
--- src/lib.rt:95:1
 returns-3 : tie.Need-returns-3
 unfolding fromAmount
 returns-3 c = search items depth 12

@@ -1,3 +1,4 @@
+-- `from_bank`: the bank field, and the tail behind it. Assumes nothing.
 use borrow.Author.Needs.{needs}
 use Rattle.judgeitem.specs.Stages.{fromBank}
 use Rattle.judgeitem.proofs.Steps.{items, bounds}
@@ -8,28 +9,22 @@ use Rattle.judgeitem.proofs.from_bank.Lts as lts
 use Rattle.field_bank.proofs.bank_at.Reads as bank-at-reads
 use Rattle.judgeitem.proofs.with_tail.Reads as with-tail-reads
 
--- src/lib.rt:65:11
 bank-at-requires : tie.Need-bank-at-requires
 bank-at-requires c κs = search needs
 
--- src/lib.rt:66:25
 enum-known-n : tie.Need-enum-known-n
 enum-known-n c = search needs
 
--- src/lib.rt:68:13
 enum-known-bank : tie.Need-enum-known-bank
 enum-known-bank c = search needs
 
--- src/lib.rt:73:14
 with-tail-requires : tie.Need-with-tail-requires
 with-tail-requires c κs = search (bounds, needs)
 
--- src/lib.rt:60:1
 returns : tie.Need-returns
 unfolding fromBank
 returns c = search items depth 12
 
--- src/lib.rt:60:1
 returns-2 : tie.Need-returns-2
 unfolding fromBank
 returns-2 c = search items depth 12

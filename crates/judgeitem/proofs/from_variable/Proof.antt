@@ -1,3 +1,4 @@
+-- `from_variable`: the variable symbol, and what follows it. Assumes nothing.
 use borrow.Author.Needs.{needs}
 use Rattle.judgeitem.specs.Stages.{fromVariable}
 use Rattle.judgeitem.proofs.Steps.{items, bounds}
@@ -8,37 +9,29 @@ use Rattle.judgeitem.proofs.from_variable.Lts as lts
 use Rattle.field.proofs.number_at.Reads as number-at-reads
 use Rattle.judgeitem.proofs.from_bank.Reads as from-bank-reads
 
--- src/lib.rt:83:11
 number-at-requires : tie.Need-number-at-requires
 number-at-requires c κs = search needs
 
--- src/lib.rt:84:24
 enum-known-n : tie.Need-enum-known-n
 enum-known-n c = search needs
 
--- src/lib.rt:85:22
 enum-known-variable : tie.Need-enum-known-variable
 enum-known-variable c = search needs
 
--- src/lib.rt:87:17
 returns : tie.Need-returns
 unfolding fromVariable
 returns c = search items depth 12
 
--- src/lib.rt:89:26
 add-from-bank : tie.Need-add-from-bank
 add-from-bank c = search needs
 
--- src/lib.rt:89:13
 from-bank-requires : tie.Need-from-bank-requires
 from-bank-requires c κs = search needs
 
--- src/lib.rt:78:1
 returns-2 : tie.Need-returns-2
 unfolding fromVariable
 returns-2 c = search items depth 12
 
--- src/lib.rt:78:1
 returns-3 : tie.Need-returns-3
 unfolding fromVariable
 returns-3 c = search items depth 12

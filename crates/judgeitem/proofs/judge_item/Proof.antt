@@ -1,3 +1,4 @@
+-- `judge_item`: the line in pieces is document 01's, but for the values left out. Assumes nothing.
 use borrow.Author.Needs.{needs}
 use Rattle.judgeitem.specs.Stages.{byPieces, fromPayee}
 use Rattle.judgeitem.proofs.Steps.{items, bounds}
@@ -9,54 +10,42 @@ use Rattle.field_account.proofs.account_at.Reads as account-at-reads
 use Rattle.judgeitem.proofs.from_amount.Reads as from-amount-reads
 use Rattle.judgeitem.proofs.payer_first.Reads as payer-first-reads
 
--- src/lib.rt:136:11
 payer-first-requires : tie.Need-payer-first-requires
 payer-first-requires c κs = search needs
 
--- src/lib.rt:137:28
 enum-known-n : tie.Need-enum-known-n
 enum-known-n c = search needs
 
--- src/lib.rt:138:23
 enum-known-at : tie.Need-enum-known-at
 enum-known-at c = search needs
 
--- src/lib.rt:138:36
 account-at-requires : tie.Need-account-at-requires
 account-at-requires c κs = search (bounds, needs)
 
--- src/lib.rt:139:29
 enum-known-n-2 : tie.Need-enum-known-n-2
 enum-known-n-2 c = search needs
 
--- src/lib.rt:140:29
 enum-known-prefix : tie.Need-enum-known-prefix
 enum-known-prefix c = search needs
 
--- src/lib.rt:142:21
 returns : tie.Need-returns
 unfolding byPieces fromPayee
 returns c = search items depth 12
 
--- src/lib.rt:144:32
 add-from-amount : tie.Need-add-from-amount
 add-from-amount c = search needs
 
--- src/lib.rt:144:17
 from-amount-requires : tie.Need-from-amount-requires
 from-amount-requires c κs = search needs
 
--- src/lib.rt:132:1
 returns-2 : tie.Need-returns-2
 unfolding byPieces fromPayee
 returns-2 c = search items depth 12
 
--- src/lib.rt:132:1
 returns-3 : tie.Need-returns-3
 unfolding byPieces fromPayee
 returns-3 c = search items depth 12
 
--- src/lib.rt:132:1
 returns-4 : tie.Need-returns-4
 unfolding byPieces fromPayee
 returns-4 c = search items depth 12

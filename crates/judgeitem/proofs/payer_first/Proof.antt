@@ -1,3 +1,4 @@
+-- `payer_first`: the payer where the group is single. Assumes nothing.
 use borrow.Author.Needs.{needs}
 use Rattle.judgeitem.specs.Stages.{payerFirst}
 use Rattle.judgeitem.proofs.Steps.{items, bounds}
@@ -7,38 +8,30 @@ use Rattle.judgeitem.proofs.payer_first.Reads as reads
 use Rattle.judgeitem.proofs.payer_first.Lts as lts
 use Rattle.field_account.proofs.account_at.Reads as account-at-reads
 
--- src/lib.rt:117:15
 account-at-requires : tie.Need-account-at-requires
 account-at-requires c κs = search needs
 
--- src/lib.rt:118:29
 enum-known-n : tie.Need-enum-known-n
 enum-known-n c = search needs
 
--- src/lib.rt:119:29
 enum-known-prefix : tie.Need-enum-known-prefix
 enum-known-prefix c = search needs
 
--- src/lib.rt:121:21
 returns : tie.Need-returns
 unfolding payerFirst
 returns c = (λ k. search items depth 12, search (bounds, needs))
 
--- src/lib.rt:123:31
 add-t13 : tie.Need-add-t13
 add-t13 c = search needs
 
--- src/lib.rt:112:1
 returns-2 : tie.Need-returns-2
 unfolding payerFirst
 returns-2 c = (λ k. search items depth 12, search (bounds, needs))
 
--- src/lib.rt:112:1
 returns-3 : tie.Need-returns-3
 unfolding payerFirst
 returns-3 c = (λ k. search items depth 12, search (bounds, needs))
 
--- src/lib.rt:112:1
 returns-4 : tie.Need-returns-4
 unfolding payerFirst
 returns-4 c = (λ k. search items depth 12, search (bounds, needs))

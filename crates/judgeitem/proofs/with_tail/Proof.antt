@@ -1,3 +1,4 @@
+-- `with_tail`: the tail, with the warnings of its texts. Assumes nothing.
 use borrow.Author.Needs.{needs}
 use Rattle.judgeitem.specs.Stages.{withTail}
 use Rattle.judgeitem.proofs.Steps.{items, bounds}
@@ -9,54 +10,42 @@ use Rattle.judgeitem.proofs.with_texts.Reads as with-texts-reads
 use Rattle.tail.proofs.read_tail.Reads as read-tail-reads
 use Rattle.text.proofs.read_text.Reads as read-text-reads
 
--- src/lib.rt:46:11
 read-tail-requires : tie.Need-read-tail-requires
 read-tail-requires c κs = search needs
 
--- src/lib.rt:47:27
 enum-known-n : tie.Need-enum-known-n
 enum-known-n c = search needs
 
--- src/lib.rt:48:25
 enum-known-specific : tie.Need-enum-known-specific
 enum-known-specific c = search needs
 
--- src/lib.rt:49:24
 enum-known-specific-2 : tie.Need-enum-known-specific-2
 enum-known-specific-2 c = search needs
 
--- src/lib.rt:49:49
 read-text-requires : tie.Need-read-text-requires
 read-text-requires c κs = search (bounds, needs)
 
--- src/lib.rt:50:31
 enum-known-n-2 : tie.Need-enum-known-n-2
 enum-known-n-2 c = search needs
 
--- src/lib.rt:51:29
 enum-known-texts : tie.Need-enum-known-texts
 enum-known-texts c = search needs
 
--- src/lib.rt:53:27
 with-texts-requires : tie.Need-with-texts-requires
 with-texts-requires c κs = search (bounds, needs)
 
--- src/lib.rt:32:1
 returns : tie.Need-returns
 unfolding withTail
 returns c = search items depth 12
 
--- src/lib.rt:32:1
 returns-2 : tie.Need-returns-2
 unfolding withTail
 returns-2 c = search items depth 12
 
--- src/lib.rt:32:1
 returns-3 : tie.Need-returns-3
 unfolding withTail
 returns-3 c = search items depth 12
 
--- src/lib.rt:32:1
 returns-4 : tie.Need-returns-4
 unfolding withTail
 returns-4 c = search items depth 12

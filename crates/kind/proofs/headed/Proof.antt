@@ -7,39 +7,31 @@ use Rattle.kind.proofs.headed.Tie as tie
 use Rattle.kind.proofs.headed.Reads as reads
 use Rattle.kind.proofs.headed.Lts as lts
 
--- src/lib.rt:49:9
 returns : tie.Need-returns
 unfolding byHead
 returns c = search (kinds, picks)
 
--- src/lib.rt:51:8
 shared-slice-read-if2 : tie.Need-shared-slice-read-if2
 shared-slice-read-if2 c = search needs
 
--- src/lib.rt:52:12
 shared-slice-read-if3 : tie.Need-shared-slice-read-if3
 shared-slice-read-if3 c = search needs
 
--- src/lib.rt:53:16
 shared-slice-read-if4 : tie.Need-shared-slice-read-if4
 shared-slice-read-if4 c = search needs
 
--- src/lib.rt:54:17
 returns-2 : tie.Need-returns-2
 unfolding byHead
 returns-2 c = search (kinds, picks)
 
--- src/lib.rt:43:1
 returns-3 : tie.Need-returns-3
 unfolding byHead
 returns-3 c = search (kinds, picks)
 
--- src/lib.rt:43:1
 returns-4 : tie.Need-returns-4
 unfolding byHead
 returns-4 c = search (kinds, picks)
 
--- src/lib.rt:43:1
 returns-5 : tie.Need-returns-5
 unfolding byHead
 returns-5 c = search (kinds, picks)

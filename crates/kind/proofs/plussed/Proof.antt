@@ -7,21 +7,17 @@ use Rattle.kind.proofs.plussed.Tie as tie
 use Rattle.kind.proofs.plussed.Reads as reads
 use Rattle.kind.proofs.plussed.Lts as lts
 
--- src/lib.rt:82:11
 shared-slice-read-match : tie.Need-shared-slice-read-match
 shared-slice-read-match c = search needs
 
--- src/lib.rt:77:1
 returns : tie.Need-returns
 unfolding byPlus pick
 returns c = search kinds
 
--- src/lib.rt:77:1
 returns-2 : tie.Need-returns-2
 unfolding byPlus pick
 returns-2 c = search kinds
 
--- src/lib.rt:77:1
 returns-3 : tie.Need-returns-3
 unfolding byPlus pick
 returns-3 c = search kinds

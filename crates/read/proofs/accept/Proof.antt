@@ -10,27 +10,21 @@ use Rattle.filling.proofs.fill_rows.Reads as fill-rows-reads
 use Rattle.read.proofs.header_of.Reads as header-of-reads
 use Rattle.read.proofs.no_room.Reads as no-room-reads
 
--- src/lib.rt:138:9
 no-room-requires : tie.Need-no-room-requires
 no-room-requires c κs = search needs
 
--- src/lib.rt:138:9
 returns : tie.Need-returns
 returns c = search filling
 
--- src/lib.rt:140:5
 fill-rows-requires : tie.Need-fill-rows-requires
 fill-rows-requires c κs = search (filling, limits, needs)
 
--- src/lib.rt:148:17
 header-of-requires : tie.Need-header-of-requires
 header-of-requires c κs = search needs
 
--- src/lib.rt:129:1
 same-length : tie.Need-same-length
 same-length c = search needs
 
--- src/lib.rt:129:1
 returns-2 : tie.Need-returns-2
 unfolding acceptedAs
 returns-2 c = search filling

@@ -6,11 +6,9 @@ use Rattle.read.proofs.header_of.Reads as reads
 use Rattle.read.proofs.header_of.Lts as lts
 use Rattle.read.proofs.name_or_spaces.Reads as name-or-spaces-reads
 
--- src/lib.rt:123:15
 name-or-spaces-requires : tie.Need-name-or-spaces-requires
 name-or-spaces-requires c κs = search needs
 
--- src/lib.rt:114:1
 returns : tie.Need-returns
 returns c = rw (c .name-or-spaces .ensures)
 

@@ -17,37 +17,29 @@ Inv-loop file name₀ i₀ name i = (i ≤ 20) × (name ≡ take i (drop 10 file
 abbrev μ-loop : tie.MeasureT-loop
 μ-loop file name₀ i₀ name i = 20 - i
 
--- src/lib.rt:98:5
 loop-holds : tie.Need-loop-holds Inv-loop μ-loop
 loop-holds c = search needs
 
--- src/lib.rt:99:24
 add-name : tie.Need-add-name Inv-loop μ-loop
 add-name c = search needs
 
--- src/lib.rt:99:19
 shared-slice-read-name : tie.Need-shared-slice-read-name Inv-loop μ-loop
 shared-slice-read-name c = search needs
 
--- src/lib.rt:99:9
 array-write-name : tie.Need-array-write-name Inv-loop μ-loop
 array-write-name c = search needs
 
--- src/lib.rt:100:13
 add-i : tie.Need-add-i Inv-loop μ-loop
 add-i c = search needs
 
--- src/lib.rt:98:5
 loop-less : tie.Need-loop-less Inv-loop μ-loop
 loop-less c = search needs
 
--- src/lib.rt:98:5
 loop-again : tie.Need-loop-again Inv-loop μ-loop
 loop-again c =
     let inv = c .before .before .loop .inv in
     (omega arith, rw (inv .1) (copy-more (c .before .before .before .args .file .now) (replicate 20 32) 10 (c .before .before .loop .i) (omega arith) (omega arith)))
 
--- src/lib.rt:92:1
 returns : tie.Need-returns Inv-loop μ-loop
 returns c =
     let end : c .before .loop .i ≡ 20 = omega arith in

@@ -6,16 +6,13 @@ use Rattle.read.proofs.name_or_spaces.Reads as reads
 use Rattle.read.proofs.name_or_spaces.Lts as lts
 use Rattle.read.proofs.name_of.Reads as name-of-reads
 
--- src/lib.rt:116:19
 name-of-requires : tie.Need-name-of-requires
 name-of-requires c κs = c .before .before .pre (c .if1 .taken)
 
--- src/lib.rt:111:9
 returns : tie.Need-returns
 unfolding pick
 returns c = rw (c .before .if1 .taken, c .name-of .ensures)
 
--- src/lib.rt:106:1
 returns-2 : tie.Need-returns-2
 unfolding pick
 returns-2 c = rw (c .if1 .left)

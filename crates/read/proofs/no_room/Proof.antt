@@ -6,7 +6,6 @@ use Rattle.read.proofs.no_room.Tie as tie
 use Rattle.read.proofs.no_room.Reads as reads
 use Rattle.read.proofs.no_room.Lts as lts
 
--- src/lib.rt:71:1
 returns : tie.Need-returns
 unfolding needs
 returns c = refl

@@ -9,35 +9,27 @@ use Rattle.read.proofs.read_on.Reads as read-on-reads
 use Rattle.read.proofs.refusal.Reads as refusal-reads
 use Rattle.sheet.proofs.sheet_of.Reads as sheet-of-reads
 
--- src/lib.rt:176:11
 sheet-of-requires : tie.Need-sheet-of-requires
 sheet-of-requires c κs = search needs
 
--- src/lib.rt:177:22
 enum-known-sh : tie.Need-enum-known-sh
 enum-known-sh c = search needs
 
--- src/lib.rt:177:29
 read-on-requires : tie.Need-read-on-requires
 read-on-requires c κs = search (sheets, needs)
 
--- src/lib.rt:178:27
 enum-told : tie.Need-enum-told
 enum-told c = search needs
 
--- src/lib.rt:178:27
 refusal-requires : tie.Need-refusal-requires
 refusal-requires c κs = search needs
 
--- src/lib.rt:172:1
 same-length : tie.Need-same-length
 same-length c = search needs
 
--- src/lib.rt:172:1
 returns : tie.Need-returns
 returns c = search sheets
 
--- src/lib.rt:172:1
 returns-2 : tie.Need-returns-2
 returns-2 c = search sheets
 

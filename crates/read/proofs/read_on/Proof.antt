@@ -10,47 +10,36 @@ use Rattle.read.proofs.accept.Reads as accept-reads
 use Rattle.reading.proofs.judge_file.Reads as judge-file-reads
 use Rattle.read.proofs.refusal.Reads as refusal-reads
 
--- src/lib.rt:158:8
 real-day-requires : tie.Need-real-day-requires
 real-day-requires c κs = search needs
 
--- src/lib.rt:159:15
 judge-file-requires : tie.Need-judge-file-requires
 judge-file-requires c κs = search (judging, needs)
 
--- src/lib.rt:160:29
 enum-known-n : tie.Need-enum-known-n
 enum-known-n c = search needs
 
--- src/lib.rt:160:47
 refusal-requires : tie.Need-refusal-requires
 refusal-requires c κs = search needs
 
--- src/lib.rt:162:17
 enum-known-head : tie.Need-enum-known-head
 enum-known-head c = search needs
 
--- src/lib.rt:165:18
 accept-requires : tie.Need-accept-requires
 accept-requires c κs = search (judging, needs)
 
--- src/lib.rt:168:9
 refusal-requires-2 : tie.Need-refusal-requires-2
 refusal-requires-2 c κs = search needs
 
--- src/lib.rt:153:1
 returns : tie.Need-returns
 returns c = search judging
 
--- src/lib.rt:153:1
 same-length : tie.Need-same-length
 same-length c = search needs
 
--- src/lib.rt:153:1
 returns-2 : tie.Need-returns-2
 returns-2 c = search needs
 
--- src/lib.rt:153:1
 returns-3 : tie.Need-returns-3
 returns-3 c = search judging
 

@@ -6,7 +6,6 @@ use Rattle.read.proofs.refusal.Tie as tie
 use Rattle.read.proofs.refusal.Reads as reads
 use Rattle.read.proofs.refusal.Lts as lts
 
--- src/lib.rt:50:1
 returns : tie.Need-returns
 unfolding refusedAt
 returns c = refl

@@ -8,43 +8,33 @@ use Rattle.request.proofs.on_sheet.Lts as lts
 use Rattle.line.proofs.next_line.Reads as next-line-reads
 use Rattle.request.proofs.read_today.Reads as read-today-reads
 
--- src/lib.rt:41:9
 next-line-requires : tie.Need-next-line-requires
 next-line-requires c κs = search needs
 
--- src/lib.rt:44:22
 sub-read-today : tie.Need-sub-read-today
 sub-read-today c = search (exits, needs)
 
--- src/lib.rt:44:22
 part-read-today-start : tie.Need-part-read-today-start
 part-read-today-start c = search (exits, needs)
 
--- src/lib.rt:44:22
 part-read-today-end : tie.Need-part-read-today-end
 part-read-today-end c = search needs
 
--- src/lib.rt:44:11
 read-today-requires : tie.Need-read-today-requires
 read-today-requires c κs = search needs
 
--- src/lib.rt:45:28
 enum-told : tie.Need-enum-told
 enum-told c = search needs
 
--- src/lib.rt:46:20
 enum-known-today : tie.Need-enum-known-today
 enum-known-today c = search needs
 
--- src/lib.rt:48:17
 returns : tie.Need-returns
 returns c = search exits depth 8
 
--- src/lib.rt:35:1
 returns-2 : tie.Need-returns-2
 returns-2 c = search exits depth 8
 
--- src/lib.rt:35:1
 returns-3 : tie.Need-returns-3
 returns-3 c = search exits depth 8
 

@@ -8,35 +8,27 @@ use Rattle.request.proofs.read_request.Lts as lts
 use Rattle.request.proofs.on_sheet.Reads as on-sheet-reads
 use Rattle.sheet.proofs.sheet_by.Reads as sheet-by-reads
 
--- src/lib.rt:61:9
 returns : tie.Need-returns
 returns c = search exits depth 8
 
--- src/lib.rt:63:27
 shared-slice-read-sheet-by : tie.Need-shared-slice-read-sheet-by
 shared-slice-read-sheet-by c = search needs
 
--- src/lib.rt:63:11
 sheet-by-requires : tie.Need-sheet-by-requires
 sheet-by-requires c κs = search needs
 
--- src/lib.rt:64:22
 enum-known-sh : tie.Need-enum-known-sh
 enum-known-sh c = search needs
 
--- src/lib.rt:64:29
 on-sheet-requires : tie.Need-on-sheet-requires
 on-sheet-requires c κs = search (exits, needs)
 
--- src/lib.rt:65:27
 enum-told : tie.Need-enum-told
 enum-told c = search needs
 
--- src/lib.rt:56:1
 returns-2 : tie.Need-returns-2
 returns-2 c = search needs
 
--- src/lib.rt:56:1
 returns-3 : tie.Need-returns-3
 returns-3 c = search exits depth 8
 

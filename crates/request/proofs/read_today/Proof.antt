@@ -7,35 +7,27 @@ use Rattle.request.proofs.read_today.Reads as reads
 use Rattle.request.proofs.read_today.Lts as lts
 use Rattle.calendar.proofs.read_day.Reads as read-day-reads
 
--- src/lib.rt:26:9
 returns : tie.Need-returns
 returns c = search exits depth 8
 
--- src/lib.rt:28:8
 shared-slice-read-if2 : tie.Need-shared-slice-read-if2
 shared-slice-read-if2 c = search needs
 
--- src/lib.rt:29:35
 sub-read-day : tie.Need-sub-read-day
 sub-read-day c = search needs
 
--- src/lib.rt:29:35
 part-read-day-start : tie.Need-part-read-day-start
 part-read-day-start c = search needs
 
--- src/lib.rt:29:35
 part-read-day-end : tie.Need-part-read-day-end
 part-read-day-end c = search needs
 
--- src/lib.rt:29:9
 read-day-requires : tie.Need-read-day-requires
 read-day-requires c κs = search needs
 
--- src/lib.rt:29:9
 returns-2 : tie.Need-returns-2
 returns-2 c = search exits depth 8
 
--- src/lib.rt:22:1
 returns-3 : tie.Need-returns-3
 returns-3 c = search exits depth 8
 

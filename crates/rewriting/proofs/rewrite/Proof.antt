@@ -9,55 +9,42 @@ use Rattle.explain.proofs.put_refused.Reads as put-refused-reads
 use Rattle.request.proofs.read_request.Reads as read-request-reads
 use Rattle.rewriting.proofs.rewrite_file.Reads as rewrite-file-reads
 
--- src/lib.rt:59:11
 read-request-requires : tie.Need-read-request-requires
 read-request-requires c κs = search needs
 
--- src/lib.rt:60:26
 enum-known-n : tie.Need-enum-known-n
 enum-known-n c = search needs
 
--- src/lib.rt:60:32
 put-refused-requires : tie.Need-put-refused-requires
 put-refused-requires c κs = search (requests, needs)
 
--- src/lib.rt:61:25
 enum-known-sh : tie.Need-enum-known-sh
 enum-known-sh c = search needs
 
--- src/lib.rt:61:57
 sub-rewrite-file : tie.Need-sub-rewrite-file
 sub-rewrite-file c = search (requests, needs)
 
--- src/lib.rt:61:57
 part-rewrite-file-start : tie.Need-part-rewrite-file-start
 part-rewrite-file-start c = search (requests, needs)
 
--- src/lib.rt:61:57
 part-rewrite-file-end : tie.Need-part-rewrite-file-end
 part-rewrite-file-end c = search needs
 
--- src/lib.rt:61:44
 rewrite-file-requires : tie.Need-rewrite-file-requires
 rewrite-file-requires c κs = search (requests, needs)
 
--- src/lib.rt:55:1
 same-length : tie.Need-same-length
 same-length c = search needs
 
--- src/lib.rt:55:1
 returns : tie.Need-returns
 returns c = search requests
 
--- src/lib.rt:55:1
 same-length-2 : tie.Need-same-length-2
 same-length-2 c = search needs
 
--- src/lib.rt:55:1
 same-length-3 : tie.Need-same-length-3
 same-length-3 c = search needs
 
--- src/lib.rt:55:1
 returns-2 : tie.Need-returns-2
 returns-2 c = search requests
 

@@ -11,55 +11,42 @@ use Rattle.explain.proofs.put_refused.Reads as put-refused-reads
 use Rattle.read.proofs.read_file.Reads as read-file-reads
 use Rattle.rewriting.proofs.write_back.Reads as write-back-reads
 
--- src/lib.rt:45:9
 read-file-requires : tie.Need-read-file-requires
 read-file-requires c κs = search needs
 
--- src/lib.rt:47:19
 mul-end : tie.Need-mul-end
 mul-end c = let few : c .before .before .before .before .read-file .result .rows ≤ 1024 = search rows-few in omega (arith, few)
 
--- src/lib.rt:48:27
 sub-write-back : tie.Need-sub-write-back
 sub-write-back c = search needs
 
--- src/lib.rt:48:27
 part-write-back-start : tie.Need-part-write-back-start
 part-write-back-start c = search needs
 
--- src/lib.rt:48:27
 part-write-back-end : tie.Need-part-write-back-end
 part-write-back-end c = let few : c .before .before .before .before .before .read-file .result .rows ≤ 1024 = search rows-few in omega (arith, few)
 
--- src/lib.rt:48:9
 write-back-requires : tie.Need-write-back-requires
 write-back-requires c κs = search needs
 
--- src/lib.rt:48:9
 same-length : tie.Need-same-length
 same-length c = search needs
 
--- src/lib.rt:48:9
 same-length-2 : tie.Need-same-length-2
 same-length-2 c = search needs
 
--- src/lib.rt:48:9
 returns : tie.Need-returns
 returns c = search files
 
--- src/lib.rt:50:5
 put-refused-requires : tie.Need-put-refused-requires
 put-refused-requires c κs = search (files, needs)
 
--- src/lib.rt:40:1
 same-length-3 : tie.Need-same-length-3
 same-length-3 c = search needs
 
--- src/lib.rt:40:1
 same-length-4 : tie.Need-same-length-4
 same-length-4 c = search needs
 
--- src/lib.rt:40:1
 returns-2 : tie.Need-returns-2
 returns-2 c = search files
 

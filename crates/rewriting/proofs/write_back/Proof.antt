@@ -7,15 +7,12 @@ use Rattle.rewriting.proofs.write_back.Reads as reads
 use Rattle.rewriting.proofs.write_back.Lts as lts
 use Rattle.write.proofs.write_file.Reads as write-file-reads
 
--- src/lib.rt:24:9
 write-file-requires : tie.Need-write-file-requires
 write-file-requires c κs = search needs
 
--- src/lib.rt:21:1
 same-length : tie.Need-same-length
 same-length c = search needs
 
--- src/lib.rt:21:1
 returns : tie.Need-returns
 returns c = search draft-wrote
 

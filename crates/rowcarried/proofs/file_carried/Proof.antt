@@ -4,23 +4,18 @@ use Rattle.rowcarried.proofs.Steps.{steps, free-number}
 use Rattle.rowcarried.proofs.file_carried.Statement.{statement}
 use Rattle.rowcarried.proofs.file_carried.Tie as tie
 
--- src/lib.rt:52:9
 kind-allowed-requires : tie.Need-kind-allowed-requires
 kind-allowed-requires c κs = search needs
 
--- src/lib.rt:54:9
 returns : tie.Need-returns
 returns c = λ h l f t holds k rest. search (steps, free-number) depth 12
 
--- src/lib.rt:56:9
 number-free-requires : tie.Need-number-free-requires
 number-free-requires c κs = search needs
 
--- src/lib.rt:58:9
 returns-2 : tie.Need-returns-2
 returns-2 c = λ h l f t holds k rest. search (steps, free-number) depth 12
 
--- src/lib.rt:47:1
 returns-3 : tie.Need-returns-3
 returns-3 c = λ h l f t holds k rest. search (steps, free-number) depth 12
 

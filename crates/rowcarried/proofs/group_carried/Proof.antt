@@ -5,16 +5,13 @@ use Rattle.paper.specs.Proper.{check}
 use Rattle.rowcarried.proofs.group_carried.Statement.{statement}
 use Rattle.rowcarried.proofs.group_carried.Tie as tie
 
--- src/lib.rt:66:8
 due-allowed-requires : tie.Need-due-allowed-requires
 due-allowed-requires c κs = search needs
 
--- src/lib.rt:67:9
 returns : tie.Need-returns
 unfolding check
 returns c = λ k rest. search picks depth 12
 
--- src/lib.rt:61:1
 returns-2 : tie.Need-returns-2
 unfolding check
 returns-2 c = λ k rest. search picks depth 12

@@ -5,29 +5,23 @@ use Rattle.paper.specs.Carried.{itemCarried}
 use Rattle.rowcarried.proofs.item_carried.Statement.{statement}
 use Rattle.rowcarried.proofs.item_carried.Tie as tie
 
--- src/lib.rt:129:9
 amount-proper-requires : tie.Need-amount-proper-requires
 amount-proper-requires c κs = search needs
 
--- src/lib.rt:131:9
 returns : tie.Need-returns
 unfolding itemCarried
 returns c = λ k rest. search steps depth 12
 
--- src/lib.rt:133:9
 priority-carried-requires : tie.Need-priority-carried-requires
 priority-carried-requires c κs = search needs
 
--- src/lib.rt:135:9
 returns-2 : tie.Need-returns-2
 unfolding itemCarried
 returns-2 c = λ k rest. search steps depth 12
 
--- src/lib.rt:137:5
 texts-carried-requires : tie.Need-texts-carried-requires
 texts-carried-requires c κs = search needs
 
--- src/lib.rt:125:1
 returns-3 : tie.Need-returns-3
 unfolding itemCarried
 returns-3 c = λ k rest. search (steps, c .texts-carried .ensures) depth 12

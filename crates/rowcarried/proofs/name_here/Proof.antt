@@ -4,27 +4,21 @@ use Rattle.rowcarried.proofs.Steps.{texts}
 use Rattle.rowcarried.proofs.name_here.Statement.{statement}
 use Rattle.rowcarried.proofs.name_here.Tie as tie
 
--- src/lib.rt:91:15
 add-end : tie.Need-add-end
 add-end c = search needs
 
--- src/lib.rt:92:27
 sub-name-carried : tie.Need-sub-name-carried
 sub-name-carried c = search needs
 
--- src/lib.rt:92:27
 part-name-carried-start : tie.Need-part-name-carried-start
 part-name-carried-start c = search needs
 
--- src/lib.rt:92:27
 part-name-carried-end : tie.Need-part-name-carried-end
 part-name-carried-end c = search needs
 
--- src/lib.rt:92:5
 name-carried-requires : tie.Need-name-carried-requires
 name-carried-requires c κs = search needs
 
--- src/lib.rt:86:1
 returns : tie.Need-returns
 returns c = search texts
 

@@ -5,52 +5,41 @@ use Rattle.paper.specs.Carried.{partsCarriedFrom}
 use Rattle.rowcarried.proofs.texts_carried.Statement.{statement}
 use Rattle.rowcarried.proofs.texts_carried.Tie as tie
 
--- src/lib.rt:101:9
 part-here-requires : tie.Need-part-here-requires
 part-here-requires c κs = search needs
 
--- src/lib.rt:103:9
 returns : tie.Need-returns
 unfolding partsCarriedFrom
 returns c = λ k rest. search steps depth 12
 
--- src/lib.rt:105:9
 part-here-requires-2 : tie.Need-part-here-requires-2
 part-here-requires-2 c κs = search needs
 
--- src/lib.rt:107:9
 returns-2 : tie.Need-returns-2
 unfolding partsCarriedFrom
 returns-2 c = λ k rest. search steps depth 12
 
--- src/lib.rt:109:9
 part-here-requires-3 : tie.Need-part-here-requires-3
 part-here-requires-3 c κs = search needs
 
--- src/lib.rt:111:9
 returns-3 : tie.Need-returns-3
 unfolding partsCarriedFrom
 returns-3 c = λ k rest. search steps depth 12
 
--- src/lib.rt:113:9
 part-here-requires-4 : tie.Need-part-here-requires-4
 part-here-requires-4 c κs = search needs
 
--- src/lib.rt:115:9
 returns-4 : tie.Need-returns-4
 unfolding partsCarriedFrom
 returns-4 c = λ k rest. search steps depth 12
 
--- src/lib.rt:117:9
 name-here-requires : tie.Need-name-here-requires
 name-here-requires c κs = search needs
 
--- src/lib.rt:119:9
 returns-5 : tie.Need-returns-5
 unfolding partsCarriedFrom
 returns-5 c = λ k rest. search steps depth 12
 
--- src/lib.rt:96:1
 returns-6 : tie.Need-returns-6
 unfolding partsCarriedFrom
 returns-6 c = λ k rest. search steps depth 12

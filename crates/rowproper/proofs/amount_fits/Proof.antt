@@ -9,19 +9,15 @@ use Rattle.rowproper.proofs.amount_fits.Reads as reads
 use Rattle.rowproper.proofs.amount_fits.Lts as lts
 use Rattle.amount.proofs.amount_proper.Reads as amount-proper-reads
 
--- src/lib.rt:118:8
 amount-proper-requires : tie.Need-amount-proper-requires
 amount-proper-requires c κs = search needs
 
--- src/lib.rt:119:16
 add-result : tie.Need-add-result
 add-result c = omega (arith, amount-low _ _ _ (c .before .amount-proper .ensures) (c .if1 .taken))
 
--- src/lib.rt:119:9
 returns : tie.Need-returns
 returns c = search picks
 
--- src/lib.rt:114:1
 returns-2 : tie.Need-returns-2
 returns-2 c = search picks
 

@@ -7,19 +7,15 @@ use Rattle.rowproper.proofs.file_check.Reads as reads
 use Rattle.rowproper.proofs.file_check.Lts as lts
 use Rattle.rowproper.proofs.kind_proper.Reads as kind-proper-reads
 
--- src/lib.rt:71:9
 kind-proper-requires : tie.Need-kind-proper-requires
 kind-proper-requires c κs = search needs
 
--- src/lib.rt:72:9
 returns : tie.Need-returns
 returns c k rest = search fields depth 14
 
--- src/lib.rt:75:9
 returns-2 : tie.Need-returns-2
 returns-2 c k rest = search fields depth 14
 
--- src/lib.rt:68:1
 returns-3 : tie.Need-returns-3
 returns-3 c k rest = search fields depth 14
 

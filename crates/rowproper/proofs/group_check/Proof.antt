@@ -8,23 +8,18 @@ use Rattle.rowproper.proofs.group_check.Lts as lts
 use Rattle.calendar.proofs.real_day.Reads as real-day-reads
 use Rattle.rowproper.proofs.payer_proper.Reads as payer-proper-reads
 
--- src/lib.rt:94:9
 real-day-requires : tie.Need-real-day-requires
 real-day-requires c κs = search needs
 
--- src/lib.rt:95:9
 returns : tie.Need-returns
 returns c k rest = search fields depth 14
 
--- src/lib.rt:97:9
 payer-proper-requires : tie.Need-payer-proper-requires
 payer-proper-requires c κs = search needs
 
--- src/lib.rt:98:9
 returns-2 : tie.Need-returns-2
 returns-2 c k rest = search fields depth 14
 
--- src/lib.rt:91:1
 returns-3 : tie.Need-returns-3
 returns-3 c k rest = search fields depth 14
 

@@ -9,40 +9,32 @@ use Rattle.rowproper.proofs.header_check.Lts as lts
 use Rattle.calendar.proofs.real_day.Reads as real-day-reads
 use Rattle.rowproper.proofs.name_full.Reads as name-full-reads
 
--- src/lib.rt:39:9
 real-day-requires : tie.Need-real-day-requires
 real-day-requires c κs = search needs
 
--- src/lib.rt:40:9
 returns : tie.Need-returns
 unfolding headerProper
 returns c = search fields depth 14
 
--- src/lib.rt:42:9
 name-full-requires : tie.Need-name-full-requires
 name-full-requires c κs = search needs
 
--- src/lib.rt:43:9
 returns-2 : tie.Need-returns-2
 unfolding headerProper
 returns-2 c = search fields depth 14
 
--- src/lib.rt:46:9
 returns-3 : tie.Need-returns-3
 unfolding headerProper
 returns-3 c = search fields depth 14
 
--- src/lib.rt:49:9
 returns-4 : tie.Need-returns-4
 unfolding headerProper
 returns-4 c = search fields depth 14
 
--- src/lib.rt:52:9
 returns-5 : tie.Need-returns-5
 unfolding headerProper
 returns-5 c = search fields depth 14
 
--- src/lib.rt:36:1
 returns-6 : tie.Need-returns-6
 unfolding headerProper
 returns-6 c = search fields depth 14

@@ -9,44 +9,34 @@ use Rattle.rowproper.proofs.money_check.Reads as money-check-reads
 use Rattle.rowproper.proofs.symbols_check.Reads as symbols-check-reads
 use Rattle.rowproper.proofs.texts_check.Reads as texts-check-reads
 
--- src/lib.rt:215:11
 money-check-requires : tie.Need-money-check-requires
 money-check-requires c κs = search needs
 
--- src/lib.rt:216:22
 enum-known-n : tie.Need-enum-known-n
 enum-known-n c = search needs
 
--- src/lib.rt:217:30
 enum-told : tie.Need-enum-told
 enum-told c = search needs
 
--- src/lib.rt:217:30
 symbols-check-requires : tie.Need-symbols-check-requires
 symbols-check-requires c κs = search needs
 
--- src/lib.rt:218:26
 enum-known-n-2 : tie.Need-enum-known-n-2
 enum-known-n-2 c = search needs
 
--- src/lib.rt:219:28
 enum-told-2 : tie.Need-enum-told-2
 enum-told-2 c = search needs
 
--- src/lib.rt:219:28
 texts-check-requires : tie.Need-texts-check-requires
 texts-check-requires c κs = search needs
 
--- src/lib.rt:210:1
 returns : tie.Need-returns
 returns c = money-wrong _ _ _ _ _ (c .before .before .before .money-check .ensures) _ (c .before .n .given .1)
 
--- src/lib.rt:210:1
 returns-2 : tie.Need-returns-2
 returns-2 c =
     symbols-wrong _ _ _ _ _ (c .before .before .before .before .before .before .money-check .ensures) (c .before .before .before .before .enum-told .given .1) _ (c .before .before .before .symbols-check .ensures) _ (c .before .n2 .given .1)
 
--- src/lib.rt:210:1
 returns-3 : tie.Need-returns-3
 returns-3 c =
     texts-last _ _ _ _ _ (c .before .before .before .before .before .before .money-check .ensures) (c .before .before .before .before .enum-told .given .1) _ (c .before .before .before .symbols-check .ensures) (c .before .enum-told2 .given .1) _ (c .texts-check .ensures)

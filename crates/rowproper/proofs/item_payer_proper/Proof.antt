@@ -9,20 +9,16 @@ use Rattle.rowproper.proofs.item_payer_proper.Lts as lts
 use Rattle.account.proofs.account_proper.Reads as account-proper-reads
 use Rattle.account.proofs.is_nobody.Reads as is-nobody-reads
 
--- src/lib.rt:108:9
 account-proper-requires : tie.Need-account-proper-requires
 account-proper-requires c κs = search needs
 
--- src/lib.rt:108:9
 returns : tie.Need-returns
 unfolding itemPayerProper
 returns c = search picks
 
--- src/lib.rt:110:5
 is-nobody-requires : tie.Need-is-nobody-requires
 is-nobody-requires c κs = search needs
 
--- src/lib.rt:104:1
 returns-2 : tie.Need-returns-2
 unfolding itemPayerProper
 returns-2 c = search picks

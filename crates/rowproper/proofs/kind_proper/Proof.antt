@@ -6,12 +6,10 @@ use Rattle.rowproper.proofs.kind_proper.Tie as tie
 use Rattle.rowproper.proofs.kind_proper.Reads as reads
 use Rattle.rowproper.proofs.kind_proper.Lts as lts
 
--- src/lib.rt:62:9
 returns : tie.Need-returns
 unfolding kindProper
 returns c = search picks
 
--- src/lib.rt:58:1
 returns-2 : tie.Need-returns-2
 unfolding kindProper
 returns-2 c = search picks

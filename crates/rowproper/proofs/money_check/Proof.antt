@@ -11,43 +11,34 @@ use Rattle.bank.proofs.bank_proper.Reads as bank-proper-reads
 use Rattle.rowproper.proofs.amount_fits.Reads as amount-fits-reads
 use Rattle.rowproper.proofs.item_payer_proper.Reads as item-payer-proper-reads
 
--- src/lib.rt:129:9
 item-payer-proper-requires : tie.Need-item-payer-proper-requires
 item-payer-proper-requires c κs = search needs
 
--- src/lib.rt:130:9
 returns : tie.Need-returns
 unfolding moneyProper
 returns c k rest = search fields depth 14
 
--- src/lib.rt:132:9
 account-proper-requires : tie.Need-account-proper-requires
 account-proper-requires c κs = search needs
 
--- src/lib.rt:133:9
 returns-2 : tie.Need-returns-2
 unfolding moneyProper
 returns-2 c k rest = search fields depth 14
 
--- src/lib.rt:135:9
 bank-proper-requires : tie.Need-bank-proper-requires
 bank-proper-requires c κs = search needs
 
--- src/lib.rt:136:9
 returns-3 : tie.Need-returns-3
 unfolding moneyProper
 returns-3 c k rest = search fields depth 14
 
--- src/lib.rt:138:9
 amount-fits-requires : tie.Need-amount-fits-requires
 amount-fits-requires c κs = search needs
 
--- src/lib.rt:139:9
 returns-4 : tie.Need-returns-4
 unfolding moneyProper
 returns-4 c k rest = search fields depth 14
 
--- src/lib.rt:125:1
 returns-5 : tie.Need-returns-5
 unfolding moneyProper
 returns-5 c k rest = search fields depth 14

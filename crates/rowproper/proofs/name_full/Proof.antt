@@ -7,15 +7,12 @@ use Rattle.rowproper.proofs.name_full.Reads as reads
 use Rattle.rowproper.proofs.name_full.Lts as lts
 use Rattle.seek.proofs.all_text.Reads as all-text-reads
 
--- src/lib.rt:30:9
 all-text-requires : tie.Need-all-text-requires
 all-text-requires c κs = search needs
 
--- src/lib.rt:30:9
 returns : tie.Need-returns
 returns c = search picks
 
--- src/lib.rt:26:1
 returns-2 : tie.Need-returns-2
 returns-2 c = search picks
 

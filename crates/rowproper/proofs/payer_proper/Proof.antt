@@ -9,20 +9,16 @@ use Rattle.rowproper.proofs.payer_proper.Lts as lts
 use Rattle.account.proofs.account_proper.Reads as account-proper-reads
 use Rattle.account.proofs.is_nobody.Reads as is-nobody-reads
 
--- src/lib.rt:84:8
 is-nobody-requires : tie.Need-is-nobody-requires
 is-nobody-requires c κs = search needs
 
--- src/lib.rt:85:9
 returns : tie.Need-returns
 unfolding payerProper
 returns c = search picks
 
--- src/lib.rt:87:5
 account-proper-requires : tie.Need-account-proper-requires
 account-proper-requires c κs = search needs
 
--- src/lib.rt:81:1
 returns-2 : tie.Need-returns-2
 unfolding payerProper
 returns-2 c = search picks

@@ -9,52 +9,41 @@ use Rattle.rowproper.proofs.texts_check.Lts as lts
 use Rattle.rowproper.proofs.name_fine.Reads as name-fine-reads
 use Rattle.rowproper.proofs.part_fine.Reads as part-fine-reads
 
--- src/lib.rt:191:9
 part-fine-requires : tie.Need-part-fine-requires
 part-fine-requires c κs = search needs
 
--- src/lib.rt:192:9
 returns : tie.Need-returns
 unfolding textsProper
 returns c k rest = search fields depth 14
 
--- src/lib.rt:194:9
 part-fine-requires-2 : tie.Need-part-fine-requires-2
 part-fine-requires-2 c κs = search needs
 
--- src/lib.rt:195:9
 returns-2 : tie.Need-returns-2
 unfolding textsProper
 returns-2 c k rest = search fields depth 14
 
--- src/lib.rt:197:9
 part-fine-requires-3 : tie.Need-part-fine-requires-3
 part-fine-requires-3 c κs = search needs
 
--- src/lib.rt:198:9
 returns-3 : tie.Need-returns-3
 unfolding textsProper
 returns-3 c k rest = search fields depth 14
 
--- src/lib.rt:200:9
 part-fine-requires-4 : tie.Need-part-fine-requires-4
 part-fine-requires-4 c κs = search needs
 
--- src/lib.rt:201:9
 returns-4 : tie.Need-returns-4
 unfolding textsProper
 returns-4 c k rest = search fields depth 14
 
--- src/lib.rt:203:9
 name-fine-requires : tie.Need-name-fine-requires
 name-fine-requires c κs = search needs
 
--- src/lib.rt:204:9
 returns-5 : tie.Need-returns-5
 unfolding textsProper
 returns-5 c k rest = search fields depth 14
 
--- src/lib.rt:188:1
 returns-6 : tie.Need-returns-6
 unfolding textsProper
 returns-6 c k rest = search fields depth 14

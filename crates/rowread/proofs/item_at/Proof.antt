@@ -8,127 +8,96 @@ use Rattle.rowread.proofs.item_at.Lts as lts
 use Rattle.rowread.proofs.span_at.Reads as span-at-reads
 use Rattle.word.proofs.word_at.Reads as word-at-reads
 
--- src/lib.rt:73:42
 add-word-at : tie.Need-add-word-at
 add-word-at c = search needs
 
--- src/lib.rt:73:22
 word-at-requires : tie.Need-word-at-requires
 word-at-requires c κs = search needs
 
--- src/lib.rt:74:40
 add-word-at-2 : tie.Need-add-word-at-2
 add-word-at-2 c = search needs
 
--- src/lib.rt:74:20
 word-at-requires-2 : tie.Need-word-at-requires-2
 word-at-requires-2 c κs = search needs
 
--- src/lib.rt:75:42
 add-word-at-3 : tie.Need-add-word-at-3
 add-word-at-3 c = search needs
 
--- src/lib.rt:75:22
 word-at-requires-3 : tie.Need-word-at-requires-3
 word-at-requires-3 c κs = search needs
 
--- src/lib.rt:76:40
 add-word-at-4 : tie.Need-add-word-at-4
 add-word-at-4 c = search needs
 
--- src/lib.rt:76:20
 word-at-requires-4 : tie.Need-word-at-requires-4
 word-at-requires-4 c κs = search needs
 
--- src/lib.rt:77:35
 add-word-at-5 : tie.Need-add-word-at-5
 add-word-at-5 c = search needs
 
--- src/lib.rt:77:15
 word-at-requires-5 : tie.Need-word-at-requires-5
 word-at-requires-5 c κs = search needs
 
--- src/lib.rt:78:37
 add-word-at-6 : tie.Need-add-word-at-6
 add-word-at-6 c = search needs
 
--- src/lib.rt:78:17
 word-at-requires-6 : tie.Need-word-at-requires-6
 word-at-requires-6 c κs = search needs
 
--- src/lib.rt:79:39
 add-word-at-7 : tie.Need-add-word-at-7
 add-word-at-7 c = search needs
 
--- src/lib.rt:79:19
 word-at-requires-7 : tie.Need-word-at-requires-7
 word-at-requires-7 c κs = search needs
 
--- src/lib.rt:80:39
 add-word-at-8 : tie.Need-add-word-at-8
 add-word-at-8 c = search needs
 
--- src/lib.rt:80:19
 word-at-requires-8 : tie.Need-word-at-requires-8
 word-at-requires-8 c κs = search needs
 
--- src/lib.rt:81:39
 add-word-at-9 : tie.Need-add-word-at-9
 add-word-at-9 c = search needs
 
--- src/lib.rt:81:19
 word-at-requires-9 : tie.Need-word-at-requires-9
 word-at-requires-9 c κs = search needs
 
--- src/lib.rt:82:39
 add-word-at-10 : tie.Need-add-word-at-10
 add-word-at-10 c = search needs
 
--- src/lib.rt:82:19
 word-at-requires-10 : tie.Need-word-at-requires-10
 word-at-requires-10 c κs = search needs
 
--- src/lib.rt:83:30
 add-span-at : tie.Need-add-span-at
 add-span-at c = search needs
 
--- src/lib.rt:83:16
 span-at-requires : tie.Need-span-at-requires
 span-at-requires c κs = search needs
 
--- src/lib.rt:84:30
 add-span-at-2 : tie.Need-add-span-at-2
 add-span-at-2 c = search needs
 
--- src/lib.rt:84:16
 span-at-requires-2 : tie.Need-span-at-requires-2
 span-at-requires-2 c κs = search needs
 
--- src/lib.rt:85:30
 add-span-at-3 : tie.Need-add-span-at-3
 add-span-at-3 c = search needs
 
--- src/lib.rt:85:16
 span-at-requires-3 : tie.Need-span-at-requires-3
 span-at-requires-3 c κs = search needs
 
--- src/lib.rt:86:30
 add-span-at-4 : tie.Need-add-span-at-4
 add-span-at-4 c = search needs
 
--- src/lib.rt:86:16
 span-at-requires-4 : tie.Need-span-at-requires-4
 span-at-requires-4 c κs = search needs
 
--- src/lib.rt:87:29
 add-span-at-5 : tie.Need-add-span-at-5
 add-span-at-5 c = omega (arith, c .before .before .before .before .before .before .before .before .before .before .before .before .before .before .before .pre, c .before .before .before .before .before .before .before .before .before .before .before .before .before .before .before .good .0)
 
--- src/lib.rt:87:15
 span-at-requires-5 : tie.Need-span-at-requires-5
 span-at-requires-5 c κs = omega (arith, c .before .before .before .before .before .before .before .before .before .before .before .before .before .before .before .pre)
 
--- src/lib.rt:68:1
 returns : tie.Need-returns
 returns c =
     rw (

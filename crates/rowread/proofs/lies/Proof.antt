@@ -5,11 +5,9 @@ use Rattle.rowread.proofs.lies.Tie as tie
 use Rattle.rowread.proofs.lies.Reads as reads
 use Rattle.rowread.proofs.lies.Lts as lts
 
--- src/lib.rt:52:9
 returns : tie.Need-returns
 returns c = search lies-out
 
--- src/lib.rt:46:1
 returns-2 : tie.Need-returns-2
 returns-2 c = search lies-apart
 

@@ -8,67 +8,51 @@ use Rattle.rowread.proofs.read_row.Lts as lts
 use Rattle.rowread.proofs.item_at.Reads as item-at-reads
 use Rattle.word.proofs.word_at.Reads as word-at-reads
 
--- src/lib.rt:96:9
 word-at-requires : tie.Need-word-at-requires
 word-at-requires c κs = search needs
 
--- src/lib.rt:98:30
 item-at-requires : tie.Need-item-at-requires
 item-at-requires c κs = search needs
 
--- src/lib.rt:98:9
 returns : tie.Need-returns
 returns c = search exits
 
--- src/lib.rt:101:51
 add-word-at : tie.Need-add-word-at
 add-word-at c = search needs
 
--- src/lib.rt:101:31
 word-at-requires-2 : tie.Need-word-at-requires-2
 word-at-requires-2 c κs = search needs
 
--- src/lib.rt:101:80
 add-word-at-2 : tie.Need-add-word-at-2
 add-word-at-2 c = search needs
 
--- src/lib.rt:101:60
 word-at-requires-3 : tie.Need-word-at-requires-3
 word-at-requires-3 c κs = search needs
 
--- src/lib.rt:101:110
 add-word-at-3 : tie.Need-add-word-at-3
 add-word-at-3 c = search needs
 
--- src/lib.rt:101:90
 word-at-requires-4 : tie.Need-word-at-requires-4
 word-at-requires-4 c κs = search needs
 
--- src/lib.rt:101:9
 returns-2 : tie.Need-returns-2
 returns-2 c = search exits
 
--- src/lib.rt:104:50
 add-word-at-4 : tie.Need-add-word-at-4
 add-word-at-4 c = search needs
 
--- src/lib.rt:104:30
 word-at-requires-5 : tie.Need-word-at-requires-5
 word-at-requires-5 c κs = search needs
 
--- src/lib.rt:104:79
 add-word-at-5 : tie.Need-add-word-at-5
 add-word-at-5 c = search needs
 
--- src/lib.rt:104:59
 word-at-requires-6 : tie.Need-word-at-requires-6
 word-at-requires-6 c κs = search needs
 
--- src/lib.rt:104:9
 returns-3 : tie.Need-returns-3
 returns-3 c = search exits
 
--- src/lib.rt:92:1
 returns-4 : tie.Need-returns-4
 returns-4 c = search exits
 

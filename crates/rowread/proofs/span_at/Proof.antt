@@ -6,19 +6,15 @@ use Rattle.rowread.proofs.span_at.Reads as reads
 use Rattle.rowread.proofs.span_at.Lts as lts
 use Rattle.word.proofs.word_at.Reads as word-at-reads
 
--- src/lib.rt:62:17
 word-at-requires : tie.Need-word-at-requires
 word-at-requires c κs = search needs
 
--- src/lib.rt:63:35
 add-word-at : tie.Need-add-word-at
 add-word-at c = search needs
 
--- src/lib.rt:63:15
 word-at-requires-2 : tie.Need-word-at-requires-2
 word-at-requires-2 c κs = search needs
 
--- src/lib.rt:58:1
 returns : tie.Need-returns
 returns c = rw (c .before .word-at .ensures, c .word-at2 .ensures)
 

@@ -8,27 +8,22 @@ use Rattle.sheet.proofs.sheet_by.Tie as tie
 use Rattle.sheet.proofs.sheet_by.Reads as reads
 use Rattle.sheet.proofs.sheet_by.Lts as lts
 
--- src/lib.rt:255:1
 returns : tie.Need-returns
 unfolding sheetBy
 returns c = search picks depth 8
 
--- src/lib.rt:255:1
 returns-2 : tie.Need-returns-2
 unfolding sheetBy pick
 returns-2 c = simp (c .match .keys2)
 
--- src/lib.rt:255:1
 returns-3 : tie.Need-returns-3
 unfolding sheetBy pick
 returns-3 c = simp (c .match .keys3)
 
--- src/lib.rt:255:1
 returns-4 : tie.Need-returns-4
 unfolding sheetBy pick
 returns-4 c = simp (c .match .keys4)
 
--- src/lib.rt:255:1
 returns-5 : tie.Need-returns-5
 unfolding sheetBy
 returns-5 c = search picks depth 8

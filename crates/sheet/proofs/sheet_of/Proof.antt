@@ -8,27 +8,22 @@ use Rattle.sheet.proofs.sheet_of.Tie as tie
 use Rattle.sheet.proofs.sheet_of.Reads as reads
 use Rattle.sheet.proofs.sheet_of.Lts as lts
 
--- src/lib.rt:242:1
 returns : tie.Need-returns
 unfolding sheetOf
 returns c = search picks depth 8
 
--- src/lib.rt:242:1
 returns-2 : tie.Need-returns-2
 unfolding sheetOf pick
 returns-2 c = simp (c .match .keys2)
 
--- src/lib.rt:242:1
 returns-3 : tie.Need-returns-3
 unfolding sheetOf pick
 returns-3 c = simp (c .match .keys3)
 
--- src/lib.rt:242:1
 returns-4 : tie.Need-returns-4
 unfolding sheetOf pick
 returns-4 c = simp (c .match .keys4)
 
--- src/lib.rt:242:1
 returns-5 : tie.Need-returns-5
 unfolding sheetOf
 returns-5 c = search picks depth 8

@@ -1,3 +1,4 @@
+-- `fixed_tail`: both spaces stand, the symbol may be empty. Assumes nothing.
 use borrow.Author.Needs.{needs}
 use Rattle.paper.specs.ItemLine.{fixedTail}
 use Rattle.tail.proofs.Tails.{tails}
@@ -7,42 +8,33 @@ use Rattle.tail.proofs.fixed_tail.Reads as reads
 use Rattle.tail.proofs.fixed_tail.Lts as lts
 use Rattle.field.proofs.number_at.Reads as number-at-reads
 
--- src/lib.rt:27:9
 returns : tie.Need-returns
 unfolding fixedTail
 returns c = (λ y k. search tails depth 8, search needs)
 
--- src/lib.rt:29:16
 add-from : tie.Need-add-from
 add-from c = search needs
 
--- src/lib.rt:30:11
 number-at-requires : tie.Need-number-at-requires
 number-at-requires c κs = search needs
 
--- src/lib.rt:31:24
 enum-known-n : tie.Need-enum-known-n
 enum-known-n c = search needs
 
--- src/lib.rt:32:22
 enum-known-specific : tie.Need-enum-known-specific
 enum-known-specific c = search needs
 
--- src/lib.rt:34:17
 returns-2 : tie.Need-returns-2
 unfolding fixedTail
 returns-2 c = (λ y k. search tails depth 8, search needs)
 
--- src/lib.rt:36:38
 add-t11 : tie.Need-add-t11
 add-t11 c = search needs
 
--- src/lib.rt:21:1
 returns-3 : tie.Need-returns-3
 unfolding fixedTail
 returns-3 c = (λ y k. search tails depth 8, search needs)
 
--- src/lib.rt:21:1
 returns-4 : tie.Need-returns-4
 unfolding fixedTail
 returns-4 c = (λ y k. search tails depth 8, search needs)

@@ -1,3 +1,4 @@
+-- `open_tail`: each space announces what follows. Assumes nothing.
 use borrow.Author.Needs.{needs}
 use Rattle.tail.proofs.Tails.{tails}
 use Rattle.tail.proofs.open_tail.Statement.{statement}
@@ -6,43 +7,33 @@ use Rattle.tail.proofs.open_tail.Reads as reads
 use Rattle.tail.proofs.open_tail.Lts as lts
 use Rattle.field.proofs.number_at.Reads as number-at-reads
 
--- src/lib.rt:48:9
 returns : tie.Need-returns
 returns c = (λ y k. search tails depth 8, search needs)
 
--- src/lib.rt:50:16
 add-from : tie.Need-add-from
 add-from c = search needs
 
--- src/lib.rt:51:11
 number-at-requires : tie.Need-number-at-requires
 number-at-requires c κs = search needs
 
--- src/lib.rt:52:24
 enum-known-n : tie.Need-enum-known-n
 enum-known-n c = search needs
 
--- src/lib.rt:54:17
 returns-2 : tie.Need-returns-2
 returns-2 c = (λ y k. search tails depth 8, search needs)
 
--- src/lib.rt:58:22
 enum-known-specific : tie.Need-enum-known-specific
 enum-known-specific c = search needs
 
--- src/lib.rt:60:17
 returns-3 : tie.Need-returns-3
 returns-3 c = (λ y k. search tails depth 8, search needs)
 
--- src/lib.rt:62:38
 add-t13 : tie.Need-add-t13
 add-t13 c = search needs
 
--- src/lib.rt:42:1
 returns-4 : tie.Need-returns-4
 returns-4 c = (λ y k. search tails depth 8, search needs)
 
--- src/lib.rt:42:1
 returns-5 : tie.Need-returns-5
 returns-5 c = (λ y k. search tails depth 8, search needs)
 

@@ -1,3 +1,4 @@
+-- `read_tail`: the one or the other, by the sheet. Assumes nothing.
 use borrow.Author.Needs.{needs}
 use Rattle.tail.proofs.Tails.{kinds}
 use Rattle.tail.proofs.read_tail.Statement.{statement}
@@ -7,19 +8,15 @@ use Rattle.tail.proofs.read_tail.Lts as lts
 use Rattle.tail.proofs.fixed_tail.Reads as fixed-tail-reads
 use Rattle.tail.proofs.open_tail.Reads as open-tail-reads
 
--- src/lib.rt:74:9
 fixed-tail-requires : tie.Need-fixed-tail-requires
 fixed-tail-requires c κs = search needs
 
--- src/lib.rt:74:9
 returns : tie.Need-returns
 returns c = search (kinds, needs)
 
--- src/lib.rt:76:5
 open-tail-requires : tie.Need-open-tail-requires
 open-tail-requires c κs = search needs
 
--- src/lib.rt:68:1
 returns-2 : tie.Need-returns-2
 returns-2 c = search (kinds, needs)
 

@@ -11,43 +11,34 @@ use Rattle.taking.proofs.take_amount.Reads as take-amount-reads
 use Rattle.taking.proofs.take_bank.Reads as take-bank-reads
 use Rattle.taking.proofs.take_symbol.Reads as take-symbol-reads
 
--- src/lib.rt:206:9
 take-account-requires : tie.Need-take-account-requires
 take-account-requires c κs = search (fields, needs)
 
--- src/lib.rt:207:41
 add-take-amount : tie.Need-add-take-amount
 add-take-amount c = search (fields, needs)
 
--- src/lib.rt:207:9
 take-amount-requires : tie.Need-take-amount-requires
 take-amount-requires c κs = search (fields, needs)
 
--- src/lib.rt:208:43
 add-take-symbol : tie.Need-add-take-symbol
 add-take-symbol c = search (fields, needs)
 
--- src/lib.rt:208:9
 take-symbol-requires : tie.Need-take-symbol-requires
 take-symbol-requires c κs = search (fields, needs)
 
--- src/lib.rt:209:37
 add-take-bank : tie.Need-add-take-bank
 add-take-bank c = search (fields, needs)
 
--- src/lib.rt:209:9
 take-bank-requires : tie.Need-take-bank-requires
 take-bank-requires c κs =
     let h = c .before .before .before .before .before .before .before .pre .1 in
     (symbol-within _ _ _ _ h (c .before .before .before .before .before .take-account .result) (c .before .before .before .before .before .take-account .ensures) (c .before .before .before .take-amount .result) (c .before .before .before .take-amount .ensures) (c .before .take-symbol .result) (c .before .take-symbol .ensures), bank-value _ _ _ _ h (c .before .before .before .before .before .take-account .result) (c .before .before .before .before .before .take-account .ensures) (c .before .before .before .take-amount .result) (c .before .before .before .take-amount .ensures) (c .before .take-symbol .result) (c .before .take-symbol .ensures))
 
--- src/lib.rt:225:5
 from-tail-requires : tie.Need-from-tail-requires
 from-tail-requires c κs =
     let h = c .before .before .before .before .before .before .before .before .pre .1 in
     (c .before .before .before .before .before .before .before .before .pre .0 .0, (tail-within _ _ _ _ h (c .before .before .before .before .before .before .take-account .result) (c .before .before .before .before .before .before .take-account .ensures) (c .before .before .before .before .take-amount .result) (c .before .before .before .before .take-amount .ensures) (c .before .before .take-symbol .result) (c .before .before .take-symbol .ensures) (c .take-bank .result) (c .take-bank .ensures), ((amount-low _ _ _ _ h (c .before .before .before .before .before .before .take-account .result) (c .before .before .before .before .before .before .take-account .ensures) (c .before .before .before .before .take-amount .result) (c .before .before .before .before .take-amount .ensures) (c .before .before .before .before .before .before .before .before .pre .0 .2), bank-few _ _ _ _ h (c .before .before .before .before .before .before .take-account .result) (c .before .before .before .before .before .before .take-account .ensures) (c .before .before .before .before .take-amount .result) (c .before .before .before .before .take-amount .ensures) (c .before .before .take-symbol .result) (c .before .before .take-symbol .ensures) (c .take-bank .result) (c .take-bank .ensures)), tail-said _ _ _ _ h (c .before .before .before .before .before .before .take-account .result) (c .before .before .before .before .before .before .take-account .ensures) (c .before .before .before .before .take-amount .result) (c .before .before .before .before .take-amount .ensures) (c .before .before .take-symbol .result) (c .before .before .take-symbol .ensures) (c .take-bank .result) (c .take-bank .ensures))))
 
--- src/lib.rt:200:1
 returns : tie.Need-returns
 returns c =
     let h = c .before .before .before .before .before .before .before .before .before .pre .1 in

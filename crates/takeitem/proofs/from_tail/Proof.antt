@@ -11,41 +11,32 @@ use Rattle.takeitem.proofs.take_tail.Reads as take-tail-reads
 use Rattle.takeitem.proofs.take_text.Reads as take-text-reads
 use Rattle.takeitem.proofs.whole.Reads as whole-reads
 
--- src/lib.rt:193:11
 take-tail-requires : tie.Need-take-tail-requires
 take-tail-requires c κs = search needs
 
--- src/lib.rt:194:21
 enum-known-specific : tie.Need-enum-known-specific
 enum-known-specific c = search needs
 
--- src/lib.rt:194:53
 no-spans-requires : tie.Need-no-spans-requires
 no-spans-requires c κs = search needs
 
--- src/lib.rt:194:34
 whole-requires : tie.Need-whole-requires
 whole-requires c κs = search (ends, needs)
 
--- src/lib.rt:195:20
 enum-known-specific-2 : tie.Need-enum-known-specific-2
 enum-known-specific-2 c = search needs
 
--- src/lib.rt:195:58
 take-text-requires : tie.Need-take-text-requires
 take-text-requires c κs = search (ends, needs)
 
--- src/lib.rt:195:39
 whole-requires-2 : tie.Need-whole-requires-2
 whole-requires-2 c κs = search (ends, needs)
 
--- src/lib.rt:185:1
 returns : tie.Need-returns
 returns c =
     let p = c .before .before .before .before .before .before .before .pre .1 .1 .0 in
     (search ends, plain-sound _ (p .0) (p .1) _ _ _ _ (c .whole .ensures) (search needs))
 
--- src/lib.rt:185:1
 returns-2 : tie.Need-returns-2
 returns-2 c =
     let p = c .before .before .before .before .before .before .before .pre .1 .1 .0 in

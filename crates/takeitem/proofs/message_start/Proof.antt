@@ -8,15 +8,12 @@ use Rattle.takeitem.proofs.message_start.Tie as tie
 use Rattle.takeitem.proofs.message_start.Reads as reads
 use Rattle.takeitem.proofs.message_start.Lts as lts
 
--- src/lib.rt:89:16
 add-result : tie.Need-add-result
 add-result c = search needs
 
--- src/lib.rt:89:9
 returns : tie.Need-returns
 returns c = search picks
 
--- src/lib.rt:81:1
 returns-2 : tie.Need-returns-2
 returns-2 c = search picks
 

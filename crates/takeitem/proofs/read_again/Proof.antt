@@ -9,27 +9,21 @@ use Rattle.takeitem.proofs.read_again.Lts as lts
 use Rattle.takeitem.proofs.no_spans.Reads as no-spans-reads
 use Rattle.text.proofs.read_text.Reads as read-text-reads
 
--- src/lib.rt:63:11
 read-text-requires : tie.Need-read-text-requires
 read-text-requires c κs = search needs
 
--- src/lib.rt:64:25
 enum-known-texts : tie.Need-enum-known-texts
 enum-known-texts c = search needs
 
--- src/lib.rt:65:33
 enum-told : tie.Need-enum-told
 enum-told c = search needs
 
--- src/lib.rt:65:33
 no-spans-requires : tie.Need-no-spans-requires
 no-spans-requires c κs = search needs
 
--- src/lib.rt:56:1
 returns : tie.Need-returns
 returns c = (search again, search again)
 
--- src/lib.rt:56:1
 returns-2 : tie.Need-returns-2
 returns-2 c = (search again, search again)
 

@@ -8,15 +8,12 @@ use Rattle.takeitem.proofs.take_item.Lts as lts
 use Rattle.takeitem.proofs.from_payee.Reads as from-payee-reads
 use Rattle.takeitem.proofs.take_payer.Reads as take-payer-reads
 
--- src/lib.rt:255:9
 take-payer-requires : tie.Need-take-payer-requires
 take-payer-requires c κs = search (payers, needs)
 
--- src/lib.rt:256:5
 from-payee-requires : tie.Need-from-payee-requires
 from-payee-requires c κs = search (payers, needs)
 
--- src/lib.rt:249:1
 returns : tie.Need-returns
 returns c = (search payers, search needs)
 

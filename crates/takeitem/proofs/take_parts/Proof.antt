@@ -10,39 +10,30 @@ use Rattle.find.proofs.find_byte.Reads as find-byte-reads
 use Rattle.span.proofs.four_from.Reads as four-from-reads
 use Rattle.takeitem.proofs.no_spans.Reads as no-spans-reads
 
--- src/lib.rt:99:9
 find-byte-requires : tie.Need-find-byte-requires
 find-byte-requires c κs = search needs
 
--- src/lib.rt:101:9
 four-from-requires : tie.Need-four-from-requires
 four-from-requires c κs = search needs
 
--- src/lib.rt:101:9
 returns : tie.Need-returns
 returns c = search needs
 
--- src/lib.rt:103:15
 sub-len : tie.Need-sub-len
 sub-len c = search needs
 
--- src/lib.rt:105:9
 four-from-requires-2 : tie.Need-four-from-requires-2
 four-from-requires-2 c κs = search needs
 
--- src/lib.rt:105:9
 returns-2 : tie.Need-returns-2
 returns-2 c = search needs
 
--- src/lib.rt:108:9
 no-spans-requires : tie.Need-no-spans-requires
 no-spans-requires c κs = search needs
 
--- src/lib.rt:108:9
 returns-3 : tie.Need-returns-3
 returns-3 c = search (parts)
 
--- src/lib.rt:95:1
 returns-4 : tie.Need-returns-4
 returns-4 c = search (parts)
 

@@ -7,23 +7,19 @@ use Rattle.takeitem.proofs.take_payer.Reads as reads
 use Rattle.takeitem.proofs.take_payer.Lts as lts
 use Rattle.taking.proofs.take_account.Reads as take-account-reads
 
--- src/lib.rt:234:13
 take-account-requires : tie.Need-take-account-requires
 take-account-requires c κs = c .before .before .pre (c .if1 .taken)
 
--- src/lib.rt:238:18
 add-t7 : tie.Need-add-t7
 add-t7 c =
     let t = c .before .before .if1 .taken in
     payer-room _ _ _ _ t (c .before .before .before .before .pre t) (c .before .take-account .result) (c .before .take-account .ensures) (omega arith)
 
--- src/lib.rt:235:9
 returns : tie.Need-returns
 returns c =
     let t = c .before .before .if1 .taken in
     payer-is _ _ _ _ t (c .before .before .before .before .pre t) (c .before .take-account .result) (c .before .take-account .ensures)
 
--- src/lib.rt:229:1
 returns-2 : tie.Need-returns-2
 returns-2 c = no-payer _ _ _ _ (c .if1 .left)
 

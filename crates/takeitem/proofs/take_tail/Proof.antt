@@ -9,51 +9,40 @@ use Rattle.takeitem.proofs.take_tail.Reads as reads
 use Rattle.takeitem.proofs.take_tail.Lts as lts
 use Rattle.field.proofs.digit_run.Reads as digit-run-reads
 
--- src/lib.rt:143:9
 returns : tie.Need-returns
 returns c = (search tails, search (tails, needs))
 
--- src/lib.rt:145:16
 add-from : tie.Need-add-from
 add-from c = search needs
 
--- src/lib.rt:146:9
 digit-run-requires : tie.Need-digit-run-requires
 digit-run-requires c κs = search needs
 
--- src/lib.rt:151:13
 returns-2 : tie.Need-returns-2
 returns-2 c = (search tails, search (tails, needs))
 
--- src/lib.rt:153:12
 shared-slice-read-if4 : tie.Need-shared-slice-read-if4
 shared-slice-read-if4 c = search needs
 
--- src/lib.rt:154:39
 add-t17 : tie.Need-add-t17
 add-t17 c = search needs
 
--- src/lib.rt:154:13
 returns-3 : tie.Need-returns-3
 returns-3 c =
     let d = c .before .before .before .before .digit-run in
     (tail-text _ _ _ _ _ _ (c .before .before .before .before .before .before .before .pre .1) (omega arith) _ _ (d .ensures .0) (d .ensures .1) (omega arith) (omega arith) (c .if4 .taken), search (tails, needs))
 
--- src/lib.rt:156:9
 returns-4 : tie.Need-returns-4
 returns-4 c = (search tails, search (tails, needs))
 
--- src/lib.rt:159:35
 add-t18 : tie.Need-add-t18
 add-t18 c = search needs
 
--- src/lib.rt:159:9
 returns-5 : tie.Need-returns-5
 returns-5 c =
     let d = c .before .before .digit-run in
     (tail-fixed _ _ _ _ _ _ (c .before .before .before .before .before .pre .1) (omega arith) _ _ (d .ensures .0) (d .ensures .1) (omega arith) (c .if5 .taken), search (tails, needs))
 
--- src/lib.rt:136:1
 returns-6 : tie.Need-returns-6
 returns-6 c = (search tails, search (tails, needs))
 

@@ -11,27 +11,21 @@ use Rattle.takeitem.proofs.read_again.Reads as read-again-reads
 use Rattle.takeitem.proofs.take_parts.Reads as take-parts-reads
 use Rattle.takeitem.proofs.varied.Reads as varied-reads
 
--- src/lib.rt:128:8
 varied-requires : tie.Need-varied-requires
 varied-requires c κs = search needs
 
--- src/lib.rt:129:9
 read-again-requires : tie.Need-read-again-requires
 read-again-requires c κs = search needs
 
--- src/lib.rt:129:9
 returns : tie.Need-returns
 returns c = search needs
 
--- src/lib.rt:131:19
 message-start-requires : tie.Need-message-start-requires
 message-start-requires c κs = search (plain-texts, needs)
 
--- src/lib.rt:131:5
 take-parts-requires : tie.Need-take-parts-requires
 take-parts-requires c κs = search (plain-texts, needs)
 
--- src/lib.rt:121:1
 returns-2 : tie.Need-returns-2
 returns-2 c = (search plain-texts, search plain-texts)
 

@@ -6,11 +6,9 @@ use Rattle.takeitem.proofs.varied.Tie as tie
 use Rattle.takeitem.proofs.varied.Reads as reads
 use Rattle.takeitem.proofs.varied.Lts as lts
 
--- src/lib.rt:75:9
 returns : tie.Need-returns
 returns c = search (picks)
 
--- src/lib.rt:70:1
 returns-2 : tie.Need-returns-2
 returns-2 c = search (picks)
 

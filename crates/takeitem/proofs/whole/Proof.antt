@@ -8,11 +8,9 @@ use Rattle.takeitem.proofs.whole.Tie as tie
 use Rattle.takeitem.proofs.whole.Reads as reads
 use Rattle.takeitem.proofs.whole.Lts as lts
 
--- src/lib.rt:179:19
 add-t4 : tie.Need-add-t4
 add-t4 c = search needs
 
--- src/lib.rt:164:1
 returns : tie.Need-returns
 unfolding withTexts
 returns c = refl

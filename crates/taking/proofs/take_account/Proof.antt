@@ -7,31 +7,24 @@ use Rattle.taking.proofs.take_account.Reads as reads
 use Rattle.taking.proofs.take_account.Lts as lts
 use Rattle.taking.proofs.take_run.Reads as take-run-reads
 
--- src/lib.rt:54:9
 take-run-requires : tie.Need-take-run-requires
 take-run-requires c κs = search (accounts, needs)
 
--- src/lib.rt:56:8
 shared-slice-read-if1 : tie.Need-shared-slice-read-if1
 shared-slice-read-if1 c = search (accounts, needs)
 
--- src/lib.rt:57:32
 add-take-run : tie.Need-add-take-run
 add-take-run c = search (accounts, needs)
 
--- src/lib.rt:57:13
 take-run-requires-2 : tie.Need-take-run-requires-2
 take-run-requires-2 c κs = search (accounts, needs)
 
--- src/lib.rt:58:9
 returns : tie.Need-returns
 returns c = search (accounts)
 
--- src/lib.rt:66:9
 returns-2 : tie.Need-returns-2
 returns-2 c = search (accounts)
 
--- src/lib.rt:50:1
 returns-3 : tie.Need-returns-3
 returns-3 c = search (accounts)
 

@@ -7,35 +7,27 @@ use Rattle.taking.proofs.take_amount.Reads as reads
 use Rattle.taking.proofs.take_amount.Lts as lts
 use Rattle.taking.proofs.take_run.Reads as take-run-reads
 
--- src/lib.rt:85:9
 take-run-requires : tie.Need-take-run-requires
 take-run-requires c κs = search (amounts, needs)
 
--- src/lib.rt:87:8
 shared-slice-read-if1 : tie.Need-shared-slice-read-if1
 shared-slice-read-if1 c = search (amounts, needs)
 
--- src/lib.rt:88:32
 add-take-run : tie.Need-add-take-run
 add-take-run c = search (amounts, needs)
 
--- src/lib.rt:88:13
 take-run-requires-2 : tie.Need-take-run-requires-2
 take-run-requires-2 c κs = search (amounts, needs)
 
--- src/lib.rt:90:20
 mul-t13 : tie.Need-mul-t13
 mul-t13 c = search (amounts, needs)
 
--- src/lib.rt:90:20
 add-t14 : tie.Need-add-t14
 add-t14 c = search (amounts, needs)
 
--- src/lib.rt:89:9
 returns : tie.Need-returns
 returns c = search (amounts)
 
--- src/lib.rt:80:1
 returns-2 : tie.Need-returns-2
 returns-2 c = search (amounts)
 

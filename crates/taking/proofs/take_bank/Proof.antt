@@ -8,19 +8,15 @@ use Rattle.taking.proofs.take_bank.Reads as reads
 use Rattle.taking.proofs.take_bank.Lts as lts
 use Rattle.field.proofs.digit_run.Reads as digit-run-reads
 
--- src/lib.rt:112:9
 digit-run-requires : tie.Need-digit-run-requires
 digit-run-requires c κs = search needs
 
--- src/lib.rt:119:9
 returns : tie.Need-returns
 returns c = search (banks)
 
--- src/lib.rt:128:9
 returns-2 : tie.Need-returns-2
 returns-2 c = search (banks)
 
--- src/lib.rt:107:1
 returns-3 : tie.Need-returns-3
 returns-3 c = search (banks)
 

@@ -15,43 +15,33 @@ Inv-loop s at v₀ i₀ v i = Takes s at v i
 abbrev μ-loop : tie.MeasureT-loop
 μ-loop s at v₀ i₀ v i = length s - i
 
--- src/lib.rt:39:5
 loop-holds : tie.Need-loop-holds Inv-loop μ-loop
 loop-holds c = search (turns, needs)
 
--- src/lib.rt:40:17
 shared-slice-read-b : tie.Need-shared-slice-read-b Inv-loop μ-loop
 shared-slice-read-b c = search (turns, needs)
 
--- src/lib.rt:42:13
 returns : tie.Need-returns Inv-loop μ-loop
 returns c = search (turns)
 
--- src/lib.rt:44:13
 mul-v : tie.Need-mul-v Inv-loop μ-loop
 mul-v c = search (turns, needs)
 
--- src/lib.rt:44:23
 cast-v : tie.Need-cast-v Inv-loop μ-loop
 cast-v c = search (turns, needs)
 
--- src/lib.rt:44:23
 sub-v : tie.Need-sub-v Inv-loop μ-loop
 sub-v c = search (turns, needs)
 
--- src/lib.rt:44:13
 add-v : tie.Need-add-v Inv-loop μ-loop
 add-v c = search (turns, needs)
 
--- src/lib.rt:45:9
 add-i : tie.Need-add-i Inv-loop μ-loop
 add-i c = search (turns, needs)
 
--- src/lib.rt:39:5
 loop-less : tie.Need-loop-less Inv-loop μ-loop
 loop-less c = search (turns, needs)
 
--- src/lib.rt:39:5
 loop-again : tie.Need-loop-again Inv-loop μ-loop
 loop-again c = search (turns, needs)
 

@@ -7,11 +7,9 @@ use Rattle.taking.proofs.take_symbol.Reads as reads
 use Rattle.taking.proofs.take_symbol.Lts as lts
 use Rattle.taking.proofs.take_run.Reads as take-run-reads
 
--- src/lib.rt:102:5
 take-run-requires : tie.Need-take-run-requires
 take-run-requires c κs = search (symbols, needs)
 
--- src/lib.rt:98:1
 returns : tie.Need-returns
 returns c = search (symbols)
 

@@ -8,27 +8,21 @@ use Rattle.write.proofs.accept.Lts as lts
 use Rattle.write.proofs.counted.Reads as counted-reads
 use Rattle.write.proofs.fill.Reads as fill-reads
 
--- src/lib.rt:182:9
 counted-requires : tie.Need-counted-requires
 counted-requires c κs = search needs
 
--- src/lib.rt:182:9
 returns : tie.Need-returns
 returns c = search accepting
 
--- src/lib.rt:184:5
 fill-requires : tie.Need-fill-requires
 fill-requires c κs = search (accepting, needs)
 
--- src/lib.rt:185:5
 counted-requires-2 : tie.Need-counted-requires-2
 counted-requires-2 c κs = search needs
 
--- src/lib.rt:164:1
 same-length : tie.Need-same-length
 same-length c = search needs
 
--- src/lib.rt:164:1
 returns-2 : tie.Need-returns-2
 returns-2 c = search accepting
 

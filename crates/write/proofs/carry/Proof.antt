@@ -7,23 +7,18 @@ use Rattle.write.proofs.carry.Reads as reads
 use Rattle.write.proofs.carry.Lts as lts
 use Rattle.write.proofs.header_carried.Reads as header-carried-reads
 
--- src/lib.rt:84:11
 header-carried-requires : tie.Need-header-carried-requires
 header-carried-requires c κs = search needs
 
--- src/lib.rt:85:22
 enum-known-field : tie.Need-enum-known-field
 enum-known-field c = search needs
 
--- src/lib.rt:86:24
 enum-told : tie.Need-enum-told
 enum-told c = search needs
 
--- src/lib.rt:81:1
 returns : tie.Need-returns
 returns c = search carrying
 
--- src/lib.rt:81:1
 returns-2 : tie.Need-returns-2
 returns-2 c = search carrying
 

@@ -7,19 +7,15 @@ use Rattle.write.proofs.file_len.Reads as reads
 use Rattle.write.proofs.file_len.Lts as lts
 use Rattle.linelen.proofs.first_len.Reads as first-len-reads
 
--- src/lib.rt:96:5
 first-len-requires : tie.Need-first-len-requires
 first-len-requires c κs = search needs
 
--- src/lib.rt:96:5
 add-result : tie.Need-add-result
 add-result c = search needs
 
--- src/lib.rt:96:5
 add-result-2 : tie.Need-add-result-2
 add-result-2 c = search needs
 
--- src/lib.rt:92:1
 returns : tie.Need-returns
 returns c = search whole-length
 

@@ -8,19 +8,15 @@ use Rattle.write.proofs.fill.Lts as lts
 use Rattle.putlines.proofs.put_first.Reads as put-first-reads
 use Rattle.fillfile.proofs.fill_file.Reads as fill-file-reads
 
--- src/lib.rt:144:9
 put-first-requires : tie.Need-put-first-requires
 put-first-requires c κs = search (putting, needs)
 
--- src/lib.rt:145:5
 fill-file-requires : tie.Need-fill-file-requires
 fill-file-requires c κs = search (putting, needs)
 
--- src/lib.rt:129:1
 same-length : tie.Need-same-length
 same-length c = search needs
 
--- src/lib.rt:129:1
 returns : tie.Need-returns
 returns c = search putting
 

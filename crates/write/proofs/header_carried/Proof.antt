@@ -5,19 +5,15 @@ use Rattle.write.proofs.header_carried.Tie as tie
 use Rattle.write.proofs.header_carried.Reads as reads
 use Rattle.write.proofs.header_carried.Lts as lts
 
--- src/lib.rt:82:9
 returns : tie.Need-returns
 returns c = search interval
 
--- src/lib.rt:86:13
 returns-2 : tie.Need-returns-2
 returns-2 c = search interval
 
--- src/lib.rt:78:1
 returns-3 : tie.Need-returns-3
 returns-3 c = search interval
 
--- src/lib.rt:78:1
 returns-4 : tie.Need-returns-4
 returns-4 c = search interval
 

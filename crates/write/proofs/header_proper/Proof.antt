@@ -7,15 +7,12 @@ use Rattle.write.proofs.header_proper.Reads as reads
 use Rattle.write.proofs.header_proper.Lts as lts
 use Rattle.rowproper.proofs.header_check.Reads as header-check-reads
 
--- src/lib.rt:61:9
 header-check-requires : tie.Need-header-check-requires
 header-check-requires c κs = search needs
 
--- src/lib.rt:61:9
 returns : tie.Need-returns
 returns c = search picks
 
--- src/lib.rt:57:1
 returns-2 : tie.Need-returns-2
 returns-2 c = search picks
 

@@ -8,27 +8,21 @@ use Rattle.write.proofs.judge.Lts as lts
 use Rattle.write.proofs.header_proper.Reads as header-proper-reads
 use Rattle.write.proofs.judge_rows.Reads as judge-rows-reads
 
--- src/lib.rt:122:11
 header-proper-requires : tie.Need-header-proper-requires
 header-proper-requires c κs = search needs
 
--- src/lib.rt:123:22
 enum-known-field : tie.Need-enum-known-field
 enum-known-field c = search needs
 
--- src/lib.rt:124:24
 enum-told : tie.Need-enum-told
 enum-told c = search needs
 
--- src/lib.rt:124:24
 judge-rows-requires : tie.Need-judge-rows-requires
 judge-rows-requires c κs = search needs
 
--- src/lib.rt:108:1
 returns : tie.Need-returns
 returns c = search heading
 
--- src/lib.rt:108:1
 returns-2 : tie.Need-returns-2
 returns-2 c = search heading
 

@@ -9,35 +9,27 @@ use Rattle.sheet.proofs.sheet_of.Reads as sheet-of-reads
 use Rattle.write.proofs.refusal.Reads as refusal-reads
 use Rattle.write.proofs.write_on.Reads as write-on-reads
 
--- src/lib.rt:226:11
 sheet-of-requires : tie.Need-sheet-of-requires
 sheet-of-requires c κs = search needs
 
--- src/lib.rt:227:22
 enum-known-sh : tie.Need-enum-known-sh
 enum-known-sh c = search needs
 
--- src/lib.rt:227:29
 write-on-requires : tie.Need-write-on-requires
 write-on-requires c κs = search (sheets, needs)
 
--- src/lib.rt:228:27
 enum-told : tie.Need-enum-told
 enum-told c = search needs
 
--- src/lib.rt:228:27
 refusal-requires : tie.Need-refusal-requires
 refusal-requires c κs = search needs
 
--- src/lib.rt:211:1
 same-length : tie.Need-same-length
 same-length c = search needs
 
--- src/lib.rt:211:1
 returns : tie.Need-returns
 returns c = search sheets
 
--- src/lib.rt:211:1
 returns-2 : tie.Need-returns-2
 returns-2 c = search sheets
 

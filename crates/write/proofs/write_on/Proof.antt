@@ -10,47 +10,36 @@ use Rattle.write.proofs.accept.Reads as accept-reads
 use Rattle.write.proofs.judge.Reads as judge-reads
 use Rattle.write.proofs.refusal.Reads as refusal-reads
 
--- src/lib.rt:200:8
 real-day-requires : tie.Need-real-day-requires
 real-day-requires c κs = search needs
 
--- src/lib.rt:201:15
 judge-requires : tie.Need-judge-requires
 judge-requires c κs = search (days, needs)
 
--- src/lib.rt:202:29
 enum-known-number : tie.Need-enum-known-number
 enum-known-number c = search needs
 
--- src/lib.rt:202:52
 refusal-requires : tie.Need-refusal-requires
 refusal-requires c κs = search needs
 
--- src/lib.rt:203:27
 enum-known-bytes : tie.Need-enum-known-bytes
 enum-known-bytes c = search needs
 
--- src/lib.rt:203:37
 accept-requires : tie.Need-accept-requires
 accept-requires c κs = search (days, needs)
 
--- src/lib.rt:206:9
 refusal-requires-2 : tie.Need-refusal-requires-2
 refusal-requires-2 c κs = search needs
 
--- src/lib.rt:184:1
 returns : tie.Need-returns
 returns c = search days
 
--- src/lib.rt:184:1
 same-length : tie.Need-same-length
 same-length c = search needs
 
--- src/lib.rt:184:1
 returns-2 : tie.Need-returns-2
 returns-2 c = search days
 
--- src/lib.rt:184:1
 returns-3 : tie.Need-returns-3
 returns-3 c = search days
 

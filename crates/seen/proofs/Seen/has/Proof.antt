@@ -6,19 +6,15 @@ use Rattle.seen.proofs.Seen.has.Tie as tie
 use Rattle.seen.proofs.Seen.has.Reads as reads
 use Rattle.seen.proofs.Seen.has.Lts as lts
 
--- src/lib.rt:25:17
 mul-w : tie.Need-mul-w
 mul-w c = search needs
 
--- src/lib.rt:25:17
 element-copy-out-w : tie.Need-element-copy-out-w
 element-copy-out-w c = search needs
 
--- src/lib.rt:26:10
 shr-result : tie.Need-shr-result
 shr-result c = search needs
 
--- src/lib.rt:20:5
 returns : tie.Need-returns
 unfolding bit
 returns c = search needs

@@ -5,7 +5,6 @@ use Rattle.seen.proofs.Seen.none.Tie as tie
 use Rattle.seen.proofs.Seen.none.Reads as reads
 use Rattle.seen.proofs.Seen.none.Lts as lts
 
--- src/lib.rt:13:5
 returns : tie.Need-returns
 returns c = search holds-none
 

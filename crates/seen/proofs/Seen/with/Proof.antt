@@ -9,27 +9,21 @@ use Rattle.seen.proofs.Seen.with.Tie as tie
 use Rattle.seen.proofs.Seen.with.Reads as reads
 use Rattle.seen.proofs.Seen.with.Lts as lts
 
--- src/lib.rt:35:17
 mul-w : tie.Need-mul-w
 mul-w c = search needs
 
--- src/lib.rt:35:17
 element-copy-out-w : tie.Need-element-copy-out-w
 element-copy-out-w c = search needs
 
--- src/lib.rt:37:30
 shl-next : tie.Need-shl-next
 shl-next c = search needs
 
--- src/lib.rt:37:9
 mul-next : tie.Need-mul-next
 mul-next c = search needs
 
--- src/lib.rt:37:9
 element-write-next : tie.Need-element-write-next
 element-write-next c = search needs
 
--- src/lib.rt:30:5
 returns : tie.Need-returns
 returns c =
     let long : length (c .before .args .t1 .words) ≡ 16 = search needs in

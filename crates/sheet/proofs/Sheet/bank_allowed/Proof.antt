@@ -7,12 +7,10 @@ use Rattle.sheet.proofs.Sheet.bank_allowed.Tie as tie
 use Rattle.sheet.proofs.Sheet.bank_allowed.Reads as reads
 use Rattle.sheet.proofs.Sheet.bank_allowed.Lts as lts
 
--- src/lib.rt:220:13
 returns : tie.Need-returns
 unfolding bankAllowed
 returns c = search picks depth 8
 
--- src/lib.rt:216:5
 returns-2 : tie.Need-returns-2
 unfolding bankAllowed
 returns-2 c = search picks depth 8

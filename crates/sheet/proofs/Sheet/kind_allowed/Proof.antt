@@ -7,12 +7,10 @@ use Rattle.sheet.proofs.Sheet.kind_allowed.Tie as tie
 use Rattle.sheet.proofs.Sheet.kind_allowed.Reads as reads
 use Rattle.sheet.proofs.Sheet.kind_allowed.Lts as lts
 
--- src/lib.rt:230:13
 returns : tie.Need-returns
 unfolding kindAllowed
 returns c = search picks depth 8
 
--- src/lib.rt:226:5
 returns-2 : tie.Need-returns-2
 unfolding kindAllowed
 returns-2 c = search picks depth 8
