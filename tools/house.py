@@ -6,7 +6,7 @@
   - each file of code, definitions or proofs says in its first line what it holds; lists of modules (Lib.antt) need not
   - a function has at most 40 lines without its contract, and at most one loop
   - a file of definitions or proofs has at most 400 lines
-  - what a must-fail edit takes out stands in its file exactly once
+  - what an edit of must-fail/ or more-edits/ takes out stands in its file exactly once
   - what a page links to is there
   - no proof names a line of the source by its number, as the next edit moves it
 """
@@ -103,7 +103,8 @@ def files():
 
 
 def edits():
-    for path in sorted((ROOT / "crates").glob("*/must-fail/*.edit")):
+    folders = ("must-fail", "more-edits")
+    for path in sorted(p for f in folders for p in (ROOT / "crates").glob(f"*/{f}/*.edit")):
         crate, target = path.parent.parent, None
         for line in path.read_text().splitlines():
             if line.startswith("file: "):
