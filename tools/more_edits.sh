@@ -3,7 +3,7 @@
 # in a copy, with what is proved already, so `rt check` comes first. The last line is that of `rt must-fail`.
 #
 #   tools/more_edits.sh            all of them
-#   tools/more_edits.sh read write those of these crates
+#   tools/more_edits.sh read write those of these crates and of what they stand on
 set -eu
 cd "$(dirname "$0")/.."
 [ -d target/rlib ] || { echo "Nothing is proved here yet: run rt check." >&2; exit 2; }
