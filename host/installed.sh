@@ -40,10 +40,10 @@ check "the archive is the one given" cmp "$lib" "$work/prefix/lib/libabo.a"
 check "pkg-config finds it" asked --exists
 check "it has a version" asked --atleast-version=1
 check "a program is built from it and runs" built_from_it
-check "make install with DESTDIR" made install DESTDIR="$work/dest" PREFIX=/opt/abo
-check "what is installed below DESTDIR" same_tree "$work/dest/opt/abo"
-check "nothing is installed beside it" test "$(ls "$work/dest")" = opt
-check "abo.pc does not know DESTDIR" refuses grep -q "$work" "$work/dest/opt/abo/lib/pkgconfig/abo.pc"
+check "make install with DESTDIR" made install DESTDIR="$work/dest" PREFIX=/usr/abo
+check "what is installed below DESTDIR" same_tree "$work/dest/usr/abo"
+check "nothing is installed beside it" test "$(ls "$work/dest")" = usr
+check "abo.pc does not know DESTDIR" refuses grep -q "$work" "$work/dest/usr/abo/lib/pkgconfig/abo.pc"
 check "make clean" made clean
 check "make clean leaves nothing" refuses test -e "$work/made"
 check "a missing archive is refused" refuses "${MAKE:-make}" LIB="$work/none.a" BUILD="$work/none"
