@@ -1,0 +1,22 @@
+-- `digit` meets its contract. Assumes nothing.
+use borrow.Author.Needs.{needs}
+use Rattle.placed.proofs.Placed.{ones}
+use Rattle.placed.proofs.digit.Statement.{statement}
+use Rattle.placed.proofs.digit.Tie as tie
+use Rattle.placed.proofs.digit.Reads as reads
+use Rattle.placed.proofs.digit.Lts as lts
+
+shared-slice-read-result : tie.Need-shared-slice-read-result
+shared-slice-read-result c = search (ones, needs)
+
+cast-result : tie.Need-cast-result
+cast-result c = search ones
+
+sub-result : tie.Need-sub-result
+sub-result c = search ones
+
+returns : tie.Need-returns
+returns c = search ones
+
+pub digit-spec : {M : Type 1} → statement M
+digit-spec = tie.close (tie.spec shared-slice-read-result cast-result sub-result returns)
