@@ -1,5 +1,5 @@
 -- Digits at a place: the parts of them, and the number that two parts make. Assumes nothing.
-use mathlib.Core.Path.{_≡_, ap, _∙_}
+use mathlib.Core.Path.{_≡_, sym, ap, _∙_}
 use mathlib.Core.Bool.{true}
 use mathlib.Core.List.{List, [], _∷_}
 use Prim.Native.Nat.{ℕ, _+_, _-_, _*_, _^_, _≤_, _<_}
@@ -7,7 +7,7 @@ use native.Mathlib.Omega.{arith}
 use mir.Val.{Fits}
 use mir.Syntax.{w64}
 use lib.ListN.{length, getD, take, drop, length-drop}
-use lib.Seq.{drop-drop, take-take, take-add, drop-cons}
+use lib.Seq.{drop-drop, take-take, take-add, drop-cons, length-take-le}
 use Rattle.base.specs.Pick.{pick}
 use Rattle.base.specs.Seek.{seek}
 use Rattle.base.proofs.Lists.{drop-take}
@@ -17,7 +17,7 @@ use Rattle.paper.specs.Bytes.{isDigit, space, fieldOf}
 use Rattle.paper.specs.Numerals.{digitsOn, digits}
 use Rattle.numeral.proofs.Digits.{in-range}
 use Rattle.numeral.proofs.Plain.{digit-range}
-use Rattle.numeral.proofs.Sound.{digits-plain}
+use Rattle.numeral.proofs.Sound.{same, read-on, digits-plain, digits-sound, digits-reads}
 use Rattle.numeral.proofs.Split.{digits-split}
 use Rattle.placed.specs.Placed.{Placed}
 
@@ -44,11 +44,45 @@ pub placed-join : (a b : ℕ) (s : List ℕ) (at v w : ℕ) → digits a a (take
 placed-join a b s at v w f g =
     rw (take-add a b (drop at s), drop-drop a at s) (digits-split a b (take a (drop at s)) (take b (drop (at + a) s)) v w f g)
 
+-- what stands there has a number
+pub placed-reads : (n : ℕ) (s : List ℕ) (at : ℕ) → Placed n s at → (v : ℕ) × (digits n n (take n (drop at s)) ≡ value v)
+placed-reads n s at p =
+    let l : length (take n (drop at s)) ≡ n = length-take-le n (drop at s) (omega (arith, p .inside, length-drop at s)) in
+    digits-reads n n (take n (drop at s)) (p .plain) (omega arith) (omega arith)
+
+-- v is the number of k digits with a before them and j behind them, n that of all
+module _ (a k j : ℕ) (s : List ℕ) (at n v : ℕ) (p : Placed (a + k + j) s at) (h : digits (a + k + j) (a + k + j) (take (a + k + j) (drop at s)) ≡ value n)
+    (g : digits k k (take k (drop (at + a) s)) ≡ value v) where
+  pub placed-among : (x : ℕ) × (y : ℕ) × (y < 10 ^ j) × (n ≡ (x * 10 ^ k + v) * 10 ^ j + y)
+  placed-among =
+      let x = placed-reads a s at (placed-front a (a + k + j) s at (omega arith) p) in
+      let y = placed-reads j s (at + (a + k)) (placed-part j (a + k) (a + k + j) s at (omega arith) p) in
+      let f = placed-join a k s at (x .0) v (x .1) g in
+      (x .0, y .0, digits-sound j j _ (y .0) (y .1), same n _ (sym h ∙ placed-join (a + k) j s at _ (y .0) f (y .1)))
+
 -- ---- a whole field of digits
 
-module _ (least most : ℕ) (s : List ℕ) (at v : ℕ) (l : at ≤ length s) (h : digits least most (fieldOf (drop at s)) ≡ value v) where
+module _ (least most : ℕ) (s : List ℕ) (at n : ℕ) (l : at ≤ length s) (h : digits least most (fieldOf (drop at s)) ≡ value n) where
   pub field-placed : Placed (seek space (drop at s)) s at
-  field-placed = record { inside = omega (arith, seek-le space (drop at s), length-drop at s); plain = digits-plain least most (fieldOf (drop at s)) v h }
+  field-placed = record { inside = omega (arith, seek-le space (drop at s), length-drop at s); plain = digits-plain least most (fieldOf (drop at s)) n h }
+
+  -- k digits of it at i, with j behind them
+  module _ (k j i : ℕ) (lo : at ≤ i) (e : i + k + j ≡ at + seek space (drop at s)) where
+    to : at + (i - at) ≡ i
+    to = omega arith
+
+    long : seek space (drop at s) ≡ i - at + k + j
+    long = omega arith
+
+    pub field-part : Placed k s i
+    field-part = rw to at (placed-part k (i - at) (seek space (drop at s)) s at (omega arith) field-placed)
+
+    -- v is their number
+    pub field-among : (v : ℕ) → digits k k (take k (drop i s)) ≡ value v → (x : ℕ) × (y : ℕ) × (y < 10 ^ j) × (n ≡ (x * 10 ^ k + v) * 10 ^ j + y)
+    field-among v g =
+        let m : length (fieldOf (drop at s)) ≡ seek space (drop at s) = length-take-le (seek space (drop at s)) (drop at s) (seek-le space (drop at s)) in
+        let whole = in-range (i - at + k + j) (i - at + k + j) (fieldOf (drop at s)) (omega arith) (omega arith) ∙ read-on least most (fieldOf (drop at s)) n h in
+        placed-among (i - at) k j s at n v (rw long at field-placed) (rw long at whole) (rw to g)
 
 -- ---- one digit
 

@@ -2,12 +2,15 @@
 use field::Run;
 ghost use mathlib.Core.Path.{_≡_};
 ghost use mathlib.Core.Bool.{true};
-ghost use Prim.Native.Nat.{_≤_};
+ghost use Prim.Native.Nat.{ℕ, _+_, _/_, _%_, _≤_};
 ghost use lib.ListN.{length, drop};
+ghost use Rattle.base.specs.Seek.{seek};
+ghost use Rattle.paper.specs.Read.{value};
 ghost use Rattle.paper.specs.Accounts.{account, readAccount};
 ghost use Rattle.paper.specs.Amounts.{readItemAmount};
 ghost use Rattle.paper.specs.BankField.{readBank};
-ghost use Rattle.paper.specs.Bytes.{fieldOf};
+ghost use Rattle.paper.specs.Bytes.{space, fieldOf};
+ghost use Rattle.paper.specs.Numerals.{digits};
 ghost use Rattle.paper.specs.ItemLine.{isValue, readSymbol};
 ghost use Rattle.field.specs.At.{found, fieldAt};
 ghost use Rattle.taking.specs.Known.{Stops, Ran, There};
@@ -102,6 +105,40 @@ pub fn take_symbol(s: &[u8], at: usize) -> Run
     take_run(s, at)
 }
 
+// Where the last eight digits begin of a field that has eight to ten: it ends at a space, or with the line.
+fn bank_from(s: &[u8], at: usize) -> usize
+    requires { ⌜ at ≤ length (now s) ⌝ }
+    requires { ⌜ isValue (digits 8 10 (fieldOf (drop at (now s)))) ≡ true ⌝ }
+    ensures { λ r. ⌜ r + 8 ≡ at + seek space (drop at (now (s .entry))) ⌝ }
+{
+    if s.len() <= at + 8 {
+        return at;
+    }
+    if s[at + 8] <= 32 {
+        return at;
+    }
+    if s.len() <= at + 9 {
+        return at + 1;
+    }
+    if s[at + 9] <= 32 {
+        return at + 1;
+    }
+    at + 2
+}
+
+// The ninth digit of its number, from the right: the one before `from`, and 0 where the field begins there.
+fn ninth_digit(s: &[u8], at: usize, from: usize) -> u64
+    requires { ⌜ at ≤ length (now s) ⌝ }
+    requires { ⌜ isValue (digits 8 10 (fieldOf (drop at (now s)))) ≡ true ⌝ }
+    requires { ⌜ from + 8 ≡ at + seek space (drop at (now s)) ⌝ }
+    ensures { λ r. ⌜ ((n : ℕ) → digits 8 10 (fieldOf (drop at (now (s .entry)))) ≡ value n → r ≡ n / 100000000 % 10) ⌝ }
+{
+    if at < from {
+        return placed::digit(s, from - 1);
+    }
+    0
+}
+
 // The field at `at` that holds payee bank and constant symbol in its last eight digits. Where it holds no priority (`ranked`), its ninth
 // digit is 0, and the usual priority follows as well.
 pub fn take_bank(s: &[u8], at: usize, ranked: bool) -> Bank
@@ -109,12 +146,11 @@ pub fn take_bank(s: &[u8], at: usize, ranked: bool) -> Bank
     requires { ⌜ isValue (readBank ranked (fieldOf (drop at (now s)))) ≡ true ⌝ }
     ensures { λ r. ⌜ toldBank r ≡ fieldAt (readBank ranked) (now (s .entry)) at ⌝ }
 {
-    let got = field::digit_run(s, at, 10);
-    let n = got.value;
-    let d = n / 100000000;
-    let bank = n / 10000 % 10000;
-    let constant = n % 10000;
-    let end = got.end;
+    let from = bank_from(s, at);
+    let d = ninth_digit(s, at, from);
+    let bank = placed::four(s, from);
+    let constant = placed::four(s, from + 4);
+    let end = from + 8;
     if d < 1 {
         return Bank {
             bank,
