@@ -15,7 +15,7 @@ use Rattle.base.proofs.Seek.{seek-over}
 use Rattle.paper.specs.Read.{Field, value, fault, given}
 use Rattle.paper.specs.Bytes.{isDigit, comma, fieldOf}
 use Rattle.paper.specs.Numerals.{digits}
-use Rattle.paper.specs.Amounts.{readAmount, amountProper, readItemAmount}
+use Rattle.paper.specs.Amounts.{readAmount, readTotal, amountProper, readItemAmount}
 use Rattle.numeral.proofs.Sound.{digits-plain}
 use Rattle.field.specs.At.{At, found, ending, fieldAt}
 use Rattle.field.specs.declared.NumAt.{NumAt}
@@ -23,18 +23,26 @@ use Rattle.field.specs.declared.NumAt.the-variants.{Value}
 use Rattle.field.specs.Told.{told}
 use Rattle.field.proofs.Steps.{found-value, found-end}
 
-module _ (may : Bool) (most max : ℕ) where
+module _ (may : Bool) where
   -- the field f is the number v
-  plain-amount : (f : List ℕ) (v : ℕ) → digits 1 most f ≡ value v → readAmount may most f ≡ value v
+  plain-amount : (most : ℕ) (f : List ℕ) (v : ℕ) → digits 1 most f ≡ value v → readAmount may most f ≡ value v
   unfolding readAmount isDigit pick seek
-  plain-amount f v g =
+  plain-amount most f v g =
       let a : all isDigit (take (length f) f) ≡ true = rw take-length (digits-plain 1 most f v g) in
       let n : seek comma f ≡ length f = seek-over isDigit 44 refl (length f) f (omega arith) a ∙ rw drop-length (omega arith) in
       let o : pick may (ltb (seek comma f) (length f)) false ≡ false = either (λ x. x ≡ false) may (λ j. le-ltb (seek comma f) (length f) (omega arith)) (λ j. refl) in
       pick-false _ _ o ∙ g
 
-  pub digits-amount : (r : At ℕ) (s : List ℕ) (at : ℕ) (n : NumAt) → told n ≡ fieldAt (digits 1 most) s at → (v e : ℕ) → n ≡ Value v e → r ≡ ending e (pick (amountProper max v) (value v) (fault 6)) → r ≡ fieldAt (readItemAmount may most max) s at
-  unfolding fieldAt readItemAmount given
-  digits-amount r s at n g v e f q =
-      let h : found v e ≡ fieldAt (digits 1 most) s at = rw f at g in
-      q ∙ rw (plain-amount (fieldOf (drop at s)) v (found-value (digits 1 most) s at v e h), ← (found-end (digits 1 most) s at v e h))
+  -- n is what the reader of digits answered
+  module _ (s : List ℕ) (at : ℕ) (n : NumAt) where
+    pub digits-amount : (r : At ℕ) (most max : ℕ) → told n ≡ fieldAt (digits 1 most) s at → (v e : ℕ) → n ≡ Value v e → r ≡ ending e (pick (amountProper max v) (value v) (fault 6)) → r ≡ fieldAt (readItemAmount may most max) s at
+    unfolding fieldAt readItemAmount given
+    digits-amount r most max g v e f q =
+        let h : found v e ≡ fieldAt (digits 1 most) s at = rw f at g in
+        q ∙ rw (plain-amount most (fieldOf (drop at s)) v (found-value (digits 1 most) s at v e h), ← (found-end (digits 1 most) s at v e h))
+
+    pub digits-total : told n ≡ fieldAt (digits 1 14) s at → (v e : ℕ) → n ≡ Value v e → found v e ≡ fieldAt (readTotal may) s at
+    unfolding fieldAt readTotal ending
+    digits-total g v e f =
+        let h : found v e ≡ fieldAt (digits 1 14) s at = rw f at g in
+        rw (plain-amount 14 (fieldOf (drop at s)) v (found-value (digits 1 14) s at v e h), ← (found-end (digits 1 14) s at v e h))

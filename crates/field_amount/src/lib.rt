@@ -43,8 +43,8 @@ pub fn amount_at(s: &[u8], at: usize, may: bool, most: usize, max: u64) -> NumAt
     in_limit(v, max, end)
 }
 
-// A group's total at `at`.
-pub fn total_at(s: &[u8], at: usize, may: bool) -> NumAt
+// A group's total at `at`, by the bytes of the whole field.
+fn whole_total(s: &[u8], at: usize, may: bool) -> NumAt
     requires { ⌜ at ≤ length (now s) ⌝ }
     ensures { λ r. ⌜ told r ≡ fieldAt (readTotal may) (now (s .entry)) at ⌝ }
 {
@@ -53,4 +53,15 @@ pub fn total_at(s: &[u8], at: usize, may: bool) -> NumAt
         Num::Value(total) => NumAt::Value(total, end),
         Num::Refused(n) => NumAt::Refused(n),
     }
+}
+
+// A group's total at `at`, read as an item's amount is: digits alone first.
+pub fn total_at(s: &[u8], at: usize, may: bool) -> NumAt
+    requires { ⌜ at ≤ length (now s) ⌝ }
+    ensures { λ r. ⌜ told r ≡ fieldAt (readTotal may) (now (s .entry)) at ⌝ }
+{
+    let NumAt::Value(total, end) = field::number_at(s, at, 1, 14) else {
+        return whole_total(s, at, may);
+    };
+    NumAt::Value(total, end)
 }
