@@ -10,7 +10,7 @@ use lib.Seq.{take-append-seam, drop-append-add}
 use borrow.Author.Tests.{lt-ltb, le-ltb}
 use Rattle.base.specs.Pick.{pick}
 use Rattle.base.specs.Seek.{all, seek, before, Free}
-use Rattle.base.proofs.Cases.{by-test, by-eq, either, pick-true, pick-false}
+use Rattle.base.proofs.Cases.{by-eq, either, pick-true, pick-false}
 use Rattle.base.proofs.Seek.{seek-join}
 use Rattle.given.proofs.Given.{given-on}
 use Rattle.numeral.proofs.Plain.{digit-free, decimal-plain}
@@ -19,12 +19,11 @@ use Rattle.numeral.proofs.Back.{decimal-back-from, decimal-back}
 use Rattle.paper.specs.Read.{value}
 use Rattle.paper.specs.Bytes.{isDigit, dash, null}
 use Rattle.paper.specs.Numerals.{digits, decimal}
-use Rattle.paper.specs.Accounts.{Account, account, nobody, accountOk, ruled, twoParts, onePart, readAccount, accountProper, spellAccount, onlyZeros, readPayer}
-use Rattle.paper.proofs.Lists.{some-null}
+use Rattle.paper.specs.Accounts.{Account, account, nobody, accountOk, ruled, twoParts, onePart, readAccount, accountProper, spellAccount, readPayer}
 use Rattle.account.specs.Told.{withBase}
 use Rattle.account.proofs.Proper.{ok-long, ruled-ok, proper-prefix, proper-base, proper-ok}
 use Rattle.account.proofs.Spelled.{spelled-alone, spelled-both}
-use Rattle.account.proofs.Zeros.{zeros-none}
+use Rattle.account.proofs.Zeros.{account-payer}
 
 -- no dash among digits
 free : (n : ℕ) → Free dash (decimal n)
@@ -86,11 +85,7 @@ module _ (a : Account) (h : accountProper a ≡ true) where
     account-back = back (a .prefix) (a .base) (proper-prefix a h) (proper-base a h) (proper-ok a h) joined least l
 
     pub payer-back : (empty allzero : Bool) → readPayer empty allzero joined least (spellAccount a) ≡ value a
-    unfolding readPayer
-    payer-back empty allzero =
-        pick-false _ _ (either (λ x. x ≡ false) empty (λ z. some-null (spellAccount a) (omega (arith, spell-account-least))) (λ z. refl))
-        ∙ pick-false _ _ (either (λ x. x ≡ false) allzero (λ z. by-test (onlyZeros (spellAccount a)) (λ o. absurd (zeros-none joined least (spellAccount a) a o account-back)) (λ o. o)) (λ z. refl))
-        ∙ account-back
+    payer-back = account-payer joined least (spellAccount a) a account-back
 
 -- an empty field, where it means nobody
 pub payer-empty : (allzero joined : Bool) (least : ℕ) → readPayer true allzero joined least [] ≡ value nobody

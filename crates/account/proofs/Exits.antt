@@ -18,7 +18,7 @@ use Rattle.paper.specs.Accounts.{Account, account, nobody, twoParts, onePart, r
 use Rattle.account.specs.declared.Acct.{Acct}
 use Rattle.account.specs.declared.Acct.the-variants as acct
 use Rattle.account.specs.Told.{told, withBase}
-use Rattle.account.proofs.Zeros.{zeros-none}
+use Rattle.account.proofs.Zeros.{account-payer}
 
 -- more than ten digits are no base
 long-base : (least : ℕ) (s : List ℕ) → 10 < length s → onePart least s ≡ fault 4
@@ -99,10 +99,7 @@ module _ (f : List ℕ) (empty allzero joined : Bool) (least : ℕ) (t : Bool) (
     stands = pick-false _ _ (sym g ∙ h)
 
     pub payer-account : (p b : ℕ) → a ≡ acct.Account p b → value (account p b) ≡ readPayer empty allzero joined least f
-    payer-account p b e =
-        let y : readAccount joined least f ≡ value (account p b) = sym k ∙ rw e in
-        let z : pick allzero (onlyZeros f) false ≡ false = either (λ x. x ≡ false) allzero (λ w. by-test (onlyZeros f) (λ o. absurd (zeros-none joined least f (account p b) o y)) (λ o. o)) (λ w. refl) in
-        sym (stands ∙ pick-false _ _ z ∙ y)
+    payer-account p b e = sym (account-payer joined least f (account p b) (sym k ∙ rw e) empty allzero)
 
     module _ (n : ℕ) (e : a ≡ acct.Refused n) (u : Bool) (q : u ≡ pick allzero (onlyZeros f) false) where
       pub payer-zeros : u ≡ true → value nobody ≡ readPayer empty allzero joined least f

@@ -1,4 +1,4 @@
--- A field with only zeros is no account. Assumes nothing.
+-- A field with only zeros, or an empty one, is no account; so an account is a payer, whatever else may stand for nobody. Assumes nothing.
 use mathlib.Core.Path.{_≡_, refl, sym, _∙_}
 use mathlib.Core.Bool.{Bool, true, false}
 use mathlib.Core.List.{List, [], _∷_}
@@ -8,13 +8,13 @@ use lib.ListN.{length, take, drop}
 use borrow.Author.Tests.{eqb-true}
 use Rattle.base.specs.Pick.{pick}
 use Rattle.base.specs.Seek.{all, seek, before}
-use Rattle.base.proofs.Cases.{by-test, either, pick-both}
+use Rattle.base.proofs.Cases.{by-test, either, pick-both, pick-false}
 use Rattle.base.proofs.Seek.{never, all-head, all-tail, all-take, all-drop}
 use Rattle.given.proofs.Given.{value-fault, value-same, given-value}
 use Rattle.paper.specs.Read.{value, fault}
-use Rattle.paper.specs.Bytes.{isDigit, dash}
+use Rattle.paper.specs.Bytes.{isDigit, dash, null}
 use Rattle.paper.specs.Numerals.{digitsOn, digits}
-use Rattle.paper.specs.Accounts.{Account, weighted, nonZero, accountOk, ruled, twoParts, onePart, readAccount, zeros, onlyZeros}
+use Rattle.paper.specs.Accounts.{Account, weighted, nonZero, accountOk, ruled, twoParts, onePart, readAccount, zeros, onlyZeros, readPayer}
 use Rattle.account.specs.Bytes.{isZero}
 use Rattle.account.specs.Told.{withBase}
 
@@ -59,7 +59,7 @@ zeros-all most s =
     (λ e f. never (sym f))
     (λ e. either (λ x. x ≡ true → all isZero s ≡ true) (ltb most (length s)) (λ g f. never (sym f)) (λ g f. f))
 
-pub zeros-none : (joined : Bool) (least : ℕ) (s : List ℕ) (a : Account) → onlyZeros s ≡ true → readAccount joined least s ≡ value a → ⊥
+zeros-none : (joined : Bool) (least : ℕ) (s : List ℕ) (a : Account) → onlyZeros s ≡ true → readAccount joined least s ≡ value a → ⊥
 unfolding onlyZeros readAccount onePart pick
 zeros-none joined least s a h e =
     by-test (ltb (seek dash s) (length s))
@@ -69,3 +69,17 @@ zeros-none joined least s a h e =
     by-test (pick joined (ltb 10 (length s)) false)
     (λ u. no-parts 10 (take (length s - 10) s) (drop (length s - 10) s) a (all-take isZero (length s - 10) s z) (all-drop isZero (length s - 10) s z) (simp (t, u) at e))
     (λ u. no-base least s a z (simp (t, u) at e)))
+
+empty-none : (joined : Bool) (least : ℕ) (s : List ℕ) (a : Account) → null s ≡ true → readAccount joined least s ≡ value a → ⊥
+unfolding readAccount onePart null seek all pick
+empty-none true least [] a h e = no-base least [] a refl e
+empty-none false least [] a h e = no-base least [] a refl e
+empty-none joined least (x ∷ s) a h e = never (sym h)
+
+module _ (joined : Bool) (least : ℕ) (s : List ℕ) (a : Account) (e : readAccount joined least s ≡ value a) where
+  pub account-payer : (empty allzero : Bool) → readPayer empty allzero joined least s ≡ value a
+  unfolding readPayer
+  account-payer empty allzero =
+      pick-false _ _ (either (λ x. x ≡ false) empty (λ w. by-test (null s) (λ o. absurd (empty-none joined least s a o e)) (λ o. o)) (λ w. refl))
+      ∙ pick-false _ _ (either (λ x. x ≡ false) allzero (λ w. by-test (onlyZeros s) (λ o. absurd (zeros-none joined least s a o e)) (λ o. o)) (λ w. refl))
+      ∙ e

@@ -15,17 +15,23 @@ use Rattle.paper.specs.Read.{Field, value, fault}
 use Rattle.paper.specs.Bytes.{space, fieldOf, null}
 use Rattle.paper.specs.Numerals.{digits}
 use Rattle.paper.specs.Accounts as paper
-use Rattle.paper.specs.Accounts.{ruled, readAccount}
+use Rattle.paper.specs.Accounts.{ruled, readAccount, readPayer}
 use Rattle.account.specs.declared.Acct.{Acct}
 use Rattle.account.specs.declared.Acct.the-variants.{Account, Refused}
 use Rattle.account.specs.Told as account
+use Rattle.account.proofs.Zeros.{account-payer}
 use Rattle.field.specs.At.{At, found, missed, ending, fieldAt}
 use Rattle.field.specs.Digits.{run}
+use Rattle.field.proofs.Front.{field-ends}
+use Rattle.field.proofs.Steps.{found-value, found-end}
 use Rattle.field.proofs.Number.{run-from, run-inside, run-ends, run-field, run-open, number-value, number-short, number-long}
 use Rattle.field.proofs.Behind.{behind-field, behind-end}
 use Rattle.field.proofs.Onward.{onward, given-at}
 use Rattle.field.proofs.Whole.{whole-found, whole-missed}
+use Rattle.field_account.specs.declared.AcctAt.{AcctAt}
+use Rattle.field_account.specs.declared.AcctAt.the-variants as answer
 use Rattle.field_account.specs.Parts.{undashed, withBase, dashed}
+use Rattle.field_account.specs.Told.{told}
 use Rattle.field_account.proofs.Digits.{undashed-is, dashed-is}
 
 -- a base behind its prefix
@@ -95,4 +101,22 @@ module _ (s : List ℕ) (at e v : ℕ) (h : e ≡ at + length (run 16 (drop at s
         let i = dashed-is (run 16 (drop at s)) (fieldOf (drop (e + 1) s)) v g (omega (arith, dashed-least s at e w)) (omega (arith, dashed-most s at e w)) joined least in
         q ∙ rw (o, f) (ap (ending (e + 1 + seek space (drop (e + 1) s))) i)
 
-pub ruleset exits = (base-value, base-short, base-long, whole-account, whole-refused, digits-account, dashed-account)
+-- `payer_at`: an empty field, where it stands for nobody, and an account
+module _ (s : List ℕ) (at : ℕ) (empty allzero joined : Bool) (least : ℕ) where
+  pub empty-payer : (t : Bool) → t ≡ null (fieldOf (drop at s)) → t ≡ true → empty ≡ true → found paper.nobody at ≡ fieldAt (readPayer empty allzero joined least) s at
+  unfolding fieldAt readPayer ending pick
+  empty-payer t k y e =
+      let z : null (fieldOf (drop at s)) ≡ true = sym k ∙ y in
+      let o : at + seek space (drop at s) ≡ at = omega (arith, field-ends (drop at s) z) in
+      rw o (simp (e, z))
+
+  pub found-payer : (n : AcctAt) → told n ≡ fieldAt (readAccount joined least) s at → (p b e : ℕ) → n ≡ answer.Account p b e → found (paper.account p b) e ≡ fieldAt (readPayer empty allzero joined least) s at
+  unfolding fieldAt ending
+  found-payer n g p b e f =
+      let h : found (paper.account p b) e ≡ fieldAt (readAccount joined least) s at = rw f at g in
+      rw (
+        account-payer joined least (fieldOf (drop at s)) (paper.account p b) (found-value (readAccount joined least) s at (paper.account p b) e h) empty allzero,
+        ← (found-end (readAccount joined least) s at (paper.account p b) e h),
+      )
+
+pub ruleset exits = (base-value, base-short, base-long, whole-account, whole-refused, digits-account, dashed-account, empty-payer, found-payer)

@@ -153,8 +153,8 @@ pub fn account_at(s: &[u8], at: usize, joined: bool, least: usize) -> AcctAt
     whole_account(s, at, joined, least)
 }
 
-// A group's payer at `at`: nobody if the field is empty (`empty`) or has only zeros (`allzero`), else an account.
-pub fn payer_at(
+// A group's payer at `at`, by the bytes of the whole field.
+fn whole_payer(
     s: &[u8],
     at: usize,
     empty: bool,
@@ -170,4 +170,28 @@ pub fn payer_at(
         Acct::Account(prefix, base) => AcctAt::Account(prefix, base, end),
         Acct::Refused(n) => AcctAt::Refused(n),
     }
+}
+
+// A group's payer at `at`: nobody if the field is empty (`empty`) or has only zeros (`allzero`), else an account. Zeros and what is
+// refused are left to the reader of whole fields.
+pub fn payer_at(
+    s: &[u8],
+    at: usize,
+    empty: bool,
+    allzero: bool,
+    joined: bool,
+    least: usize,
+) -> AcctAt
+    requires { ⌜ at ≤ length (now s) ⌝ }
+    ensures { λ r. ⌜ told r ≡ fieldAt (readPayer empty allzero joined least) (now (s .entry)) at ⌝ }
+{
+    if empty {
+        if field::ends(s, at) {
+            return AcctAt::Account(0, 0, at);
+        }
+    }
+    let AcctAt::Account(prefix, base, end) = account_at(s, at, joined, least) else {
+        return whole_payer(s, at, empty, allzero, joined, least);
+    };
+    AcctAt::Account(prefix, base, end)
 }

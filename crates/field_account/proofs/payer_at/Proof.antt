@@ -1,51 +1,47 @@
--- `payer_at` meets its contract: the field by its bytes. Assumes nothing.
+-- `payer_at` meets its contract: nobody in an empty field, an account, or the whole field. Assumes nothing.
 use borrow.Author.Needs.{needs}
-use Rattle.line.proofs.Fields.{end-within}
 use Rattle.field_account.proofs.Exits.{exits}
 use Rattle.field_account.proofs.payer_at.Statement.{statement}
 use Rattle.field_account.proofs.payer_at.Tie as tie
 use Rattle.field_account.proofs.payer_at.Reads as reads
 use Rattle.field_account.proofs.payer_at.Lts as lts
-use Rattle.account.proofs.read_payer.Reads as read-payer-reads
-use Rattle.line.proofs.field_end.Reads as field-end-reads
+use Rattle.field.proofs.ends.Reads as ends-reads
+use Rattle.field_account.proofs.account_at.Reads as account-at-reads
+use Rattle.field_account.proofs.whole_payer.Reads as whole-payer-reads
 
-field-end-requires : tie.Need-field-end-requires
-field-end-requires c κs = search needs
-
-sub-read-payer : tie.Need-sub-read-payer
-sub-read-payer c = search needs
-
-part-read-payer-start : tie.Need-part-read-payer-start
-part-read-payer-start c = search needs
-
-part-read-payer-end : tie.Need-part-read-payer-end
-part-read-payer-end c = search (end-within, needs)
-
-read-payer-requires : tie.Need-read-payer-requires
-read-payer-requires c κs = search needs
-
-enum-known-prefix : tie.Need-enum-known-prefix
-enum-known-prefix c = search needs
-
-enum-known-n : tie.Need-enum-known-n
-enum-known-n c = search needs
+ends-requires : tie.Need-ends-requires
+ends-requires c κs = search needs
 
 returns : tie.Need-returns
 returns c = search exits
 
+account-at-requires : tie.Need-account-at-requires
+account-at-requires c κs = search needs
+
+enum-known-prefix : tie.Need-enum-known-prefix
+enum-known-prefix c = search needs
+
+enum-told : tie.Need-enum-told
+enum-told c = search needs
+
+whole-payer-requires : tie.Need-whole-payer-requires
+whole-payer-requires c κs = search needs
+
 returns-2 : tie.Need-returns-2
-returns-2 c = search exits
+returns-2 c = search needs
+
+returns-3 : tie.Need-returns-3
+returns-3 c = search exits
 
 pub payer-at-spec : {M : Type 1} → statement M
 payer-at-spec =
     tie.close
     (tie.spec
-    field-end-requires
-    sub-read-payer
-    part-read-payer-start
-    part-read-payer-end
-    read-payer-requires
-    enum-known-prefix
-    enum-known-n
+    ends-requires
     returns
-    returns-2)
+    account-at-requires
+    enum-known-prefix
+    enum-told
+    whole-payer-requires
+    returns-2
+    returns-3)
