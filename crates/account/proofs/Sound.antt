@@ -78,6 +78,3 @@ module _ (joined : Bool) (least : ℕ) (s : List ℕ) where
 
     pub payer-sound : (a : Account) → readPayer empty allzero joined least s ≡ value a → (isNobody a ≡ true) ⊎ (accountProper a ≡ true)
     payer-sound a e = says-value Payer Refusal (readPayer empty allzero joined least s) payer-says a e
-
-    pub payer-fault : (n : ℕ) → readPayer empty allzero joined least s ≡ fault n → (n ≡ 4) ⊎ (n ≡ 5)
-    payer-fault n e = says-fault Payer Refusal (readPayer empty allzero joined least s) payer-says n e

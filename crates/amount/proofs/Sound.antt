@@ -17,7 +17,7 @@ use Rattle.paper.specs.Bytes.{comma}
 use Rattle.paper.specs.Numerals.{digits}
 use Rattle.paper.specs.Amounts.{withComma, readAmount, readTotal, amountProper, readItemAmount}
 use Rattle.numeral.proofs.Sound.{digits-sound, digits-fault}
-use Rattle.given.proofs.Says.{Says, of-value, of-fault, says, says-given, says-map, says-value, says-fault}
+use Rattle.given.proofs.Says.{Says, of-value, of-fault, says, says-given, says-map, says-value}
 
 -- what an item's amount is: above zero and within its limit
 pub record Payable (max v : ℕ) : Type 0 where
@@ -67,9 +67,6 @@ module _ (may : Bool) (s : List ℕ) where
   pub total-sound : (v : ℕ) → readTotal may s ≡ value v → v < 10 ^ 14
   total-sound = says-value _ _ _ total-below
 
-  pub total-fault : (n : ℕ) → readTotal may s ≡ fault n → n ≡ 4
-  total-fault = says-fault _ _ _ total-below
-
 module _ (may : Bool) (most max : ℕ) (s : List ℕ) where
   item-says : Says (λ v. amountProper max v ≡ true) (λ n. (n ≡ 4) ⊎ (n ≡ 6)) (readItemAmount may most max s)
   unfolding readItemAmount
@@ -86,6 +83,3 @@ module _ (may : Bool) (most max : ℕ) (s : List ℕ) where
 
   pub amount-within : (v : ℕ) → readItemAmount may most max s ≡ value v → Payable max v
   amount-within v e = proper-payable max v (amount-sound v e)
-
-  pub amount-fault : (n : ℕ) → readItemAmount may most max s ≡ fault n → (n ≡ 4) ⊎ (n ≡ 6)
-  amount-fault = says-fault _ _ _ item-says

@@ -10,7 +10,7 @@ use Rattle.base.specs.Seek.{all}
 use Rattle.base.proofs.Cases.{either, by-eq}
 use Rattle.paper.specs.Read.{value, given}
 use Rattle.paper.specs.Bytes.{isDigit}
-use Rattle.paper.specs.Numerals.{digits, fixed}
+use Rattle.paper.specs.Numerals.{fixed}
 use Rattle.paper.specs.BankField.{ninth, readBank, bankProper, priorityProper, priorityCarried, spellBank}
 use Rattle.numeral.proofs.Plain.{fixed-plain}
 use Rattle.bank.proofs.Range.{bank-some, bank-most, priority-some, priority-most}

@@ -34,5 +34,3 @@ bank-in b l h = simp (le-ltb b 1 l, le-leb b 9999 h)
 pub priority-in : (p : ℕ) → 3 ≤ p → p ≤ 9 → priorityProper p ≡ true
 unfolding priorityProper pick
 priority-in p l h = simp (le-ltb p 3 l, le-leb p 9 h)
-
-pub ruleset ranges = (bank-some, bank-most, priority-some, priority-most, bank-in, priority-in)

@@ -14,7 +14,7 @@ use Rattle.paper.specs.Numerals.{digits}
 use Rattle.paper.specs.BankField.{Bank, ninth, readBank, bankProper, priorityProper, priorityCarried}
 use Rattle.numeral.proofs.Sound.{digits-sound, digits-fault}
 use Rattle.bank.proofs.Range.{bank-in, priority-in}
-use Rattle.given.proofs.Says.{Says, of-value, of-fault, says, says-given, says-value, says-fault}
+use Rattle.given.proofs.Says.{Says, of-value, of-fault, says, says-given, says-value}
 
 -- what the field's values are; `ranked`: it holds the priority
 pub record Proper (ranked : Bool) (x : Bank) : Type 0 where
@@ -67,6 +67,3 @@ module _ (ranked : Bool) (s : List ℕ) where
 
   pub bank-warnings : (x : Bank) → readBank ranked s ≡ value x → x .warnings ≤ 1
   bank-warnings x e = (bank-sound x e) .warned
-
-  pub bank-fault : (n : ℕ) → readBank ranked s ≡ fault n → Faults n
-  bank-fault = says-fault (Proper ranked) Faults _ bank-says

@@ -45,14 +45,6 @@ module _ (p : ℕ) (n : p ≡ 5 → ⊥) where
       let d : p % 10 ≡ p = omega arith in
       sym (simp (ne-eqb p 5 n, z, d))
 
--- eight digits, or ten where the priority is spelled
-pub spell-bank-length : (b c p : ℕ) → length (spellBank b c p) ≡ pick (eqb p 5) 8 10
-unfolding pick
-spell-bank-length b c p =
-    by-eq p 5
-    (λ e. simp (eq-eqb p 5 e) (sym (short-length p e b c)))
-    (λ n. simp (ne-eqb p 5 n) (sym (long-length p n b c)))
-
 pub spell-bank-most : (b c p : ℕ) → length (spellBank b c p) ≤ 10
 spell-bank-most b c p = by-eq p 5 (λ e. omega (arith, short-length p e b c)) (λ n. omega (arith, long-length p n b c))
 

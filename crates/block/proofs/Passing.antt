@@ -1,18 +1,16 @@
 -- What is sought, counted or tested from a place on is the same from a later one, if nothing of it stands between. Assumes nothing.
-use mathlib.Core.Path.{_≡_, refl, sym, ap, _∙_}
+use mathlib.Core.Path.{_≡_, refl, ap, _∙_}
 use mathlib.Core.Bool.{Bool, true, false, not}
 use mathlib.Core.List.{List, [], _∷_}
-use Prim.Native.Nat.{ℕ, zero, suc, _+_, _-_, _≤_, _<_}
-use native.Mathlib.Nat.{add-zero}
+use Prim.Native.Nat.{ℕ, zero, suc, _+_, _-_, _≤_}
 use native.Mathlib.Omega.{arith}
 use lib.Dec.{eqb}
 use lib.ListN.{length, take, drop, length-drop}
 use lib.Seq.{drop-drop}
-use borrow.Author.Tests.{eq-eqb, not-true}
+use borrow.Author.Tests.{eq-eqb}
 use Rattle.base.specs.Pick.{pick}
 use Rattle.base.specs.Seek.{all, seek}
 use Rattle.base.proofs.Seek.{all-head, all-tail, seek-over}
-use Rattle.paper.specs.Texts.{others}
 use Rattle.block.specs.Blocks.{isOther, Skips}
 
 -- ---- over the first k bytes of a text
@@ -25,15 +23,6 @@ all-behind p (suc k) (x ∷ s) h = simp (all-head p x (take k s) h) (all-behind 
 
 itself : (b : ℕ) → isOther b b ≡ false
 itself b = ap not (eq-eqb b b refl)
-
-others-behind : (at k : ℕ) (s : List ℕ) → all (isOther 124) (take k s) ≡ true → length (others at s) ≡ length (others (at + k) (drop k s))
-unfolding others pick
-others-behind at zero s h = rw add-zero
-others-behind at (suc k) [] h = refl
-others-behind at (suc k) (x ∷ s) h =
-    let n : eqb x 124 ≡ false = not-true (eqb x 124) (all-head (isOther 124) x (take k s) h) in
-    let z : at + suc k ≡ at + 1 + k = omega arith in
-    rw (z, n) (others-behind (at + 1) k s (all-tail (isOther 124) x (take k s) h))
 
 -- ---- from a place of a text on
 
@@ -53,12 +42,3 @@ module _ (s : List ℕ) (at r : ℕ) where
       let e = seek-over (isOther b) b (itself b) (r - at) (drop at s) (omega (arith, length-drop at s)) (k .between) in
       let g = ap (seek (b ∷ [])) (drops (k .from)) in
       omega arith
-
-  -- counted
-  pub others-skipped : Skips (isOther 124) s at r → length (others at (drop at s)) ≡ length (others r (drop r s))
-  others-skipped k =
-      let f = k .from in
-      let j : at + (r - at) ≡ r = omega arith in
-      others-behind at (r - at) (drop at s) (k .between) ∙ rw (drops (k .from), j)
-
-pub ruleset skippeds = (all-skipped, seek-skipped, others-skipped)

@@ -44,15 +44,6 @@ before-year d n p h =
       years-up (suc (yearOf d - 2000)) n (omega arith),
     )
 
--- a hundred years have 36,525 days
-pub number-small : (d : ℕ) → realDay d ≡ true → dayNumber d < 36525
-unfolding yearsDays leap pick
-number-small d r = let p = parts d r in before-year d 100 p (omega arith)
-
--- the first day and the last
-pub real-small : (d : ℕ) → realDay d ≡ true → (20000101 ≤ d) × (d < 21000000)
-real-small d r = let p = parts d r in (omega arith, omega arith)
-
 module _ (d e : ℕ) (r : realDay d ≡ true) (s : realDay e ≡ true) where
   pub later : d < e → dayNumber d < dayNumber e
   unfolding dayNumber

@@ -48,10 +48,6 @@ module _ (long : Bool) (s : List ℕ) where
   pub day-sound : (d : ℕ) → readDay long s ≡ value d → realDay d ≡ true
   day-sound d e = says-value Sure Dated (readDay long s) (day-says long s) d e
 
-  -- any other is refused by 4 or 11
-  pub day-fault : (n : ℕ) → readDay long s ≡ fault n → (n ≡ 4) ⊎ (n ≡ 11)
-  day-fault n e = says-fault Sure Dated (readDay long s) (day-says long s) n e
-
   -- r is what the reader of a date answered
   pub day-told : (r : Num) (d : ℕ) → told r ≡ readDay long s → r ≡ Value d → realDay d ≡ true
   day-told r d g e = day-sound d (sym g ∙ rw e)
@@ -69,6 +65,3 @@ module _ (long : Bool) (s : List ℕ) where
     -- a due date that is read is a real day, and one of the sheet's days
     pub due-sound : (d : ℕ) → readDue long early ahead today s ≡ value d → (realDay d ≡ true) × (dueAllowed early ahead today d ≡ true)
     due-sound d e = says-value Due Dated _ due-says d e
-
-    pub due-fault : (n : ℕ) → readDue long early ahead today s ≡ fault n → (n ≡ 4) ⊎ (n ≡ 11)
-    due-fault n e = says-fault Due Dated _ due-says n e

@@ -57,17 +57,7 @@ unfolding explanation lineOf explained
 explanation-is sheet today f = refl
 
 module _ (sheet today : ℕ) (f : List ℕ) where
-  -- 1
-  pub no-sheet-line : sheetOf sheet ≡ known.Nothing → explanation sheet today f ≡ drafted (refusedLine 1 0 0)
-  unfolding explanation explained readWith refusedAt pick
-  no-sheet-line none = rw none
-
   module _ (sh : Sheet) (named : sheetOf sheet ≡ known.Sheet sh) where
-    -- 2
-    pub no-day-line : realDay today ≡ false → explanation sheet today f ≡ drafted (refusedLine 2 0 0)
-    unfolding explanation explained readWith refusedAt pick
-    no-day-line not = rw (named, not)
-
     module _ (real : realDay today ≡ true) where
       -- the first broken rule, with its line and byte
       pub refused-line : (n l p : ℕ) → judge sh today f ≡ Refused n l p → explanation sheet today f ≡ drafted (refusedLine n l p)

@@ -9,7 +9,7 @@ use lib.Seq.{take-take, getD-take, length-take-le}
 use Rattle.base.specs.Pick.{pick}
 use Rattle.base.specs.Seek.{all, starts, seek}
 use Rattle.base.proofs.Cases.{by-test}
-use Rattle.base.proofs.Seek.{never, all-head, all-tail, all-cons, seek-le}
+use Rattle.base.proofs.Seek.{never, all-head, all-tail, seek-le}
 use Rattle.paper.specs.Bytes.{isDigit, space, fieldOf, null}
 use Rattle.field.specs.Digits.{front, run}
 

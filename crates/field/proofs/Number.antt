@@ -11,10 +11,10 @@ use Rattle.base.specs.Seek.{all, seek}
 use Rattle.base.proofs.Seek.{never, seek-le, seek-over}
 use Rattle.paper.specs.Read.{Field, value, fault}
 use Rattle.paper.specs.Bytes.{isDigit, space, fieldOf, null}
-use Rattle.paper.specs.Numerals.{digitsOn, digits}
+use Rattle.paper.specs.Numerals.{digits}
 use Rattle.numeral.proofs.Digits.{in-range, too-short}
 use Rattle.numeral.proofs.Sound.{read-on, digits-plain, digits-most, digits-sound, digits-fault}
-use Rattle.field.specs.At.{At, found, missed, ending, fieldAt}
+use Rattle.field.specs.At.{found, missed, ending, fieldAt}
 use Rattle.field.specs.Digits.{run}
 use Rattle.field.proofs.Front.{run-digits, run-within, run-most, run-is, run-stop, all-at, field-ends, field-goes, field-long}
 

@@ -1,10 +1,10 @@
 -- One step of an answer r through a reader of a line, for `search`: s is the line, and n what a callee answered. Assumes nothing.
-use mathlib.Core.Path.{_≡_, sym, ap, _∙_}
+use mathlib.Core.Path.{_≡_, sym, _∙_}
 use mathlib.Core.List.{List}
-use Prim.Native.Nat.{ℕ, suc, _+_, _-_, _^_, _≤_, _<_}
+use Prim.Native.Nat.{ℕ, _+_, _^_, _≤_, _<_}
 use native.Mathlib.Numerals.{add-one}
 use native.Mathlib.Omega.{arith}
-use lib.ListN.{length, getD, take, drop, drop-of-length-le, length-drop}
+use lib.ListN.{length, take, drop, drop-of-length-le, length-drop}
 use lib.Seq.{drop-cons, drop-drop}
 use borrow.Author.Tests.{lt-ltb, le-ltb}
 use Rattle.base.specs.Seek.{seek}
@@ -12,7 +12,7 @@ use Rattle.base.proofs.Cases.{pick-true, pick-false, picks}
 use Rattle.base.proofs.Seek.{seek-within}
 use Rattle.base.proofs.Lists.{drop-none}
 use Rattle.paper.specs.Read.{Field, value, fault, given}
-use Rattle.paper.specs.Bytes.{space, fieldOf, restOf}
+use Rattle.paper.specs.Bytes.{space, fieldOf}
 use Rattle.paper.specs.Numerals.{digits}
 use Rattle.paper.specs.Entries.{Said, no, onField, field, place, gap, lineEnd}
 use Rattle.numeral.specs.declared.Num.{Num}

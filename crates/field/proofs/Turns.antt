@@ -1,6 +1,6 @@
 -- The loop of `digit_run`: one more byte of the run, and where it stops; and how a field ends. Assumes nothing.
-use mathlib.Core.Path.{_≡_, refl, sym, ap, _∙_}
-use mathlib.Core.Bool.{Bool, true, false}
+use mathlib.Core.Path.{_≡_, refl, sym, _∙_}
+use mathlib.Core.Bool.{true, false}
 use mathlib.Core.List.{List, [], _∷_}
 use Prim.Native.Nat.{ℕ, suc, _+_, _-_, _*_, _^_, _≤_, _<_}
 use native.Mathlib.Numerals.{add-one}
@@ -10,12 +10,12 @@ use mir.Syntax.{w64}
 use lib.Dec.{eqb, ltb}
 use lib.ListN.{length, getD, take, drop, drop-of-length-le, length-drop}
 use lib.Seq.{drop-cons, take-all}
-use borrow.Author.Tests.{lt-ltb, le-ltb, le-leb, lt-leb, eq-eqb, ne-eqb}
+use borrow.Author.Tests.{lt-ltb, le-ltb, le-leb, lt-leb}
 use Rattle.base.specs.Pick.{pick}
 use Rattle.base.specs.Seek.{starts, seek}
-use Rattle.base.proofs.Cases.{by-lt, by-test, picks}
-use Rattle.paper.specs.Read.{Field, value, fault}
-use Rattle.paper.specs.Bytes.{isDigit, space, fieldOf, null}
+use Rattle.base.proofs.Cases.{by-lt, by-test}
+use Rattle.paper.specs.Read.{value}
+use Rattle.paper.specs.Bytes.{isDigit, fieldOf, null}
 use Rattle.paper.specs.Numerals.{digitsOn, digits}
 use Rattle.numeral.proofs.Digits.{in-range, more-digits, ten-le}
 use Rattle.field.specs.Digits.{front, run, Worth}

@@ -1,5 +1,5 @@
 -- A field that is read by its bytes, from its place to the end e that was found. Assumes nothing.
-use mathlib.Core.Path.{_≡_, sym, _∙_}
+use mathlib.Core.Path.{_≡_}
 use mathlib.Core.List.{List}
 use Prim.Native.Nat.{ℕ, _+_, _-_}
 use native.Mathlib.Omega.{arith}
@@ -10,7 +10,7 @@ use Rattle.paper.specs.Bytes.{space, fieldOf}
 use Rattle.numeral.specs.declared.Num.{Num}
 use Rattle.numeral.specs.declared.Num.the-variants.{Value, Refused}
 use Rattle.numeral.specs.Told.{told}
-use Rattle.field.specs.At.{At, found, missed, ending, fieldAt}
+use Rattle.field.specs.At.{found, missed, ending, fieldAt}
 
 -- x is what the reader said of the bytes
 module _ {A : Type 0} (read : List ℕ → Field A) (s : List ℕ) (at e : ℕ) (h : e ≡ at + seek space (drop at s)) where

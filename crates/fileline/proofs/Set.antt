@@ -1,12 +1,12 @@
 -- The numbers that are allowed by a set of words are those that are allowed by the list that it holds. Assumes nothing.
-use mathlib.Core.Path.{_≡_, refl, ap, _∙_, fun-ext}
+use mathlib.Core.Path.{_≡_, refl, fun-ext}
 use mathlib.Core.Bool.{Bool, true, false, not}
 use mathlib.Core.List.{List}
 use Prim.Native.Nat.{ℕ}
 use Rattle.base.specs.Pick.{pick}
 use Rattle.paper.specs.Batch.{Header}
 use Rattle.paper.specs.FileLine.{series, member, numberAllowed}
-use Rattle.seen.specs.Bits.{bit, Holds}
+use Rattle.seen.specs.Bits.{Holds}
 use Rattle.fileline.specs.Free.{numberFree}
 
 by-not : (t : Bool) → pick t false true ≡ not t

@@ -20,7 +20,4 @@ module _ (n : Num) (x : Field ℕ) (g : told n ≡ x) where
   pub was-value : (v : ℕ) → n ≡ Value v → x ≡ value v
   was-value v e = sym g ∙ ap told e
 
-  pub was-fault : (m : ℕ) → n ≡ Refused m → x ≡ fault m
-  was-fault m e = sym g ∙ ap told e
-
 pub ruleset steps = (step-value, step-refused)

@@ -1,11 +1,10 @@
 -- Reading on in a group, line by line: the file's answer stays, the place moves on, and the numbers stay small. Assumes nothing.
-use mathlib.Core.Path.{_≡_, refl, sym, ap, subst, _∙_}
-use mathlib.Core.Bool.{Bool, true, false}
+use mathlib.Core.Path.{_≡_, refl, sym, subst, _∙_}
 use mathlib.Core.List.{List, [], _∷_}
-use Prim.Native.Nat.{ℕ, suc, _+_, _-_, _≤_, _<_}
+use Prim.Native.Nat.{ℕ, suc, _+_, _≤_, _<_}
 use native.Mathlib.Numerals.{add-one}
 use native.Mathlib.Omega.{arith}
-use lib.ListN.{length, take, drop}
+use lib.ListN.{length}
 use Rattle.base.specs.Pick.{pick}
 use Rattle.base.proofs.Cases.{by-test}
 use Rattle.sheet.specs.declared.Sheet.{Sheet}
@@ -17,8 +16,8 @@ use Rattle.paper.specs.Judge.{totalBroken}
 use Rattle.line.specs.declared.Cut.{Cut}
 use Rattle.line.specs.Cutting.{Cuts}
 use Rattle.line.proofs.Lines.{at-end}
-use Rattle.tally.specs.Tally.{Brief, No, Tally, tGroup, tItem, tStop, warned, groupMore, closed, step, endOf, run}
-use Rattle.tally.specs.Small.{SmallGroup, SmallItem, Small}
+use Rattle.tally.specs.Tally.{Brief, No, Tally, tStop, warned, groupMore, closed, step, endOf, run}
+use Rattle.tally.specs.Small.{SmallGroup, Small}
 use Rattle.tally.proofs.Small.{small-step}
 use Rattle.group.specs.declared.Counts.{Counts}
 use Rattle.group.specs.declared.Shelf.{Shelf}
@@ -27,7 +26,7 @@ use Rattle.group.specs.declared.Turn.{Turn}
 use Rattle.group.specs.declared.Turn.the-variants as turn
 use Rattle.group.specs.declared.GroupEnd.{GroupEnd}
 use Rattle.group.specs.declared.GroupEnd.the-variants as end
-use Rattle.group.specs.Stands.{bookOf, shelfOf, openOf, inGroup, inFile, LowItem, LowGroup, lineIn, turned, Turns, countsMore, shelfMore, openMore, closedAs, resumeGroup, Begun, Behind, Ended}
+use Rattle.group.specs.Stands.{bookOf, shelfOf, openOf, inGroup, LowGroup, lineIn, Turns, countsMore, shelfMore, openMore, closedAs, resumeGroup, Begun, Behind, Ended}
 
 -- ---- lines
 

@@ -1,18 +1,16 @@
 -- A refusal's offset lies in its line, and so does a group's total: a line's start and the offset together stay in the file. Assumes nothing.
-use mathlib.Core.Path.{_≡_}
 use mathlib.Core.Bool.{Bool}
 use mathlib.Core.List.{List, [], _∷_}
 use Prim.Native.Nat.{ℕ, _+_, _≤_}
 use native.Mathlib.Omega.{arith}
 use lib.ListN.{length, drop, length-drop}
-use Rattle.base.specs.Pick.{pick}
 use Rattle.base.specs.Seek.{seek}
 use Rattle.base.proofs.Cases.{either}
 use Rattle.base.proofs.Seek.{seek-le}
 use Rattle.sheet.specs.declared.Sheet.{Sheet}
 use Rattle.sheet.specs.declared.Style.{Style}
 use Rattle.paper.specs.Read.{Field, value, fault}
-use Rattle.paper.specs.Bytes.{space, fieldOf, restOf}
+use Rattle.paper.specs.Bytes.{space, fieldOf}
 use Rattle.paper.specs.Accounts.{Account}
 use Rattle.paper.specs.Texts.{Texts}
 use Rattle.paper.specs.Batch.{Item}

@@ -1,6 +1,5 @@
 -- What one line does to an open group, by its kind and by what it was read as. Assumes nothing.
-use mathlib.Core.Path.{_≡_, refl, sym, ap, _∙_}
-use mathlib.Core.Bool.{true, false}
+use mathlib.Core.Path.{_≡_, refl, ap, _∙_}
 use mathlib.Core.List.{List}
 use Prim.Native.Nat.{ℕ, _+_, _≤_, _<_}
 use borrow.Author.Tests.{le-leb, lt-leb, eq-eqb, ne-eqb}
@@ -12,7 +11,7 @@ use Rattle.paper.specs.ItemLine.{readItem}
 use Rattle.paper.specs.ClosingLine.{readClose}
 use Rattle.paper.specs.Spells.{singleIn, readAs}
 use Rattle.paper.specs.Judge.{onItem}
-use Rattle.tally.specs.Tally.{Book, Shelf, Open, Tally, tItem, tStop, No, moreItem, itemMore, added, contextOf, isDue, isFull, closed, meet, onSaid, read, step}
+use Rattle.tally.specs.Tally.{Book, Shelf, Open, tItem, tStop, No, moreItem, itemMore, added, contextOf, isDue, isFull, closed, meet, onSaid, read, step}
 use Rattle.judgeitem.specs.Brief.{kept, brief}
 
 module _ (sh : Sheet) (today k : ℕ) (t : Line) (b : Book) (s : Shelf) (o : Open) where

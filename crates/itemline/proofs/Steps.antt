@@ -9,7 +9,7 @@ use Rattle.sheet.specs.declared.Style.{Style}
 use Rattle.sheet.specs.declared.Sheet.{Sheet}
 use Rattle.paper.specs.BankField.{Bank, readBank}
 use Rattle.paper.specs.Texts.{Texts, readText}
-use Rattle.paper.specs.Entries.{Said, no, onField, field}
+use Rattle.paper.specs.Entries.{Said, no, onField}
 use Rattle.paper.specs.Batch.{most14}
 use Rattle.paper.specs.ItemLine.{noTexts, tail, readItem}
 use Rattle.paper.specs.ItemLine as lines

@@ -1,7 +1,7 @@
 -- What the answer of the line's reader stands for in document 01, "The batch", "Lines" and "Numbers returned". Assumes nothing.
 use Prim.Native.Nat.{ℕ, _≤_}
 use mathlib.Core.List.{List}
-use Rattle.paper.specs.Accounts.{Account, account}
+use Rattle.paper.specs.Accounts.{account}
 use Rattle.paper.specs.Batch.{Item, most14}
 use Rattle.paper.specs.Entries.{item, Said, got, no}
 use Rattle.paper.specs.ItemLine.{partBytes, places}

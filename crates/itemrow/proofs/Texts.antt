@@ -1,7 +1,7 @@
 -- The words of a text that lies in its line, and that such texts are within reach. Assumes nothing.
-use mathlib.Core.Path.{_≡_, refl, sym, ap, _∙_}
-use mathlib.Core.Bool.{true, false}
-use mathlib.Core.List.{List, [], _∷_, _++_}
+use mathlib.Core.Path.{_≡_, refl, ap}
+use mathlib.Core.Bool.{false}
+use mathlib.Core.List.{List, [], _∷_}
 use Prim.Native.Nat.{ℕ, zero, suc, _+_, _≤_, _<_}
 use native.Mathlib.Omega.{arith}
 use lib.Dec.{eqb}
@@ -12,9 +12,8 @@ use Rattle.base.specs.Put.{Wrote}
 use Rattle.paper.specs.Bytes.{null}
 use Rattle.paper.specs.ItemLine.{places}
 use Rattle.paper.specs.Rows.{textWords, textsWords, blanks, itemRow, wordsBytes}
-use Rattle.span.specs.declared.Span.{Span}
 use Rattle.span.specs.declared.Spans.{Spans}
-use Rattle.span.specs.Held.{textsAt, Within, Held}
+use Rattle.span.specs.Held.{textsAt, Held}
 use Rattle.itemline.specs.declared.Fields.{Fields}
 use Rattle.itemline.specs.Told.{itemAt}
 use Rattle.itemrow.specs.Place.{placeWord, Reached}

@@ -6,7 +6,7 @@ use native.Mathlib.Omega.{arith}
 use lib.ListN.{length, take, drop, length-drop}
 use Rattle.base.proofs.Cases.{either}
 use Rattle.base.proofs.Lists.{empty-cons}
-use Rattle.paper.specs.Lines.{Line, line, first, ended, behind, linesOf}
+use Rattle.paper.specs.Lines.{Line, first, ended, behind, linesOf}
 
 -- the line t stands in f
 pub record Stands (f : List ℕ) (t : Line) : Type 0 where

@@ -12,7 +12,6 @@ use Rattle.numeral.proofs.Fixed.{widthOn, decimal-width, fixed-length}
 use Rattle.calendar.proofs.Back.{spell-day-length}
 use Rattle.account.proofs.Spelled.{spelled-alone, spelled-both}
 use Rattle.sheet.specs.declared.Sheet.{Sheet}
-use Rattle.paper.specs.Bytes.{bytes}
 use Rattle.paper.specs.Numerals.{decimal, fixed}
 use Rattle.paper.specs.Days.{spellDay}
 use Rattle.paper.specs.Accounts.{Account, account, isNobody, spellAccount}
@@ -101,7 +100,7 @@ module _ (always : Bool) (a : Account) (t : Bool) (g : t ≡ isNobody a) where
 
 pub ruleset payers = (payer-empty, payer-none, payer-some)
 
--- group_front_len, group_len
+-- group_front_len
 module _ (sh : Sheet) (a : Account) where
   pub group-front : (w : ℕ) → w ≡ length (spellPayer (sh .emptypayer) a) → (total date : ℕ) → 9 + w + length (decimal total) ≡ length (spellGroup sh a total date)
   unfolding spellGroup
@@ -112,9 +111,3 @@ module _ (sh : Sheet) (a : Account) where
         length-append (spellPayer (sh .emptypayer) a) (decimal total ++ (32 ∷ spellDay date)),
         length-append (decimal total) (32 ∷ spellDay date),
       )
-
-  pub group-long : (total w v : ℕ) → ((n date : ℕ) → w + length (decimal n) ≡ length (spellGroup sh a n date)) → v ≡ length (decimal total)
-      → (date : ℕ) → w + v ≡ length (spellGroup sh a total date)
-  group-long total w v g e date = omega (arith, g total date)
-
-pub ruleset groups = (group-front, group-long)

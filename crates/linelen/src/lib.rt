@@ -60,11 +60,3 @@ pub fn group_front_len(sh: Sheet, prefix: u64, base: u64) -> usize
 {
     9 + payer_len(sh.emptypayer, prefix, base)
 }
-
-// The line that begins a group.
-pub fn group_len(sh: Sheet, prefix: u64, base: u64, total: u64) -> usize
-    ensures { λ r. ⌜ ((date : ℕ) → r ≡ length (spellGroup sh (account prefix base) total date)) ⌝ }
-    ensures { λ r. ⌜ r ≤ 71 ⌝ }
-{
-    group_front_len(sh, prefix, base) + numeral::width(total)
-}

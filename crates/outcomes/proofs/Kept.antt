@@ -1,6 +1,5 @@
 -- A refusal leaves the lent bytes as they were, whatever the sheet's number and the day. Assumes nothing.
 use mathlib.Core.Path.{_≡_, refl}
-use mathlib.Core.Bool.{true, false}
 use mathlib.Core.List.{List}
 use Prim.Native.Nat.{ℕ, _/_}
 use lib.Dec.{ltb}

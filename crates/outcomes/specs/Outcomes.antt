@@ -3,7 +3,7 @@ use Prim.Native.Nat.{ℕ, _*_}
 use mathlib.Core.Path.{_≡_}
 use mathlib.Core.List.{List}
 use lib.ListN.{length, take}
-use Rattle.paper.specs.Batch.{Batch, Header, Thing, things, batchOf}
+use Rattle.paper.specs.Batch.{Batch, Header, things, batchOf}
 use Rattle.paper.specs.Rows.{rowSize, rowsIn, thingsIn}
 use Rattle.paper.specs.Reading.{acceptedAs, rowCount, readAnswer, rowsAfter}
 use Rattle.paper.specs.Writing.{draft, writtenIn, outputAfter}

@@ -1,13 +1,13 @@
 -- The cases that document 01 marks (p) in "Cases at the edges": one table, computed over the definitions. Assumes nothing.
-use Prim.Native.Nat.{ℕ, suc}
+use Prim.Native.Nat.{ℕ}
 use Prim.Native.String.{String}
-use mathlib.Core.Bool.{Bool, true, false}
-use mathlib.Core.List.{List, [], _∷_}
+use mathlib.Core.Bool.{true, false}
+use mathlib.Core.List.{[], _∷_}
 use mathlib.Core.Path.{_≡_, refl}
 use Rattle.base.specs.Pick.{pick}
 use Rattle.base.specs.Seek.{all, starts, seek}
 use Rattle.sheet.specs.declared.Sheet.{Sheet}
-use Rattle.sheet.specs.Sheets.{sheetK, sheetS, sheetC, sheetE}
+use Rattle.sheet.specs.Sheets.{sheetK, sheetC, sheetE}
 use Rattle.paper.specs.Read.{Field, value, fault, given}
 use Rattle.paper.specs.Bytes.{bytes, isText, isDigit, null}
 use Rattle.paper.specs.Numerals.{digitsOn, digits}
@@ -15,7 +15,7 @@ use Rattle.paper.specs.Days.{leap, monthDays, realDay, yearsDays, months
 use Rattle.paper.specs.Accounts.{Account, account, weighted, nonZero, accountOk, ruled, twoParts, onePart, readAccount}
 use Rattle.paper.specs.Amounts.{withComma, readAmount, amountProper, readItemAmount}
 use Rattle.paper.specs.BankField.{Bank, ninth, readBank}
-use Rattle.paper.specs.Texts.{Piece, piece, Texts, others, cut, over, overs, pad, opens, finish, messageEnd, message, marked, readText}
+use Rattle.paper.specs.Texts.{piece, Texts, others, cut, over, overs, pad, opens, finish, messageEnd, message, marked, readText}
 
 -- a field on a sheet
 abbrev pub accountOn : Sheet → String → Field Account

@@ -1,5 +1,4 @@
 -- The sample run of document 01, "A whole run", computed over the definitions. Assumes nothing.
-use Prim.Native.Nat.{ℕ, suc}
 use mathlib.Core.Path.{_≡_, refl}
 use Rattle.paper.specs.Bytes.{bytes}
 use Rattle.base.specs.Pick.{pick}

@@ -1,6 +1,5 @@
 -- What a batch and a header are. Document 01, "The batch". Assumes nothing.
 use Prim.Native.Nat.{ℕ, _+_}
-use mathlib.Core.Bool.{Bool, true, false}
 use mathlib.Core.List.{List, [], _∷_}
 use Rattle.paper.specs.Accounts.{Account}
 

@@ -38,10 +38,6 @@ comma = 44 ∷ []
 abbrev pub bar : List ℕ
 bar = 124 ∷ []
 
--- `+`, in closing lines ("Lines")
-abbrev pub plus : List ℕ
-plus = 43 ∷ []
-
 -- `AV:`, `NP:` and ` NP:`
 abbrev pub av : List ℕ
 av = 65 ∷ 86 ∷ 58 ∷ []

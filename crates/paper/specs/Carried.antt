@@ -1,7 +1,7 @@
 -- What one sheet can carry of a batch and a header on a day, and where it first cannot: refusal 21, with row and field. Document 01,
 -- "Numbers returned". The batch is as "The batch" says; 20 is tested before. Assumes nothing.
 use Prim.Native.Nat.{ℕ, suc, _+_}
-use mathlib.Core.Bool.{Bool, true, false}
+use mathlib.Core.Bool.{Bool, true}
 use mathlib.Core.List.{List, [], _∷_}
 use lib.Dec.{ltb, leb}
 use Rattle.base.specs.Pick.{pick}

@@ -1,7 +1,7 @@
 -- Days: which are real, how far one lies ahead of another, how they are spelled. Document 01, "The batch" and "Lines". Assumes nothing.
 -- A day is the number YYYYMMDD, so 20240229 is 29 February 2024.
 use Prim.Native.Nat.{ℕ, zero, suc, _+_, _-_, _*_, _/_, _%_}
-use mathlib.Core.Bool.{Bool, true, false}
+use mathlib.Core.Bool.{Bool, false}
 use mathlib.Core.List.{List, [], _∷_}
 use lib.Dec.{eqb, ltb, leb}
 use lib.ListN.{length, getD}

@@ -1,6 +1,5 @@
 -- A judged file in a line of text. Document 01, "A whole run", the line of a refusal. Assumes nothing.
 use Prim.Native.Nat.{ℕ}
-use mathlib.Core.Bool.{Bool, true, false}
 use mathlib.Core.List.{List, [], _∷_, _++_}
 use lib.Dec.{eqb}
 use lib.ListN.{length}
@@ -8,7 +7,6 @@ use Rattle.base.specs.Pick.{pick}
 use Rattle.paper.specs.Bytes.{bytes}
 use Rattle.paper.specs.Numerals.{decimal}
 use Rattle.paper.specs.Reading.{ReadAnswer, readWith}
-use Rattle.sheet.specs.declared.Known.{Known}
 use Rattle.sheet.specs.Sheets.{sheetOf}
 use Rattle.paper.specs.Writing.{Draft, drafted}
 

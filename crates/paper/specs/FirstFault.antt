@@ -1,8 +1,8 @@
 -- The first fault of a file, declared: the lines before it are lawful, and it breaks a rule. Document 01, "Numbers returned": each number
 -- is given exactly when its rule is broken, and the first in the testing order is given. Assumes nothing.
-use Prim.Native.Nat.{ℕ, suc, _+_, _≤_, _<_}
+use Prim.Native.Nat.{ℕ, suc, _+_, _<_}
 use mathlib.Core.Path.{_≡_}
-use mathlib.Core.Bool.{Bool, true, false}
+use mathlib.Core.Bool.{true, false}
 use mathlib.Core.List.{List, [], _∷_}
 use lib.ListN.{length}
 use Rattle.sheet.specs.declared.Sheet.{Sheet}

@@ -14,7 +14,7 @@ use Rattle.paper.specs.Amounts.{readItemAmount}
 use Rattle.paper.specs.BankField.{Bank, readBank, spellBank}
 use Rattle.paper.specs.Texts.{Piece, piece, Texts, readText, spellText, noText}
 use Rattle.paper.specs.Batch.{Item}
-use Rattle.paper.specs.Entries.{item, Said, got, no, field, gap, toEnd}
+use Rattle.paper.specs.Entries.{item, Said, got, field, gap, toEnd}
 
 -- ---- the tail: the specific symbol and the texts, which the rest of the reading (k) takes
 

@@ -1,7 +1,7 @@
 -- Numbers in decimal digits: how they are read, and their one spelling. Document 01, "Lines" and "Canonical spelling". Assumes nothing.
 use Prim.Native.Nat.{ℕ, zero, suc, _+_, _-_, _*_, _/_, _%_}
 use mathlib.Core.List.{List, [], _∷_}
-use lib.Dec.{ltb, leb}
+use lib.Dec.{ltb}
 use lib.ListN.{length}
 use Rattle.base.specs.Pick.{pick}
 use Rattle.paper.specs.Read.{Field, value, fault}

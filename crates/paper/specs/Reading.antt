@@ -1,7 +1,7 @@
 -- The whole answer of reading, and what it leaves in the lent rows. Document 01, "Numbers returned". Assumes nothing.
 use Prim.Native.Nat.{ℕ, _*_, _/_}
-use mathlib.Core.Bool.{Bool, true, false}
-use mathlib.Core.List.{List, [], _∷_, _++_}
+use mathlib.Core.Bool.{false}
+use mathlib.Core.List.{List, _++_}
 use lib.Dec.{ltb}
 use lib.ListN.{length, drop}
 use Rattle.base.specs.Pick.{pick}
@@ -10,7 +10,7 @@ use Rattle.sheet.specs.declared.Known.{Known}
 use Rattle.sheet.specs.declared.Known.the-variants as known
 use Rattle.sheet.specs.Sheets.{sheetOf}
 use Rattle.paper.specs.Days.{realDay}
-use Rattle.paper.specs.Batch.{Batch, Header, noHeader, Thing, things}
+use Rattle.paper.specs.Batch.{Batch, Header, noHeader, things}
 use Rattle.paper.specs.Lines.{linesOf}
 use Rattle.paper.specs.Judge.{Answer, Refused, Accepted, judge}
 use Rattle.paper.specs.Rows.{rowSize, linesRows, rowsBytes}

@@ -1,6 +1,5 @@
 -- The rewriting program: what it writes for what it reads. Document 01, "A whole run". Assumes nothing.
 use Prim.Native.Nat.{ℕ}
-use mathlib.Core.Bool.{Bool, true, false}
 use mathlib.Core.List.{List, [], _∷_}
 use lib.Dec.{eqb, ltb}
 use lib.ListN.{length}

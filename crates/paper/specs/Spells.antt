@@ -8,7 +8,7 @@ use lib.Dec.{eqb}
 use lib.ListN.{length}
 use Rattle.base.specs.Pick.{pick}
 use Rattle.sheet.specs.declared.Sheet.{Sheet}
-use Rattle.paper.specs.Accounts.{Account, isNobody}
+use Rattle.paper.specs.Accounts.{isNobody}
 use Rattle.paper.specs.Batch.{Item, Group, AccountFile, Batch, Header, sum, most14}
 use Rattle.paper.specs.Lines.{Line, linesOf}
 use Rattle.paper.specs.Entries.{Entry, head, file, group, item, closeGroup, closeFile, Said, got, Kind, headLine, fileLine, groupLine, itemLine, groupEnd, fileEnd, kindOf}

@@ -1,12 +1,12 @@
 -- No line of an accepted file is refused where its rows are put. Assumes nothing.
-use mathlib.Core.Path.{_≡_, refl, sym, ap, _∙_}
+use mathlib.Core.Path.{_≡_, refl}
 use mathlib.Core.Bool.{Bool, true, false}
 use mathlib.Core.List.{List, [], _∷_}
 use Prim.Native.Nat.{ℕ}
 use Rattle.sheet.specs.declared.Sheet.{Sheet}
 use Rattle.paper.specs.Batch.{Batch, Header}
 use Rattle.paper.specs.Lines.{Line, linesOf}
-use Rattle.paper.specs.Entries.{Entry, head, file, group, item, closeGroup, closeFile, Said, got}
+use Rattle.paper.specs.Entries.{Entry, head, file, group, item, closeGroup, closeFile, Said}
 use Rattle.paper.specs.Spells.{Context, forItem, readLine, Due, dues, SaysEntry, Each}
 use Rattle.paper.specs.Rows.{singleAfter, singleBehind}
 use Rattle.paper.specs.Judge.{Accepted, judge}

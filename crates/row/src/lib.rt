@@ -1,5 +1,4 @@
 // A row put into lent bytes, word by word.
-ghost use mathlib.Core.Path.{_≡_};
 ghost use Prim.Native.Nat.{_+_, _≤_};
 ghost use lib.ListN.{length};
 ghost use Rattle.base.specs.Put.{Wrote};

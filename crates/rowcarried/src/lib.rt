@@ -7,7 +7,7 @@ use sheet::Style;
 use span::Span;
 ghost use mathlib.Core.Path.{_≡_};
 ghost use mathlib.Core.Bool.{true};
-ghost use mathlib.Core.List.{List, [], _∷_};
+ghost use mathlib.Core.List.{List};
 ghost use Prim.Native.Nat.{ℕ, _<_};
 ghost use Rattle.sheet.specs.Sheets.{kindAllowed};
 ghost use Rattle.paper.specs.Days.{realDay, dueAllowed};

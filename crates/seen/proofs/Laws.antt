@@ -1,7 +1,7 @@
 -- A bit of a word, the set of bits after one of them is set, and the set as a list. Assumes nothing.
 use mathlib.Core.Path.{_≡_, refl, ap, _∙_}
 use mathlib.Core.Logic.{_≢_}
-use mathlib.Core.Bool.{Bool, true}
+use mathlib.Core.Bool.{true}
 use mathlib.Core.List.{List, [], _∷_}
 use Prim.Native.Nat.{ℕ, zero, suc, _+_, _-_, _*_, _/_, _%_, _^_, _<_}
 use native.Mathlib.Nat.{pow-suc, mul-mod-left, div-eq-of-lt, div-self, mod-lt, one-mul, zero-div}
@@ -80,10 +80,6 @@ pub holds-none : (m : ℕ) → Holds (replicate m 0) []
 unfolding bit member
 holds-none m k = rw (getD-zeros m (k / 64), zero-div)
 
--- what `has` answers
-pub holds-has : (words l : List ℕ) (n : ℕ) {r : Bool} → Holds words l → r ≡ bit words n → r ≡ member n l
-holds-has words l n h e = e ∙ h n
-
 -- what `with` leaves
 pub holds-with : (before after l : List ℕ) (n : ℕ) → Holds before l → Marked before n after → Holds after (n ∷ l)
 unfolding member
@@ -93,5 +89,3 @@ pub added : (l : List ℕ) (n : ℕ) → n / 64 < length l
     → Marked l n (set l (n / 64) (bitOr (getD l (n / 64) 0) (1 * 2 ^ (n % 64) % 2 ^ 64)))
     × ((m : List ℕ) → Holds l m → Holds (set l (n / 64) (bitOr (getD l (n / 64) 0) (1 * 2 ^ (n % 64) % 2 ^ 64))) (n ∷ m))
 added l n inside = (marked l n inside, λ m before. holds-with l _ m n before (marked l n inside))
-
-pub ruleset holding = (holds-none, holds-has, holds-with)

@@ -36,21 +36,9 @@ module _ (P : Sheet → Type 0) where
   every-letter k s c e b x h =
       named _ sheetK x _ (λ _. k) (named _ sheetS x _ (λ _. s) (named _ sheetC x _ (λ _. c) (named _ sheetE x _ (λ _. e) (nothing x)))) h
 
--- a sheet has the number and the letter that name it
-abbrev Numbered : ℕ → Sheet → Type 0
-Numbered n s = s .number ≡ n
-
+-- a sheet has the letter that names it
 abbrev Lettered : ℕ → Sheet → Type 0
 Lettered b s = s .letter ≡ b
-
-pub sheet-number : (n : ℕ) (s : Sheet) → sheetOf n ≡ known.Sheet s → s .number ≡ n
-unfolding sheetOf
-sheet-number n x h =
-    named (Numbered n) _ sheetK x _ (λ t. sym (eqb-true n 1 t))
-    (named (Numbered n) _ sheetS x _ (λ t. sym (eqb-true n 2 t))
-    (named (Numbered n) _ sheetC x _ (λ t. sym (eqb-true n 3 t))
-    (named (Numbered n) _ sheetE x _ (λ t. sym (eqb-true n 4 t)) (nothing (Numbered n) x))))
-    h
 
 pub sheet-letter : (b : ℕ) (s : Sheet) → sheetBy b ≡ known.Sheet s → s .letter ≡ b
 unfolding sheetBy

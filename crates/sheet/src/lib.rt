@@ -205,13 +205,6 @@ impl Sheet {
         fileitems: 99999000,
     };
 
-    // The bank code that the canonical file has.
-    pub fn bank_code(self) -> u64
-        ensures { λ r. ⌜ r ≡ self .bank ⌝ }
-    {
-        self.bank
-    }
-
     // May an account file on this sheet name this bank?
     pub fn bank_allowed(self, code: u64) -> bool
         ensures { λ r. ⌜ r ≡ bankAllowed self code ⌝ }

@@ -1,16 +1,15 @@
 -- How many `|` stand in a text, by the parts that they end. Assumes nothing.
-use mathlib.Core.Path.{_≡_, refl, sym, ap, _∙_}
+use mathlib.Core.Path.{_≡_, refl, sym, _∙_}
 use mathlib.Core.Logic.{_⊎_, inl, inr, ⊎-elim}
-use mathlib.Core.List.{List, []}
-use Prim.Native.Nat.{ℕ, _+_, _-_, _≤_, _<_}
+use mathlib.Core.List.{List}
+use Prim.Native.Nat.{ℕ, _+_, _≤_, _<_}
 use native.Mathlib.Omega.{arith}
-use lib.ListN.{length, drop, drop-of-length-le, length-drop}
+use lib.ListN.{length, drop, drop-of-length-le}
 use Rattle.base.specs.Seek.{seek}
 use Rattle.base.proofs.Cases.{by-lt}
-use Rattle.base.proofs.Seek.{seek-within}
 use Rattle.paper.specs.Bytes.{bar}
 use Rattle.paper.specs.Texts.{others}
-use Rattle.span.specs.Places.{partTo, partAt, ended}
+use Rattle.span.specs.Places.{partAt, ended}
 use Rattle.span.specs.declared.Part.{Part}
 use Rattle.span.proofs.Turns.{part-bar, part-last, part-next, bars-some, bars-none}
 

@@ -8,7 +8,7 @@ use lib.ListN.{length}
 use Rattle.base.specs.Pick.{pick}
 use Rattle.sheet.specs.declared.Sheet.{Sheet}
 use Rattle.paper.specs.Accounts.{isNobody}
-use Rattle.paper.specs.Batch.{Batch, Header, things}
+use Rattle.paper.specs.Batch.{Header, things}
 use Rattle.paper.specs.Lines.{Line, linesOf}
 use Rattle.paper.specs.Entries.{Entry, Said, got, no, Kind, headLine, fileLine, groupLine, itemLine, groupEnd, fileEnd, kindOf}
 use Rattle.paper.specs.FileLine.{series}

@@ -182,10 +182,6 @@ module _ (y : Style) (some : 0 < y .most) (bare : y .av ≡ false → y .names �
   unfolding spellText
   spell-text = by-test (y .av) (λ f. ap (all isText) (pick-true _ _ f) ∙ marked-text) (λ f. ap (all isText) (pick-false _ _ f) ∙ joined-text)
 
-  pub spell-opens : y .av ≡ true → opens (spellText y parts n) ≡ true
-  unfolding spellText
-  spell-opens f = ap opens (pick-true _ _ f) ∙ opens-marked (trim parts) n
-
   -- a text as it stands has no name
   joined-name : y .av ≡ false → joined (trim parts) ≡ joined (trim parts) ++ spellName n
   unfolding spellName

@@ -2,13 +2,12 @@
 use mathlib.Core.Path.{_≡_}
 use mathlib.Core.Bool.{true, false}
 use mathlib.Core.List.{List}
-use mathlib.Core.Logic.{_⊎_}
 use Prim.Native.Nat.{ℕ, _<_}
 use Rattle.base.specs.Seek.{all}
 use Rattle.sheet.specs.declared.Style.{Style}
-use Rattle.paper.specs.Read.{value, fault}
+use Rattle.paper.specs.Read.{value}
 use Rattle.paper.specs.Bytes.{isText}
-use Rattle.paper.specs.Texts.{Texts, opens, readText, spellText, noText}
+use Rattle.paper.specs.Texts.{Texts, readText, spellText, noText}
 use Rattle.wording.specs.Wording.{Sendable, Sound, Back}
 use Rattle.wording.proofs.Sound.{outcome}
 use Rattle.wording.proofs.Back as spelled
@@ -18,10 +17,6 @@ module _ (y : Style) where
   pub text-sound : (at : ℕ) (t : List ℕ) (x : Texts) → readText y at t ≡ value x → Sound y x
   text-sound at t x e = rw e at (outcome y at t)
 
-  -- a refused text has the number 4 or 14
-  pub text-fault : (at : ℕ) (t : List ℕ) (n : ℕ) → readText y at t ≡ fault n → (n ≡ 4) ⊎ (n ≡ 14)
-  text-fault at t n e = rw e at (outcome y at t)
-
   module _ (some : 0 < y .most) (bare : y .av ≡ false → y .names ≡ false) (parts : List (List ℕ)) (name : List ℕ) (h : Sendable y parts name) where
     -- what the sheet can carry, reads back from its spelling, wherever that begins
     pub text-back : (y .av ≡ true → noText parts name ≡ false) → (at : ℕ) → Back (readText y at (spellText y parts name)) parts name
@@ -30,7 +25,3 @@ module _ (y : Style) where
     -- the spelling has text bytes only
     pub spell-text-plain : all isText (spellText y parts name) ≡ true
     spell-text-plain = spelled.spell-text y some bare parts name h
-
-    -- and does not begin with a space, where `AV:` is asked for
-    pub spell-text-opens : y .av ≡ true → opens (spellText y parts name) ≡ true
-    spell-text-opens = spelled.spell-opens y some bare parts name h

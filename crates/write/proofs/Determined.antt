@@ -3,7 +3,6 @@ use mathlib.Core.Path.{_≡_, sym, ap, _∙_}
 use mathlib.Core.List.{List}
 use Prim.Native.Nat.{ℕ}
 use lib.ListN.{length}
-use Rattle.paper.specs.Batch.{Header}
 use Rattle.paper.specs.Writing.{draft, WriteAnswer, writtenIn, outputAfter}
 use Rattle.write.specs.declared.AboWritten.{AboWritten}
 use Rattle.write.specs.Told.{headerOf, told}

@@ -3,9 +3,6 @@ use borrow.Author.Needs.{needs}
 use Rattle.account.proofs.Spelled.{spelled}
 use Rattle.account.proofs.account_len.Statement.{statement}
 use Rattle.account.proofs.account_len.Tie as tie
-use Rattle.account.proofs.account_len.Reads as reads
-use Rattle.account.proofs.account_len.Lts as lts
-use Rattle.numeral.proofs.width.Reads as width-reads
 
 width-requires : tie.Need-width-requires
 width-requires c κs = search needs

@@ -3,10 +3,6 @@ use borrow.Author.Needs.{needs}
 use Rattle.account.proofs.Rule.{sums-rule, base-rule}
 use Rattle.account.proofs.account_ok.Statement.{statement}
 use Rattle.account.proofs.account_ok.Tie as tie
-use Rattle.account.proofs.account_ok.Reads as reads
-use Rattle.account.proofs.account_ok.Lts as lts
-use Rattle.account.proofs.sums_ok.Reads as sums-ok-reads
-use Rattle.account.proofs.weighted_sum.Reads as weighted-sum-reads
 
 weighted-sum-requires : tie.Need-weighted-sum-requires
 weighted-sum-requires c κs = search needs

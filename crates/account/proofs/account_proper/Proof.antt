@@ -4,9 +4,6 @@ use Rattle.base.proofs.Cases.{picks}
 use Rattle.paper.specs.Accounts.{accountProper}
 use Rattle.account.proofs.account_proper.Statement.{statement}
 use Rattle.account.proofs.account_proper.Tie as tie
-use Rattle.account.proofs.account_proper.Reads as reads
-use Rattle.account.proofs.account_proper.Lts as lts
-use Rattle.account.proofs.account_ok.Reads as account-ok-reads
 
 returns : tie.Need-returns
 unfolding accountProper

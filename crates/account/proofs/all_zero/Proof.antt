@@ -8,8 +8,6 @@ use Rattle.base.specs.Seek.{all}
 use Rattle.account.specs.Bytes.{isZero}
 use Rattle.account.proofs.all_zero.Statement.{statement}
 use Rattle.account.proofs.all_zero.Tie as tie
-use Rattle.account.proofs.all_zero.Reads as reads
-use Rattle.account.proofs.all_zero.Lts as lts
 
 abbrev Inv-loop : tie.InvT-loop
 Inv-loop f i₀ i = (i ≤ length f) × (all isZero f ≡ all isZero (drop i f))

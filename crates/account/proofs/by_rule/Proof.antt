@@ -1,13 +1,9 @@
 -- `by_rule` goes by the test of its definition.
 use borrow.Author.Needs.{needs}
-use borrow.Author.Needs.{needs}
 use Rattle.base.proofs.Cases.{picks}
 use Rattle.paper.specs.Accounts.{ruled}
 use Rattle.account.proofs.by_rule.Statement.{statement}
 use Rattle.account.proofs.by_rule.Tie as tie
-use Rattle.account.proofs.by_rule.Reads as reads
-use Rattle.account.proofs.by_rule.Lts as lts
-use Rattle.account.proofs.account_ok.Reads as account-ok-reads
 
 account-ok-requires : tie.Need-account-ok-requires
 account-ok-requires c κs = search needs

@@ -3,10 +3,6 @@ use borrow.Author.Needs.{needs}
 use Rattle.account.proofs.Doubled.{sums}
 use Rattle.account.proofs.eight_sum.Statement.{statement}
 use Rattle.account.proofs.eight_sum.Tie as tie
-use Rattle.account.proofs.eight_sum.Reads as reads
-use Rattle.account.proofs.eight_sum.Lts as lts
-use Rattle.account.proofs.four_sum.Reads as four-sum-reads
-use Rattle.numeral.proofs.myriads.Reads as myriads-reads
 
 myriads-requires : tie.Need-myriads-requires
 myriads-requires c κs = search needs

@@ -3,10 +3,6 @@ use borrow.Author.Needs.{needs}
 use Rattle.account.proofs.Doubled.{sums}
 use Rattle.account.proofs.four_sum.Statement.{statement}
 use Rattle.account.proofs.four_sum.Tie as tie
-use Rattle.account.proofs.four_sum.Reads as reads
-use Rattle.account.proofs.four_sum.Lts as lts
-use Rattle.account.proofs.pair_sum.Reads as pair-sum-reads
-use Rattle.numeral.proofs.hundreds.Reads as hundreds-reads
 
 hundreds-requires : tie.Need-hundreds-requires
 hundreds-requires c κs = search needs

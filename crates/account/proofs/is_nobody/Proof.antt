@@ -3,8 +3,6 @@ use Rattle.base.proofs.Cases.{picks}
 use Rattle.paper.specs.Accounts.{isNobody}
 use Rattle.account.proofs.is_nobody.Statement.{statement}
 use Rattle.account.proofs.is_nobody.Tie as tie
-use Rattle.account.proofs.is_nobody.Reads as reads
-use Rattle.account.proofs.is_nobody.Lts as lts
 
 returns : tie.Need-returns
 unfolding isNobody

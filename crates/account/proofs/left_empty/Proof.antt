@@ -2,8 +2,6 @@
 use Rattle.account.proofs.Exits.{exits}
 use Rattle.account.proofs.left_empty.Statement.{statement}
 use Rattle.account.proofs.left_empty.Tie as tie
-use Rattle.account.proofs.left_empty.Reads as reads
-use Rattle.account.proofs.left_empty.Lts as lts
 
 returns : tie.Need-returns
 returns c = search exits

@@ -3,10 +3,6 @@ use borrow.Author.Needs.{needs}
 use Rattle.account.proofs.Exits.{exits}
 use Rattle.account.proofs.only_zeros.Statement.{statement}
 use Rattle.account.proofs.only_zeros.Tie as tie
-use Rattle.account.proofs.only_zeros.Reads as reads
-use Rattle.account.proofs.only_zeros.Lts as lts
-use Rattle.account.proofs.some_zeros.Reads as some-zeros-reads
-use Rattle.find.proofs.find_byte.Reads as find-byte-reads
 
 returns : tie.Need-returns
 returns c = search exits

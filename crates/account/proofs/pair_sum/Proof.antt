@@ -3,9 +3,6 @@ use borrow.Author.Needs.{needs}
 use Rattle.account.proofs.Doubled.{sums}
 use Rattle.account.proofs.pair_sum.Statement.{statement}
 use Rattle.account.proofs.pair_sum.Tie as tie
-use Rattle.account.proofs.pair_sum.Reads as reads
-use Rattle.account.proofs.pair_sum.Lts as lts
-use Rattle.numeral.proofs.tens.Reads as tens-reads
 
 tens-requires : tie.Need-tens-requires
 tens-requires c κs = search needs

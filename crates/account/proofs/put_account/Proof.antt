@@ -3,10 +3,6 @@ use borrow.Author.Needs.{needs}
 use Rattle.account.proofs.Spelled.{spelled}
 use Rattle.account.proofs.put_account.Statement.{statement}
 use Rattle.account.proofs.put_account.Tie as tie
-use Rattle.account.proofs.put_account.Reads as reads
-use Rattle.account.proofs.put_account.Lts as lts
-use Rattle.numeral.proofs.put_number.Reads as put-number-reads
-use Rattle.put.proofs.put_byte.Reads as put-byte-reads
 
 put-number-requires : tie.Need-put-number-requires
 put-number-requires c κs = search (spelled, needs)

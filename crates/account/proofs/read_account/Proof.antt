@@ -3,11 +3,6 @@ use borrow.Author.Needs.{needs}
 use Rattle.account.proofs.Exits.{exits}
 use Rattle.account.proofs.read_account.Statement.{statement}
 use Rattle.account.proofs.read_account.Tie as tie
-use Rattle.account.proofs.read_account.Reads as reads
-use Rattle.account.proofs.read_account.Lts as lts
-use Rattle.account.proofs.two_parts.Reads as two-parts-reads
-use Rattle.account.proofs.with_base.Reads as with-base-reads
-use Rattle.find.proofs.find_byte.Reads as find-byte-reads
 
 find-byte-requires : tie.Need-find-byte-requires
 find-byte-requires c κs = search needs

@@ -3,11 +3,6 @@ use borrow.Author.Needs.{needs}
 use Rattle.account.proofs.Exits.{exits}
 use Rattle.account.proofs.read_payer.Statement.{statement}
 use Rattle.account.proofs.read_payer.Tie as tie
-use Rattle.account.proofs.read_payer.Reads as reads
-use Rattle.account.proofs.read_payer.Lts as lts
-use Rattle.account.proofs.left_empty.Reads as left-empty-reads
-use Rattle.account.proofs.only_zeros.Reads as only-zeros-reads
-use Rattle.account.proofs.read_account.Reads as read-account-reads
 
 left-empty-requires : tie.Need-left-empty-requires
 left-empty-requires c κs = search needs

@@ -4,9 +4,6 @@ use Rattle.base.proofs.Cases.{picks}
 use Rattle.paper.specs.Accounts.{zeros}
 use Rattle.account.proofs.some_zeros.Statement.{statement}
 use Rattle.account.proofs.some_zeros.Tie as tie
-use Rattle.account.proofs.some_zeros.Reads as reads
-use Rattle.account.proofs.some_zeros.Lts as lts
-use Rattle.account.proofs.all_zero.Reads as all-zero-reads
 
 returns : tie.Need-returns
 unfolding zeros

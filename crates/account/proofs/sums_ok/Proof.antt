@@ -3,8 +3,6 @@ use Rattle.base.proofs.Cases.{picks}
 use Rattle.account.specs.Doubled.{sumsOk}
 use Rattle.account.proofs.sums_ok.Statement.{statement}
 use Rattle.account.proofs.sums_ok.Tie as tie
-use Rattle.account.proofs.sums_ok.Reads as reads
-use Rattle.account.proofs.sums_ok.Lts as lts
 
 returns : tie.Need-returns
 unfolding sumsOk

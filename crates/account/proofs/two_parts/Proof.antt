@@ -4,10 +4,6 @@ use Rattle.given.proofs.Steps.{steps}
 use Rattle.paper.specs.Accounts.{twoParts}
 use Rattle.account.proofs.two_parts.Statement.{statement}
 use Rattle.account.proofs.two_parts.Tie as tie
-use Rattle.account.proofs.two_parts.Reads as reads
-use Rattle.account.proofs.two_parts.Lts as lts
-use Rattle.account.proofs.with_base.Reads as with-base-reads
-use Rattle.numeral.proofs.read_digits.Reads as read-digits-reads
 
 read-digits-requires : tie.Need-read-digits-requires
 read-digits-requires c κs = search needs

@@ -3,11 +3,6 @@ use borrow.Author.Needs.{needs}
 use Rattle.account.proofs.Doubled.{sums}
 use Rattle.account.proofs.weighted_sum.Statement.{statement}
 use Rattle.account.proofs.weighted_sum.Tie as tie
-use Rattle.account.proofs.weighted_sum.Reads as reads
-use Rattle.account.proofs.weighted_sum.Lts as lts
-use Rattle.account.proofs.eight_sum.Reads as eight-sum-reads
-use Rattle.account.proofs.four_sum.Reads as four-sum-reads
-use Rattle.account.proofs.pair_sum.Reads as pair-sum-reads
 
 four-sum-requires : tie.Need-four-sum-requires
 four-sum-requires c κs = search needs

@@ -3,10 +3,6 @@ use borrow.Author.Needs.{needs}
 use Rattle.given.proofs.Steps.{steps}
 use Rattle.account.proofs.with_base.Statement.{statement}
 use Rattle.account.proofs.with_base.Tie as tie
-use Rattle.account.proofs.with_base.Reads as reads
-use Rattle.account.proofs.with_base.Lts as lts
-use Rattle.account.proofs.by_rule.Reads as by-rule-reads
-use Rattle.numeral.proofs.read_digits.Reads as read-digits-reads
 
 read-digits-requires : tie.Need-read-digits-requires
 read-digits-requires c κs = search needs

@@ -4,9 +4,6 @@ use native.Mathlib.Omega.{arith}
 use Rattle.accountfile.proofs.Groups.{end-within, file-closings}
 use Rattle.accountfile.proofs.close_file.Statement.{statement}
 use Rattle.accountfile.proofs.close_file.Tie as tie
-use Rattle.accountfile.proofs.close_file.Reads as reads
-use Rattle.accountfile.proofs.close_file.Lts as lts
-use Rattle.closing.proofs.close_line.Reads as close-line-reads
 
 returns : tie.Need-returns
 returns c = search file-closings

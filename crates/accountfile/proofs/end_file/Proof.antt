@@ -4,8 +4,6 @@ use Rattle.base.proofs.Cases.{tests}
 use Rattle.accountfile.specs.Resume.{endAs}
 use Rattle.accountfile.proofs.end_file.Statement.{statement}
 use Rattle.accountfile.proofs.end_file.Tie as tie
-use Rattle.accountfile.proofs.end_file.Reads as reads
-use Rattle.accountfile.proofs.end_file.Lts as lts
 
 returns : tie.Need-returns
 unfolding endAs pick

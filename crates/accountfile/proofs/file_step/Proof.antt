@@ -3,12 +3,6 @@ use borrow.Author.Needs.{needs}
 use Rattle.accountfile.proofs.Files.{file-ends, is-file, file-others}
 use Rattle.accountfile.proofs.file_step.Statement.{statement}
 use Rattle.accountfile.proofs.file_step.Tie as tie
-use Rattle.accountfile.proofs.file_step.Reads as reads
-use Rattle.accountfile.proofs.file_step.Lts as lts
-use Rattle.accountfile.proofs.end_file.Reads as end-file-reads
-use Rattle.accountfile.proofs.open_file.Reads as open-file-reads
-use Rattle.kind.proofs.kind_of.Reads as kind-of-reads
-use Rattle.line.proofs.next_line.Reads as next-line-reads
 
 end-file-requires : tie.Need-end-file-requires
 end-file-requires c κs = search needs

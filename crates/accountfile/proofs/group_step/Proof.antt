@@ -3,12 +3,6 @@ use borrow.Author.Needs.{needs}
 use Rattle.accountfile.proofs.Groups.{group-ends, is-group, is-file-end, group-others}
 use Rattle.accountfile.proofs.group_step.Statement.{statement}
 use Rattle.accountfile.proofs.group_step.Tie as tie
-use Rattle.accountfile.proofs.group_step.Reads as reads
-use Rattle.accountfile.proofs.group_step.Lts as lts
-use Rattle.accountfile.proofs.close_file.Reads as close-file-reads
-use Rattle.accountfile.proofs.open_group.Reads as open-group-reads
-use Rattle.kind.proofs.kind_of.Reads as kind-of-reads
-use Rattle.line.proofs.next_line.Reads as next-line-reads
 
 returns : tie.Need-returns
 returns c = search group-ends

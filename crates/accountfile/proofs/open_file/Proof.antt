@@ -4,11 +4,6 @@ use native.Mathlib.Omega.{arith}
 use Rattle.accountfile.proofs.Files.{file-long, series-low, file-within, file-15, file-opened, file-refused}
 use Rattle.accountfile.proofs.open_file.Statement.{statement}
 use Rattle.accountfile.proofs.open_file.Tie as tie
-use Rattle.accountfile.proofs.open_file.Reads as reads
-use Rattle.accountfile.proofs.open_file.Lts as lts
-use Rattle.accountfile.proofs.file_more.Reads as file-more-reads
-use Rattle.fileline.proofs.file_line.Reads as file-line-reads
-use Rattle.seen.proofs.Seen.with.Reads as with-reads
 
 returns : tie.Need-returns
 returns c = search file-15

@@ -4,12 +4,6 @@ use native.Mathlib.Omega.{arith}
 use Rattle.accountfile.proofs.Groups.{group-long, group-within, total-within, group-begun, group-moved, group-refused}
 use Rattle.accountfile.proofs.open_group.Statement.{statement}
 use Rattle.accountfile.proofs.open_group.Tie as tie
-use Rattle.accountfile.proofs.open_group.Reads as reads
-use Rattle.accountfile.proofs.open_group.Lts as lts
-use Rattle.account.proofs.is_nobody.Reads as is-nobody-reads
-use Rattle.accountfile.proofs.group_more.Reads as group-more-reads
-use Rattle.accountfile.proofs.whole_group.Reads as whole-group-reads
-use Rattle.groupline.proofs.group_line.Reads as group-line-reads
 
 sub-group-line : tie.Need-sub-group-line
 sub-group-line c = search needs

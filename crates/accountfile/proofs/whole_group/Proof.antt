@@ -3,9 +3,6 @@ use borrow.Author.Needs.{needs}
 use Rattle.accountfile.proofs.Groups.{group-closed, group-stopped}
 use Rattle.accountfile.proofs.whole_group.Statement.{statement}
 use Rattle.accountfile.proofs.whole_group.Tie as tie
-use Rattle.accountfile.proofs.whole_group.Reads as reads
-use Rattle.accountfile.proofs.whole_group.Lts as lts
-use Rattle.group.proofs.group_items.Reads as group-items-reads
 
 group-items-requires : tie.Need-group-items-requires
 group-items-requires c κs = search needs

@@ -3,8 +3,6 @@ use Rattle.base.proofs.Cases.{picks}
 use Rattle.paper.specs.Amounts.{amountProper}
 use Rattle.amount.proofs.amount_proper.Statement.{statement}
 use Rattle.amount.proofs.amount_proper.Tie as tie
-use Rattle.amount.proofs.amount_proper.Reads as reads
-use Rattle.amount.proofs.amount_proper.Lts as lts
 
 returns : tie.Need-returns
 unfolding amountProper

@@ -3,11 +3,6 @@ use borrow.Author.Needs.{needs}
 use Rattle.amount.proofs.Exits.{exits}
 use Rattle.amount.proofs.read_amount.Statement.{statement}
 use Rattle.amount.proofs.read_amount.Tie as tie
-use Rattle.amount.proofs.read_amount.Reads as reads
-use Rattle.amount.proofs.read_amount.Lts as lts
-use Rattle.amount.proofs.with_comma.Reads as with-comma-reads
-use Rattle.find.proofs.find_byte.Reads as find-byte-reads
-use Rattle.numeral.proofs.read_digits.Reads as read-digits-reads
 
 find-byte-requires : tie.Need-find-byte-requires
 find-byte-requires c κs = search needs

@@ -5,10 +5,6 @@ use Rattle.given.proofs.Steps.{steps}
 use Rattle.paper.specs.Amounts.{readItemAmount}
 use Rattle.amount.proofs.read_item_amount.Statement.{statement}
 use Rattle.amount.proofs.read_item_amount.Tie as tie
-use Rattle.amount.proofs.read_item_amount.Reads as reads
-use Rattle.amount.proofs.read_item_amount.Lts as lts
-use Rattle.amount.proofs.amount_proper.Reads as amount-proper-reads
-use Rattle.amount.proofs.read_amount.Reads as read-amount-reads
 
 read-amount-requires : tie.Need-read-amount-requires
 read-amount-requires c κs = search needs

@@ -3,9 +3,6 @@ use borrow.Author.Needs.{needs}
 use Rattle.paper.specs.Amounts.{readTotal}
 use Rattle.amount.proofs.read_total.Statement.{statement}
 use Rattle.amount.proofs.read_total.Tie as tie
-use Rattle.amount.proofs.read_total.Reads as reads
-use Rattle.amount.proofs.read_total.Lts as lts
-use Rattle.amount.proofs.read_amount.Reads as read-amount-reads
 
 read-amount-requires : tie.Need-read-amount-requires
 read-amount-requires c κs = search needs

@@ -3,9 +3,6 @@ use borrow.Author.Needs.{needs}
 use Rattle.amount.proofs.Exits.{exits}
 use Rattle.amount.proofs.with_comma.Statement.{statement}
 use Rattle.amount.proofs.with_comma.Tie as tie
-use Rattle.amount.proofs.with_comma.Reads as reads
-use Rattle.amount.proofs.with_comma.Lts as lts
-use Rattle.numeral.proofs.read_digits.Reads as read-digits-reads
 
 sub-read-digits : tie.Need-sub-read-digits
 sub-read-digits c = search needs

@@ -2,8 +2,6 @@
 use Rattle.bank.proofs.Spelled.{spelled}
 use Rattle.bank.proofs.bank_len.Statement.{statement}
 use Rattle.bank.proofs.bank_len.Tie as tie
-use Rattle.bank.proofs.bank_len.Reads as reads
-use Rattle.bank.proofs.bank_len.Lts as lts
 
 returns : tie.Need-returns
 returns c = search spelled

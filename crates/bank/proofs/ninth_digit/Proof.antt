@@ -2,8 +2,6 @@
 use Rattle.bank.proofs.Exits.{ranks}
 use Rattle.bank.proofs.ninth_digit.Statement.{statement}
 use Rattle.bank.proofs.ninth_digit.Tie as tie
-use Rattle.bank.proofs.ninth_digit.Reads as reads
-use Rattle.bank.proofs.ninth_digit.Lts as lts
 
 returns : tie.Need-returns
 returns c = search ranks

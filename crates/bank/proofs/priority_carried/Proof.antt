@@ -3,8 +3,6 @@ use Rattle.base.proofs.Cases.{picks}
 use Rattle.paper.specs.BankField.{priorityCarried}
 use Rattle.bank.proofs.priority_carried.Statement.{statement}
 use Rattle.bank.proofs.priority_carried.Tie as tie
-use Rattle.bank.proofs.priority_carried.Reads as reads
-use Rattle.bank.proofs.priority_carried.Lts as lts
 
 returns : tie.Need-returns
 unfolding priorityCarried

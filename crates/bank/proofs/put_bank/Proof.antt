@@ -4,10 +4,6 @@ use native.Mathlib.Omega.{arith}
 use Rattle.bank.proofs.Spelled.{spelled, bank-last}
 use Rattle.bank.proofs.put_bank.Statement.{statement}
 use Rattle.bank.proofs.put_bank.Tie as tie
-use Rattle.bank.proofs.put_bank.Reads as reads
-use Rattle.bank.proofs.put_bank.Lts as lts
-use Rattle.bank.proofs.put_priority.Reads as put-priority-reads
-use Rattle.numeral.proofs.put_four.Reads as put-four-reads
 
 put-priority-requires : tie.Need-put-priority-requires
 put-priority-requires c κs = search (spelled, needs)

@@ -3,9 +3,6 @@ use borrow.Author.Needs.{needs}
 use Rattle.bank.proofs.Spelled.{spelled}
 use Rattle.bank.proofs.put_priority.Statement.{statement}
 use Rattle.bank.proofs.put_priority.Tie as tie
-use Rattle.bank.proofs.put_priority.Reads as reads
-use Rattle.bank.proofs.put_priority.Lts as lts
-use Rattle.put.proofs.put_byte.Reads as put-byte-reads
 
 returns : tie.Need-returns
 returns c = search spelled

@@ -5,10 +5,6 @@ use Rattle.paper.specs.BankField.{readBank}
 use Rattle.given.proofs.Steps.{steps}
 use Rattle.bank.proofs.read_bank.Statement.{statement}
 use Rattle.bank.proofs.read_bank.Tie as tie
-use Rattle.bank.proofs.read_bank.Reads as reads
-use Rattle.bank.proofs.read_bank.Lts as lts
-use Rattle.bank.proofs.ninth_digit.Reads as ninth-digit-reads
-use Rattle.numeral.proofs.read_digits.Reads as read-digits-reads
 
 read-digits-requires : tie.Need-read-digits-requires
 read-digits-requires c κs = search needs

@@ -3,9 +3,6 @@ use borrow.Author.Needs.{needs}
 use Rattle.closing.proofs.Steps.{closes}
 use Rattle.closing.proofs.close_line.Statement.{statement}
 use Rattle.closing.proofs.close_line.Tie as tie
-use Rattle.closing.proofs.close_line.Reads as reads
-use Rattle.closing.proofs.close_line.Lts as lts
-use Rattle.closing.proofs.plus_at.Reads as plus-at-reads
 
 returns : tie.Need-returns
 returns c = search closes

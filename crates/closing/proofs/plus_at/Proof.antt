@@ -3,8 +3,6 @@ use borrow.Author.Needs.{needs}
 use Rattle.closing.proofs.Steps.{closes}
 use Rattle.closing.proofs.plus_at.Statement.{statement}
 use Rattle.closing.proofs.plus_at.Tie as tie
-use Rattle.closing.proofs.plus_at.Reads as reads
-use Rattle.closing.proofs.plus_at.Lts as lts
 
 returns : tie.Need-returns
 returns c = search closes

@@ -3,11 +3,6 @@ use borrow.Author.Needs.{needs}
 use Rattle.explain.proofs.Exits.{outputs}
 use Rattle.explain.proofs.explain_file.Statement.{statement}
 use Rattle.explain.proofs.explain_file.Tie as tie
-use Rattle.explain.proofs.explain_file.Reads as reads
-use Rattle.explain.proofs.explain_file.Lts as lts
-use Rattle.explain.proofs.line_len.Reads as line-len-reads
-use Rattle.explain.proofs.put_line.Reads as put-line-reads
-use Rattle.explain.proofs.verdict_for.Reads as verdict-for-reads
 
 verdict-for-requires : tie.Need-verdict-for-requires
 verdict-for-requires c κs = search needs

@@ -3,10 +3,6 @@ use borrow.Author.Needs.{needs}
 use Rattle.explain.proofs.Wording.{lines}
 use Rattle.explain.proofs.line_len.Statement.{statement}
 use Rattle.explain.proofs.line_len.Tie as tie
-use Rattle.explain.proofs.line_len.Reads as reads
-use Rattle.explain.proofs.line_len.Lts as lts
-use Rattle.explain.proofs.accepted_len.Reads as accepted-len-reads
-use Rattle.explain.proofs.refused_len.Reads as refused-len-reads
 
 accepted-len-requires : tie.Need-accepted-len-requires
 accepted-len-requires c κs = search needs

@@ -3,10 +3,6 @@ use borrow.Author.Needs.{needs}
 use Rattle.explain.proofs.Wording.{acceptances}
 use Rattle.explain.proofs.put_accepted.Statement.{statement}
 use Rattle.explain.proofs.put_accepted.Tie as tie
-use Rattle.explain.proofs.put_accepted.Reads as reads
-use Rattle.explain.proofs.put_accepted.Lts as lts
-use Rattle.explain.proofs.put_said.Reads as put-said-reads
-use Rattle.put.proofs.put_byte.Reads as put-byte-reads
 
 slice-aggregate-put-said : tie.Need-slice-aggregate-put-said
 slice-aggregate-put-said c = search needs

@@ -3,10 +3,6 @@ use borrow.Author.Needs.{needs}
 use Rattle.explain.proofs.Wording.{lines}
 use Rattle.explain.proofs.put_line.Statement.{statement}
 use Rattle.explain.proofs.put_line.Tie as tie
-use Rattle.explain.proofs.put_line.Reads as reads
-use Rattle.explain.proofs.put_line.Lts as lts
-use Rattle.explain.proofs.put_accepted.Reads as put-accepted-reads
-use Rattle.explain.proofs.put_refused.Reads as put-refused-reads
 
 put-accepted-requires : tie.Need-put-accepted-requires
 put-accepted-requires c κs = search (lines, needs)

@@ -3,10 +3,6 @@ use borrow.Author.Needs.{needs}
 use Rattle.explain.proofs.Wording.{refused-end, refusals}
 use Rattle.explain.proofs.put_refused.Statement.{statement}
 use Rattle.explain.proofs.put_refused.Tie as tie
-use Rattle.explain.proofs.put_refused.Reads as reads
-use Rattle.explain.proofs.put_refused.Lts as lts
-use Rattle.explain.proofs.put_said.Reads as put-said-reads
-use Rattle.put.proofs.put_byte.Reads as put-byte-reads
 
 slice-aggregate-put-said : tie.Need-slice-aggregate-put-said
 slice-aggregate-put-said c = search needs

@@ -3,10 +3,6 @@ use borrow.Author.Needs.{needs}
 use Rattle.put.proofs.Room.{rooms}
 use Rattle.explain.proofs.put_said.Statement.{statement}
 use Rattle.explain.proofs.put_said.Tie as tie
-use Rattle.explain.proofs.put_said.Reads as reads
-use Rattle.explain.proofs.put_said.Lts as lts
-use Rattle.numeral.proofs.put_number.Reads as put-number-reads
-use Rattle.put.proofs.put_bytes.Reads as put-bytes-reads
 
 put-bytes-requires : tie.Need-put-bytes-requires
 put-bytes-requires c κs = search (rooms, needs)

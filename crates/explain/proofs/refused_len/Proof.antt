@@ -3,9 +3,6 @@ use borrow.Author.Needs.{needs}
 use Rattle.explain.proofs.Wording.{refusals}
 use Rattle.explain.proofs.refused_len.Statement.{statement}
 use Rattle.explain.proofs.refused_len.Tie as tie
-use Rattle.explain.proofs.refused_len.Reads as reads
-use Rattle.explain.proofs.refused_len.Lts as lts
-use Rattle.numeral.proofs.width.Reads as width-reads
 
 width-requires : tie.Need-width-requires
 width-requires c κs = search needs

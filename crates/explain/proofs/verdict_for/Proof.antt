@@ -3,10 +3,6 @@ use borrow.Author.Needs.{needs}
 use Rattle.explain.proofs.Exits.{sheets}
 use Rattle.explain.proofs.verdict_for.Statement.{statement}
 use Rattle.explain.proofs.verdict_for.Tie as tie
-use Rattle.explain.proofs.verdict_for.Reads as reads
-use Rattle.explain.proofs.verdict_for.Lts as lts
-use Rattle.explain.proofs.verdict_on.Reads as verdict-on-reads
-use Rattle.sheet.proofs.sheet_of.Reads as sheet-of-reads
 
 sheet-of-requires : tie.Need-sheet-of-requires
 sheet-of-requires c κs = search needs

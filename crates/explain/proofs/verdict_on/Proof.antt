@@ -3,10 +3,6 @@ use borrow.Author.Needs.{needs}
 use Rattle.explain.proofs.Exits.{verdicts}
 use Rattle.explain.proofs.verdict_on.Statement.{statement}
 use Rattle.explain.proofs.verdict_on.Tie as tie
-use Rattle.explain.proofs.verdict_on.Reads as reads
-use Rattle.explain.proofs.verdict_on.Lts as lts
-use Rattle.calendar.proofs.real_day.Reads as real-day-reads
-use Rattle.reading.proofs.judge_file.Reads as judge-file-reads
 
 real-day-requires : tie.Need-real-day-requires
 real-day-requires c κs = search needs

@@ -5,10 +5,6 @@ use borrow.Author.Needs.{needs}
 use Rattle.field.proofs.Turns.{Reads, turns}
 use Rattle.field.proofs.digit_run.Statement.{statement}
 use Rattle.field.proofs.digit_run.Tie as tie
-use Rattle.field.proofs.digit_run.Reads as reads
-use Rattle.field.proofs.digit_run.Lts as lts
-use Rattle.field.proofs.stop_of.Reads as stop-of-reads
-use Rattle.field.proofs.worth.Reads as worth-reads
 
 abbrev Inv-loop : tie.InvT-loop
 Inv-loop s at most stop v₀ i₀ v i = Reads s at most stop v i

@@ -3,8 +3,6 @@ use borrow.Author.Needs.{needs}
 use Rattle.field.proofs.Turns.{stops}
 use Rattle.field.proofs.ends.Statement.{statement}
 use Rattle.field.proofs.ends.Tie as tie
-use Rattle.field.proofs.ends.Reads as reads
-use Rattle.field.proofs.ends.Lts as lts
 
 returns : tie.Need-returns
 returns c = search stops

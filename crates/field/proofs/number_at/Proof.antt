@@ -3,10 +3,6 @@ use borrow.Author.Needs.{needs}
 use Rattle.field.proofs.Number.{numbers}
 use Rattle.field.proofs.number_at.Statement.{statement}
 use Rattle.field.proofs.number_at.Tie as tie
-use Rattle.field.proofs.number_at.Reads as reads
-use Rattle.field.proofs.number_at.Lts as lts
-use Rattle.field.proofs.digit_run.Reads as digit-run-reads
-use Rattle.field.proofs.ends.Reads as ends-reads
 
 digit-run-requires : tie.Need-digit-run-requires
 digit-run-requires c κs = search needs

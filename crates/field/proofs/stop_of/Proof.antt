@@ -3,8 +3,6 @@ use borrow.Author.Needs.{needs}
 use Rattle.base.proofs.Cases.{picks}
 use Rattle.field.proofs.stop_of.Statement.{statement}
 use Rattle.field.proofs.stop_of.Tie as tie
-use Rattle.field.proofs.stop_of.Reads as reads
-use Rattle.field.proofs.stop_of.Lts as lts
 
 sub-if1 : tie.Need-sub-if1
 sub-if1 c = search needs

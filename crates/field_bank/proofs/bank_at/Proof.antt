@@ -4,10 +4,6 @@ use Rattle.field.proofs.Onward.{onwards}
 use Rattle.field_bank.proofs.Exits.{bank-field}
 use Rattle.field_bank.proofs.bank_at.Statement.{statement}
 use Rattle.field_bank.proofs.bank_at.Tie as tie
-use Rattle.field_bank.proofs.bank_at.Reads as reads
-use Rattle.field_bank.proofs.bank_at.Lts as lts
-use Rattle.field.proofs.number_at.Reads as number-at-reads
-use Rattle.field_bank.proofs.by_ninth.Reads as by-ninth-reads
 
 number-at-requires : tie.Need-number-at-requires
 number-at-requires c κs = search needs

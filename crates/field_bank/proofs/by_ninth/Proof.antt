@@ -1,10 +1,7 @@
 -- `by_ninth` meets its contract: the cases of the ninth digit. Assumes nothing.
-use borrow.Author.Needs.{needs}
 use Rattle.field_bank.proofs.Exits.{ranks}
 use Rattle.field_bank.proofs.by_ninth.Statement.{statement}
 use Rattle.field_bank.proofs.by_ninth.Tie as tie
-use Rattle.field_bank.proofs.by_ninth.Reads as reads
-use Rattle.field_bank.proofs.by_ninth.Lts as lts
 
 returns : tie.Need-returns
 returns c = search ranks

@@ -4,12 +4,6 @@ use lib.ListN.{length}
 use borrow.Author.Needs.{needs}
 use Rattle.fields.proofs.main.Statement.{statement}
 use Rattle.fields.proofs.main.Tie as tie
-use Rattle.fields.proofs.main.Reads as reads
-use Rattle.fields.proofs.main.Lts as lts
-use Rattle.fields.proofs.answer.Reads as answer-reads
-use Rattle.io.proofs.buffer.Reads as buffer-reads
-use Rattle.io.proofs.read_full.Reads as read-full-reads
-use Rattle.line.proofs.next_line.Reads as next-line-reads
 
 abbrev Inv-loop : tie.InvT-loop
 Inv-loop n input at₀ at = at ≤ length input

@@ -5,13 +5,6 @@ use Rattle.base.specs.Pick.{pick}
 use Rattle.paper.specs.Days.{realDay, monthDays, leap}
 use Rattle.fields.proofs.show_date.Statement.{statement}
 use Rattle.fields.proofs.show_date.Tie as tie
-use Rattle.fields.proofs.show_date.Reads as reads
-use Rattle.fields.proofs.show_date.Lts as lts
-use Rattle.calendar.proofs.put_day.Reads as put-day-reads
-use Rattle.calendar.proofs.read_due.Reads as read-due-reads
-use Rattle.calendar.proofs.real_day.Reads as real-day-reads
-use Rattle.fields.proofs.refused.Reads as refused-reads
-use Rattle.io.proofs.write_all.Reads as write-all-reads
 
 real-day-requires : tie.Need-real-day-requires
 real-day-requires c κs = search needs

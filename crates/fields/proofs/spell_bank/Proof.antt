@@ -4,11 +4,6 @@ use native.Mathlib.Omega.{arith}
 use Rattle.bank.proofs.Spelled.{spell-bank-most}
 use Rattle.fields.proofs.spell_bank.Statement.{statement}
 use Rattle.fields.proofs.spell_bank.Tie as tie
-use Rattle.fields.proofs.spell_bank.Reads as reads
-use Rattle.fields.proofs.spell_bank.Lts as lts
-use Rattle.bank.proofs.bank_len.Reads as bank-len-reads
-use Rattle.bank.proofs.put_bank.Reads as put-bank-reads
-use Rattle.io.proofs.write_all.Reads as write-all-reads
 
 bank-len-requires : tie.Need-bank-len-requires
 bank-len-requires c κs = search needs

@@ -3,9 +3,6 @@ use borrow.Author.Needs.{needs}
 use Rattle.field.proofs.Steps.{steps}
 use Rattle.fileline.proofs.code_and_end.Statement.{statement}
 use Rattle.fileline.proofs.code_and_end.Tie as tie
-use Rattle.fileline.proofs.code_and_end.Reads as reads
-use Rattle.fileline.proofs.code_and_end.Lts as lts
-use Rattle.fileline.proofs.code_at.Reads as code-at-reads
 
 code-at-requires : tie.Need-code-at-requires
 code-at-requires c κs = search needs

@@ -4,10 +4,6 @@ use Rattle.field.proofs.Onward.{onwards}
 use Rattle.fileline.proofs.Fields.{fields}
 use Rattle.fileline.proofs.code_at.Statement.{statement}
 use Rattle.fileline.proofs.code_at.Tie as tie
-use Rattle.fileline.proofs.code_at.Reads as reads
-use Rattle.fileline.proofs.code_at.Lts as lts
-use Rattle.field.proofs.number_at.Reads as number-at-reads
-use Rattle.sheet.proofs.Sheet.bank_allowed.Reads as bank-allowed-reads
 
 number-at-requires : tie.Need-number-at-requires
 number-at-requires c κs = search needs

@@ -4,11 +4,6 @@ use Rattle.field.proofs.Steps.{steps}
 use Rattle.paper.specs.FileLine.{readFile}
 use Rattle.fileline.proofs.file_line.Statement.{statement}
 use Rattle.fileline.proofs.file_line.Tie as tie
-use Rattle.fileline.proofs.file_line.Reads as reads
-use Rattle.fileline.proofs.file_line.Lts as lts
-use Rattle.fileline.proofs.code_and_end.Reads as code-and-end-reads
-use Rattle.fileline.proofs.kind_at.Reads as kind-at-reads
-use Rattle.fileline.proofs.serial_at.Reads as serial-at-reads
 
 kind-at-requires : tie.Need-kind-at-requires
 kind-at-requires c κs = search needs

@@ -4,9 +4,6 @@ use Rattle.base.proofs.Cases.{picks}
 use Rattle.fileline.specs.Free.{numberFree}
 use Rattle.fileline.proofs.number_free.Statement.{statement}
 use Rattle.fileline.proofs.number_free.Tie as tie
-use Rattle.fileline.proofs.number_free.Reads as reads
-use Rattle.fileline.proofs.number_free.Lts as lts
-use Rattle.seen.proofs.Seen.has.Reads as has-reads
 
 returns : tie.Need-returns
 unfolding numberFree

@@ -4,10 +4,6 @@ use Rattle.field.proofs.Onward.{onwards}
 use Rattle.fileline.proofs.Fields.{fields, serial-below}
 use Rattle.fileline.proofs.serial_at.Statement.{statement}
 use Rattle.fileline.proofs.serial_at.Tie as tie
-use Rattle.fileline.proofs.serial_at.Reads as reads
-use Rattle.fileline.proofs.serial_at.Lts as lts
-use Rattle.field.proofs.number_at.Reads as number-at-reads
-use Rattle.fileline.proofs.number_free.Reads as number-free-reads
 
 number-at-requires : tie.Need-number-at-requires
 number-at-requires c κs = search needs

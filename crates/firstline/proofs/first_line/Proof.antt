@@ -4,9 +4,6 @@ use Rattle.paper.specs.FirstLine.{readFirst}
 use Rattle.firstline.proofs.Sound.{firsts}
 use Rattle.firstline.proofs.first_line.Statement.{statement}
 use Rattle.firstline.proofs.first_line.Tie as tie
-use Rattle.firstline.proofs.first_line.Reads as reads
-use Rattle.firstline.proofs.first_line.Lts as lts
-use Rattle.firstline.proofs.read_date.Reads as read-date-reads
 
 read-date-requires : tie.Need-read-date-requires
 read-date-requires c κs = search needs

@@ -4,9 +4,6 @@ use Rattle.paper.specs.FirstLine.{readTo}
 use Rattle.firstline.proofs.Steps.{rests}
 use Rattle.firstline.proofs.last_number.Statement.{statement}
 use Rattle.firstline.proofs.last_number.Tie as tie
-use Rattle.firstline.proofs.last_number.Reads as reads
-use Rattle.firstline.proofs.last_number.Lts as lts
-use Rattle.numeral.proofs.read_digits.Reads as read-digits-reads
 
 read-digits-requires : tie.Need-read-digits-requires
 read-digits-requires c κs = search needs

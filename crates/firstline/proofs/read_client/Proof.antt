@@ -4,10 +4,6 @@ use Rattle.firstline.specs.Stages.{onClient}
 use Rattle.firstline.proofs.Steps.{fields}
 use Rattle.firstline.proofs.read_client.Statement.{statement}
 use Rattle.firstline.proofs.read_client.Tie as tie
-use Rattle.firstline.proofs.read_client.Reads as reads
-use Rattle.firstline.proofs.read_client.Lts as lts
-use Rattle.firstline.proofs.read_start.Reads as read-start-reads
-use Rattle.numeral.proofs.read_digits.Reads as read-digits-reads
 
 returns : tie.Need-returns
 unfolding onClient

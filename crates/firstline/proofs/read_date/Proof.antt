@@ -4,10 +4,6 @@ use Rattle.firstline.specs.Stages.{onDate}
 use Rattle.firstline.proofs.Steps.{fields}
 use Rattle.firstline.proofs.read_date.Statement.{statement}
 use Rattle.firstline.proofs.read_date.Tie as tie
-use Rattle.firstline.proofs.read_date.Reads as reads
-use Rattle.firstline.proofs.read_date.Lts as lts
-use Rattle.calendar.proofs.read_day.Reads as read-day-reads
-use Rattle.firstline.proofs.read_name.Reads as read-name-reads
 
 returns : tie.Need-returns
 unfolding onDate

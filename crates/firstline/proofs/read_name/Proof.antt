@@ -4,10 +4,6 @@ use Rattle.firstline.specs.Stages.{onName}
 use Rattle.firstline.proofs.Steps.{fields}
 use Rattle.firstline.proofs.read_name.Statement.{statement}
 use Rattle.firstline.proofs.read_name.Tie as tie
-use Rattle.firstline.proofs.read_name.Reads as reads
-use Rattle.firstline.proofs.read_name.Lts as lts
-use Rattle.firstline.proofs.read_client.Reads as read-client-reads
-use Rattle.seek.proofs.all_text.Reads as all-text-reads
 
 returns : tie.Need-returns
 unfolding onName

@@ -4,10 +4,6 @@ use Rattle.firstline.specs.Stages.{onFrom}
 use Rattle.firstline.proofs.Steps.{fields}
 use Rattle.firstline.proofs.read_start.Statement.{statement}
 use Rattle.firstline.proofs.read_start.Tie as tie
-use Rattle.firstline.proofs.read_start.Reads as reads
-use Rattle.firstline.proofs.read_start.Lts as lts
-use Rattle.firstline.proofs.read_stop.Reads as read-stop-reads
-use Rattle.numeral.proofs.read_digits.Reads as read-digits-reads
 
 returns : tie.Need-returns
 unfolding onFrom

@@ -4,10 +4,6 @@ use Rattle.firstline.specs.Stages.{onTo}
 use Rattle.firstline.proofs.Steps.{fields}
 use Rattle.firstline.proofs.read_stop.Statement.{statement}
 use Rattle.firstline.proofs.read_stop.Tie as tie
-use Rattle.firstline.proofs.read_stop.Reads as reads
-use Rattle.firstline.proofs.read_stop.Lts as lts
-use Rattle.firstline.proofs.last_number.Reads as last-number-reads
-use Rattle.firstline.proofs.rest_taken.Reads as rest-taken-reads
 
 returns : tie.Need-returns
 unfolding onTo

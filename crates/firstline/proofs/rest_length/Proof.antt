@@ -1,11 +1,8 @@
 -- `rest_length` tests how long the rest is. Assumes nothing.
-use borrow.Author.Needs.{needs}
 use Rattle.paper.specs.FirstLine.{restLength}
 use Rattle.firstline.proofs.Steps.{rests}
 use Rattle.firstline.proofs.rest_length.Statement.{statement}
 use Rattle.firstline.proofs.rest_length.Tie as tie
-use Rattle.firstline.proofs.rest_length.Reads as reads
-use Rattle.firstline.proofs.rest_length.Lts as lts
 
 returns : tie.Need-returns
 unfolding restLength

@@ -3,10 +3,6 @@ use borrow.Author.Needs.{needs}
 use Rattle.firstline.proofs.Steps.{rests}
 use Rattle.firstline.proofs.rest_taken.Statement.{statement}
 use Rattle.firstline.proofs.rest_taken.Tie as tie
-use Rattle.firstline.proofs.rest_taken.Reads as reads
-use Rattle.firstline.proofs.rest_taken.Lts as lts
-use Rattle.firstline.proofs.rest_length.Reads as rest-length-reads
-use Rattle.seek.proofs.all_text.Reads as all-text-reads
 
 sub-rest-length : tie.Need-sub-rest-length
 sub-rest-length c = search needs

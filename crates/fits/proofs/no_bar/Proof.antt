@@ -3,9 +3,6 @@ use borrow.Author.Needs.{needs}
 use Rattle.fits.proofs.Absent.{absent}
 use Rattle.fits.proofs.no_bar.Statement.{statement}
 use Rattle.fits.proofs.no_bar.Tie as tie
-use Rattle.fits.proofs.no_bar.Reads as reads
-use Rattle.fits.proofs.no_bar.Lts as lts
-use Rattle.find.proofs.find_byte.Reads as find-byte-reads
 
 find-byte-requires : tie.Need-find-byte-requires
 find-byte-requires c κs = search needs

@@ -3,10 +3,6 @@ use borrow.Author.Needs.{needs}
 use Rattle.fits.proofs.Absent.{absent}
 use Rattle.fits.proofs.no_mark.Statement.{statement}
 use Rattle.fits.proofs.no_mark.Tie as tie
-use Rattle.fits.proofs.no_mark.Reads as reads
-use Rattle.fits.proofs.no_mark.Lts as lts
-use Rattle.find.proofs.find_byte.Reads as find-byte-reads
-use Rattle.seek.proofs.lacks_pattern.Reads as lacks-pattern-reads
 
 find-byte-requires : tie.Need-find-byte-requires
 find-byte-requires c κs = search needs

@@ -4,10 +4,6 @@ use native.Mathlib.Omega.{arith}
 use Rattle.group.proofs.Turns.{end-fits, ends}
 use Rattle.group.proofs.close_group.Statement.{statement}
 use Rattle.group.proofs.close_group.Tie as tie
-use Rattle.group.proofs.close_group.Reads as reads
-use Rattle.group.proofs.close_group.Lts as lts
-use Rattle.group.proofs.total_broken.Reads as total-broken-reads
-use Rattle.group.proofs.total_differs.Reads as total-differs-reads
 
 total-broken-requires : tie.Need-total-broken-requires
 total-broken-requires c κs = search needs

@@ -4,9 +4,6 @@ use native.Mathlib.Omega.{arith}
 use Rattle.group.proofs.Turns.{close-within, closings}
 use Rattle.group.proofs.close_turn.Statement.{statement}
 use Rattle.group.proofs.close_turn.Tie as tie
-use Rattle.group.proofs.close_turn.Reads as reads
-use Rattle.group.proofs.close_turn.Lts as lts
-use Rattle.closing.proofs.close_line.Reads as close-line-reads
 
 returns : tie.Need-returns
 returns c = search closings

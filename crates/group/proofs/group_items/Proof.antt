@@ -9,14 +9,6 @@ use Rattle.group.specs.Stands.{countsMore, shelfMore, openMore}
 use Rattle.group.proofs.Going.{Going, going-start, going-item, going-stop, going-close, going-end}
 use Rattle.group.proofs.group_items.Statement.{statement}
 use Rattle.group.proofs.group_items.Tie as tie
-use Rattle.group.proofs.group_items.Reads as reads
-use Rattle.group.proofs.group_items.Lts as lts
-use Rattle.group.proofs.close_group.Reads as close-group-reads
-use Rattle.group.proofs.counts_more.Reads as counts-more-reads
-use Rattle.group.proofs.open_more.Reads as open-more-reads
-use Rattle.group.proofs.shelf_more.Reads as shelf-more-reads
-use Rattle.group.proofs.item_step.Reads as item-step-reads
-use Rattle.line.proofs.next_line.Reads as next-line-reads
 
 abbrev Inv-loop : tie.InvT-loop
 Inv-loop f sh at line at₀ line₀ counts₀ shelf₀ opened₀ at' line' counts shelf opened =

@@ -3,11 +3,6 @@ use borrow.Author.Needs.{needs}
 use Rattle.group.proofs.Turns.{is-item, is-end, others}
 use Rattle.group.proofs.item_step.Statement.{statement}
 use Rattle.group.proofs.item_step.Tie as tie
-use Rattle.group.proofs.item_step.Reads as reads
-use Rattle.group.proofs.item_step.Lts as lts
-use Rattle.group.proofs.close_turn.Reads as close-turn-reads
-use Rattle.group.proofs.item_turn.Reads as item-turn-reads
-use Rattle.kind.proofs.kind_of.Reads as kind-of-reads
 
 sub-kind-of : tie.Need-sub-kind-of
 sub-kind-of c = search needs

@@ -4,9 +4,6 @@ use native.Mathlib.Omega.{arith}
 use Rattle.group.proofs.Turns.{item-within, items-turn}
 use Rattle.group.proofs.item_turn.Statement.{statement}
 use Rattle.group.proofs.item_turn.Tie as tie
-use Rattle.group.proofs.item_turn.Reads as reads
-use Rattle.group.proofs.item_turn.Lts as lts
-use Rattle.judgeitem.proofs.judge_item.Reads as judge-item-reads
 
 returns : tie.Need-returns
 returns c = search items-turn

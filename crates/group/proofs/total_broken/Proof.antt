@@ -4,8 +4,6 @@ use Rattle.base.specs.Pick.{pick}
 use Rattle.paper.specs.Judge.{totalBroken}
 use Rattle.group.proofs.total_broken.Statement.{statement}
 use Rattle.group.proofs.total_broken.Tie as tie
-use Rattle.group.proofs.total_broken.Reads as reads
-use Rattle.group.proofs.total_broken.Lts as lts
 
 returns : tie.Need-returns
 unfolding totalBroken pick

@@ -4,8 +4,6 @@ use Rattle.base.specs.Pick.{pick}
 use Rattle.paper.specs.Spells.{differs}
 use Rattle.group.proofs.total_differs.Statement.{statement}
 use Rattle.group.proofs.total_differs.Tie as tie
-use Rattle.group.proofs.total_differs.Reads as reads
-use Rattle.group.proofs.total_differs.Lts as lts
 
 returns : tie.Need-returns
 unfolding differs pick

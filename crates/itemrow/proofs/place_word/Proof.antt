@@ -3,8 +3,6 @@ use borrow.Author.Needs.{needs}
 use Rattle.base.proofs.Cases.{picks}
 use Rattle.itemrow.proofs.place_word.Statement.{statement}
 use Rattle.itemrow.proofs.place_word.Tie as tie
-use Rattle.itemrow.proofs.place_word.Reads as reads
-use Rattle.itemrow.proofs.place_word.Lts as lts
 
 returns : tie.Need-returns
 returns c = search picks

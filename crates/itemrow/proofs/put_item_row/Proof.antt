@@ -3,10 +3,6 @@ use borrow.Author.Needs.{needs}
 use Rattle.itemrow.proofs.Texts.{item-row}
 use Rattle.itemrow.proofs.put_item_row.Statement.{statement}
 use Rattle.itemrow.proofs.put_item_row.Tie as tie
-use Rattle.itemrow.proofs.put_item_row.Reads as reads
-use Rattle.itemrow.proofs.put_item_row.Lts as lts
-use Rattle.itemrow.proofs.place_word.Reads as place-word-reads
-use Rattle.row.proofs.put_row.Reads as put-row-reads
 
 place-word-requires : tie.Need-place-word-requires
 place-word-requires c κs = search needs

@@ -4,8 +4,6 @@ use Rattle.base.proofs.Cases.{picks}
 use Rattle.kind.proofs.Starts.{byHead, kinds}
 use Rattle.kind.proofs.headed.Statement.{statement}
 use Rattle.kind.proofs.headed.Tie as tie
-use Rattle.kind.proofs.headed.Reads as reads
-use Rattle.kind.proofs.headed.Lts as lts
 
 returns : tie.Need-returns
 unfolding byHead

@@ -3,11 +3,6 @@ use borrow.Author.Needs.{needs}
 use Rattle.kind.proofs.Starts.{kinds}
 use Rattle.kind.proofs.kind_of.Statement.{statement}
 use Rattle.kind.proofs.kind_of.Tie as tie
-use Rattle.kind.proofs.kind_of.Reads as reads
-use Rattle.kind.proofs.kind_of.Lts as lts
-use Rattle.kind.proofs.headed.Reads as headed-reads
-use Rattle.kind.proofs.plussed.Reads as plussed-reads
-use Rattle.kind.proofs.spaced.Reads as spaced-reads
 
 returns : tie.Need-returns
 returns c = search kinds

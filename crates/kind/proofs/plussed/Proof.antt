@@ -4,8 +4,6 @@ use Rattle.base.specs.Pick.{pick}
 use Rattle.kind.proofs.Starts.{byPlus, kinds}
 use Rattle.kind.proofs.plussed.Statement.{statement}
 use Rattle.kind.proofs.plussed.Tie as tie
-use Rattle.kind.proofs.plussed.Reads as reads
-use Rattle.kind.proofs.plussed.Lts as lts
 
 shared-slice-read-match : tie.Need-shared-slice-read-match
 shared-slice-read-match c = search needs

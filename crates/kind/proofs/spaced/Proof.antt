@@ -4,8 +4,6 @@ use Rattle.base.specs.Pick.{pick}
 use Rattle.kind.proofs.Starts.{bySpace, kinds}
 use Rattle.kind.proofs.spaced.Statement.{statement}
 use Rattle.kind.proofs.spaced.Tie as tie
-use Rattle.kind.proofs.spaced.Reads as reads
-use Rattle.kind.proofs.spaced.Lts as lts
 
 shared-slice-read-match : tie.Need-shared-slice-read-match
 shared-slice-read-match c = search needs

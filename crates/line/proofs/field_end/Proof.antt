@@ -8,8 +8,6 @@ use Rattle.paper.specs.Bytes.{space}
 use Rattle.line.proofs.Fields.{turns}
 use Rattle.line.proofs.field_end.Statement.{statement}
 use Rattle.line.proofs.field_end.Tie as tie
-use Rattle.line.proofs.field_end.Reads as reads
-use Rattle.line.proofs.field_end.Lts as lts
 
 abbrev Inv-loop : tie.InvT-loop
 Inv-loop s at stop₀ stop = (stop ≤ length s) × (at + seek space (drop at s) ≡ stop + seek space (drop stop s))

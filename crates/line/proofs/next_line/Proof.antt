@@ -6,9 +6,6 @@ use Rattle.line.proofs.Cutting.{Passed, passed-high, passed-more, cuts}
 use borrow.Author.Needs.{needs}
 use Rattle.line.proofs.next_line.Statement.{statement}
 use Rattle.line.proofs.next_line.Tie as tie
-use Rattle.line.proofs.next_line.Reads as reads
-use Rattle.line.proofs.next_line.Lts as lts
-use Rattle.line.proofs.past_cr.Reads as past-cr-reads
 
 abbrev Inv-loop : tie.InvT-loop
 Inv-loop f at i₀ i = Passed f at i

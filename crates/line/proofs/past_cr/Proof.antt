@@ -3,8 +3,6 @@ use Rattle.line.proofs.Cutting.{behinds}
 use borrow.Author.Needs.{needs}
 use Rattle.line.proofs.past_cr.Statement.{statement}
 use Rattle.line.proofs.past_cr.Tie as tie
-use Rattle.line.proofs.past_cr.Reads as reads
-use Rattle.line.proofs.past_cr.Lts as lts
 
 add-after : tie.Need-add-after
 add-after c = search needs

@@ -9,8 +9,6 @@ use Rattle.line.proofs.Fields.{counts, count-space, count-other}
 use borrow.Author.Needs.{needs}
 use Rattle.line.proofs.spaces.Statement.{statement}
 use Rattle.line.proofs.spaces.Tie as tie
-use Rattle.line.proofs.spaces.Reads as reads
-use Rattle.line.proofs.spaces.Lts as lts
 
 abbrev Inv-loop : tie.InvT-loop
 Inv-loop s n₀ i₀ n i = (n ≤ i) × (i ≤ length s) × (spaceCount s ≡ n + spaceCount (drop i s))

@@ -1,6 +1,6 @@
 -- `linelen::group_front_len` meets its contract. Assumes nothing.
 use borrow.Author.Needs.{needs}
-use Rattle.linelen.proofs.Lengths.{groups}
+use Rattle.linelen.proofs.Lengths.{group-front}
 use Rattle.linelen.proofs.group_front_len.Statement.{statement}
 use Rattle.linelen.proofs.group_front_len.Tie as tie
 
@@ -11,7 +11,7 @@ add-result : tie.Need-add-result
 add-result c = search needs
 
 returns : tie.Need-returns
-returns c = search (groups, needs)
+returns c = search (group-front, needs)
 
 pub group-front-len-spec : {M : Type 1} → statement M
 group-front-len-spec = tie.close (tie.spec payer-len-requires add-result returns)

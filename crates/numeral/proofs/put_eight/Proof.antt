@@ -3,10 +3,6 @@ use borrow.Author.Needs.{needs}
 use Rattle.numeral.proofs.Store.{stores}
 use Rattle.numeral.proofs.put_eight.Statement.{statement}
 use Rattle.numeral.proofs.put_eight.Tie as tie
-use Rattle.numeral.proofs.put_eight.Reads as reads
-use Rattle.numeral.proofs.put_eight.Lts as lts
-use Rattle.numeral.proofs.myriads.Reads as myriads-reads
-use Rattle.numeral.proofs.put_four.Reads as put-four-reads
 
 myriads-requires : tie.Need-myriads-requires
 myriads-requires c κs = search needs

@@ -3,10 +3,6 @@ use borrow.Author.Needs.{needs}
 use Rattle.numeral.proofs.Store.{stores}
 use Rattle.numeral.proofs.put_few.Statement.{statement}
 use Rattle.numeral.proofs.put_few.Tie as tie
-use Rattle.numeral.proofs.put_few.Reads as reads
-use Rattle.numeral.proofs.put_few.Lts as lts
-use Rattle.numeral.proofs.put_pair.Reads as put-pair-reads
-use Rattle.put.proofs.put_byte.Reads as put-byte-reads
 
 returns : tie.Need-returns
 returns c = search stores

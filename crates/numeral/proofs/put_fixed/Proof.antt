@@ -8,10 +8,6 @@ use Rattle.paper.specs.Numerals.{fixed}
 use Rattle.numeral.proofs.Fours.{fours}
 use Rattle.numeral.proofs.put_fixed.Statement.{statement}
 use Rattle.numeral.proofs.put_fixed.Tie as tie
-use Rattle.numeral.proofs.put_fixed.Reads as reads
-use Rattle.numeral.proofs.put_fixed.Lts as lts
-use Rattle.numeral.proofs.put_few.Reads as put-few-reads
-use Rattle.numeral.proofs.put_four.Reads as put-four-reads
 
 abbrev Inv-loop : tie.InvT-loop
 Inv-loop out₀ at k n m₀ j₀ out m j = (j ≤ k) × (length out ≡ length out₀) × (put out at (fixed j m) ≡ put out₀ at (fixed k n))

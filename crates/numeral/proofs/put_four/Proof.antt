@@ -3,10 +3,6 @@ use borrow.Author.Needs.{needs}
 use Rattle.numeral.proofs.Store.{stores}
 use Rattle.numeral.proofs.put_four.Statement.{statement}
 use Rattle.numeral.proofs.put_four.Tie as tie
-use Rattle.numeral.proofs.put_four.Reads as reads
-use Rattle.numeral.proofs.put_four.Lts as lts
-use Rattle.numeral.proofs.hundreds.Reads as hundreds-reads
-use Rattle.numeral.proofs.put_pair.Reads as put-pair-reads
 
 hundreds-requires : tie.Need-hundreds-requires
 hundreds-requires c κs = search needs

@@ -3,14 +3,6 @@ use borrow.Author.Needs.{needs}
 use Rattle.numeral.proofs.Store.{stores}
 use Rattle.numeral.proofs.put_number.Statement.{statement}
 use Rattle.numeral.proofs.put_number.Tie as tie
-use Rattle.numeral.proofs.put_number.Reads as reads
-use Rattle.numeral.proofs.put_number.Lts as lts
-use Rattle.numeral.proofs.myriads.Reads as myriads-reads
-use Rattle.numeral.proofs.put_eight.Reads as put-eight-reads
-use Rattle.numeral.proofs.put_fixed.Reads as put-fixed-reads
-use Rattle.numeral.proofs.put_four.Reads as put-four-reads
-use Rattle.numeral.proofs.put_short.Reads as put-short-reads
-use Rattle.numeral.proofs.width.Reads as width-reads
 
 put-short-requires : tie.Need-put-short-requires
 put-short-requires c κs = search needs

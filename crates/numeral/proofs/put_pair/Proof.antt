@@ -5,9 +5,6 @@ use borrow.Author.Needs.{needs}
 use Rattle.numeral.proofs.Store.{stores}
 use Rattle.numeral.proofs.put_pair.Statement.{statement}
 use Rattle.numeral.proofs.put_pair.Tie as tie
-use Rattle.numeral.proofs.put_pair.Reads as reads
-use Rattle.numeral.proofs.put_pair.Lts as lts
-use Rattle.numeral.proofs.tens.Reads as tens-reads
 
 tens-requires : tie.Need-tens-requires
 tens-requires c κs = search needs

@@ -3,12 +3,6 @@ use borrow.Author.Needs.{needs}
 use Rattle.numeral.proofs.Store.{stores}
 use Rattle.numeral.proofs.put_short.Statement.{statement}
 use Rattle.numeral.proofs.put_short.Tie as tie
-use Rattle.numeral.proofs.put_short.Reads as reads
-use Rattle.numeral.proofs.put_short.Lts as lts
-use Rattle.numeral.proofs.hundreds.Reads as hundreds-reads
-use Rattle.numeral.proofs.put_four.Reads as put-four-reads
-use Rattle.numeral.proofs.put_pair.Reads as put-pair-reads
-use Rattle.put.proofs.put_byte.Reads as put-byte-reads
 
 cast-put-byte : tie.Need-cast-put-byte
 cast-put-byte c = search needs

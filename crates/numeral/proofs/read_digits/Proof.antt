@@ -8,8 +8,6 @@ use borrow.Author.Needs.{needs}
 use Rattle.numeral.proofs.Digits.{reading}
 use Rattle.numeral.proofs.read_digits.Statement.{statement}
 use Rattle.numeral.proofs.read_digits.Tie as tie
-use Rattle.numeral.proofs.read_digits.Reads as reads
-use Rattle.numeral.proofs.read_digits.Lts as lts
 
 abbrev Inv-loop : tie.InvT-loop
 Inv-loop f least most n v₀ i₀ v i = (i ≤ length f) × (v < 10 ^ i) × (digits least most f ≡ digitsOn v (drop i f))

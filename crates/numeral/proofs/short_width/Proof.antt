@@ -3,8 +3,6 @@ use native.Mathlib.Omega.{arith}
 use Rattle.numeral.proofs.Wide.{one-wide, wide}
 use Rattle.numeral.proofs.short_width.Statement.{statement}
 use Rattle.numeral.proofs.short_width.Tie as tie
-use Rattle.numeral.proofs.short_width.Reads as reads
-use Rattle.numeral.proofs.short_width.Lts as lts
 
 returns : tie.Need-returns
 returns c = (one-wide _ (omega arith), omega arith)

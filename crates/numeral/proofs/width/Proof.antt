@@ -3,9 +3,6 @@ use borrow.Author.Needs.{needs}
 use Rattle.numeral.proofs.Wide.{widths}
 use Rattle.numeral.proofs.width.Statement.{statement}
 use Rattle.numeral.proofs.width.Tie as tie
-use Rattle.numeral.proofs.width.Reads as reads
-use Rattle.numeral.proofs.width.Lts as lts
-use Rattle.numeral.proofs.short_width.Reads as short-width-reads
 
 short-width-requires : tie.Need-short-width-requires
 short-width-requires c κs = search needs

@@ -2,8 +2,6 @@
 use Rattle.base.proofs.Cases.{picks}
 use Rattle.putitem.proofs.left_out.Statement.{statement}
 use Rattle.putitem.proofs.left_out.Tie as tie
-use Rattle.putitem.proofs.left_out.Reads as reads
-use Rattle.putitem.proofs.left_out.Lts as lts
 
 returns : tie.Need-returns
 returns c = search picks

@@ -3,13 +3,6 @@ use borrow.Author.Needs.{needs}
 use Rattle.putitem.proofs.Tail.{tails}
 use Rattle.putitem.proofs.put_tail.Statement.{statement}
 use Rattle.putitem.proofs.put_tail.Tie as tie
-use Rattle.putitem.proofs.put_tail.Reads as reads
-use Rattle.putitem.proofs.put_tail.Lts as lts
-use Rattle.putitem.proofs.left_out.Reads as left-out-reads
-use Rattle.putitem.proofs.put_lone.Reads as put-lone-reads
-use Rattle.putitem.proofs.put_symbol.Reads as put-symbol-reads
-use Rattle.putitem.proofs.textless.Reads as textless-reads
-use Rattle.spell.proofs.put_text.Reads as put-text-reads
 
 textless-requires : tie.Need-textless-requires
 textless-requires c κs = search needs

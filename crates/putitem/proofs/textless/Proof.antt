@@ -3,9 +3,6 @@ use borrow.Author.Needs.{needs}
 use Rattle.base.proofs.Cases.{picks}
 use Rattle.putitem.proofs.textless.Statement.{statement}
 use Rattle.putitem.proofs.textless.Tie as tie
-use Rattle.putitem.proofs.textless.Reads as reads
-use Rattle.putitem.proofs.textless.Lts as lts
-use Rattle.extent.proofs.no_text.Reads as no-text-reads
 
 returns : tie.Need-returns
 returns c = search picks

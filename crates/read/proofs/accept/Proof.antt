@@ -4,11 +4,6 @@ use Rattle.paper.specs.Reading.{acceptedAs}
 use Rattle.read.proofs.Exits.{filling, limits}
 use Rattle.read.proofs.accept.Statement.{statement}
 use Rattle.read.proofs.accept.Tie as tie
-use Rattle.read.proofs.accept.Reads as reads
-use Rattle.read.proofs.accept.Lts as lts
-use Rattle.filling.proofs.fill_rows.Reads as fill-rows-reads
-use Rattle.read.proofs.header_of.Reads as header-of-reads
-use Rattle.read.proofs.no_room.Reads as no-room-reads
 
 no-room-requires : tie.Need-no-room-requires
 no-room-requires c κs = search needs

@@ -2,9 +2,6 @@
 use borrow.Author.Needs.{needs}
 use Rattle.read.proofs.header_of.Statement.{statement}
 use Rattle.read.proofs.header_of.Tie as tie
-use Rattle.read.proofs.header_of.Reads as reads
-use Rattle.read.proofs.header_of.Lts as lts
-use Rattle.read.proofs.name_or_spaces.Reads as name-or-spaces-reads
 
 name-or-spaces-requires : tie.Need-name-or-spaces-requires
 name-or-spaces-requires c κs = search needs

@@ -1,6 +1,6 @@
 -- `name_of` copies the 20 bytes. The loop's invariant: the name's first i bytes are the file's from 10 on, the others as at first.
 use borrow.Author.Needs.{needs}
-use Prim.Native.Nat.{_-_, _+_, _≤_}
+use Prim.Native.Nat.{_-_, _≤_}
 use mathlib.Core.Path.{_≡_}
 use mathlib.Core.List.{_++_, append-nil}
 use native.Mathlib.Omega.{arith}
@@ -8,8 +8,6 @@ use lib.ListN.{take, drop, replicate}
 use Rattle.read.proofs.Copy.{copy-more}
 use Rattle.read.proofs.name_of.Statement.{statement}
 use Rattle.read.proofs.name_of.Tie as tie
-use Rattle.read.proofs.name_of.Reads as reads
-use Rattle.read.proofs.name_of.Lts as lts
 
 abbrev Inv-loop : tie.InvT-loop
 Inv-loop file name₀ i₀ name i = (i ≤ 20) × (name ≡ take i (drop 10 file) ++ drop i name₀)

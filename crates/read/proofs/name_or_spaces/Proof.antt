@@ -2,9 +2,6 @@
 use Rattle.base.specs.Pick.{pick}
 use Rattle.read.proofs.name_or_spaces.Statement.{statement}
 use Rattle.read.proofs.name_or_spaces.Tie as tie
-use Rattle.read.proofs.name_or_spaces.Reads as reads
-use Rattle.read.proofs.name_or_spaces.Lts as lts
-use Rattle.read.proofs.name_of.Reads as name-of-reads
 
 name-of-requires : tie.Need-name-of-requires
 name-of-requires c κs = c .before .before .pre (c .if1 .taken)

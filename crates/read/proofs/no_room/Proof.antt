@@ -3,8 +3,6 @@ use mathlib.Core.Path.{refl}
 use Rattle.paper.specs.Reading.{needs}
 use Rattle.read.proofs.no_room.Statement.{statement}
 use Rattle.read.proofs.no_room.Tie as tie
-use Rattle.read.proofs.no_room.Reads as reads
-use Rattle.read.proofs.no_room.Lts as lts
 
 returns : tie.Need-returns
 unfolding needs

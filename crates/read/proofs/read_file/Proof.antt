@@ -3,11 +3,6 @@ use borrow.Author.Needs.{needs}
 use Rattle.read.proofs.Exits.{sheets}
 use Rattle.read.proofs.read_file.Statement.{statement}
 use Rattle.read.proofs.read_file.Tie as tie
-use Rattle.read.proofs.read_file.Reads as reads
-use Rattle.read.proofs.read_file.Lts as lts
-use Rattle.read.proofs.read_on.Reads as read-on-reads
-use Rattle.read.proofs.refusal.Reads as refusal-reads
-use Rattle.sheet.proofs.sheet_of.Reads as sheet-of-reads
 
 sheet-of-requires : tie.Need-sheet-of-requires
 sheet-of-requires c κs = search needs

@@ -3,12 +3,6 @@ use borrow.Author.Needs.{needs}
 use Rattle.read.proofs.Exits.{judging}
 use Rattle.read.proofs.read_on.Statement.{statement}
 use Rattle.read.proofs.read_on.Tie as tie
-use Rattle.read.proofs.read_on.Reads as reads
-use Rattle.read.proofs.read_on.Lts as lts
-use Rattle.calendar.proofs.real_day.Reads as real-day-reads
-use Rattle.read.proofs.accept.Reads as accept-reads
-use Rattle.reading.proofs.judge_file.Reads as judge-file-reads
-use Rattle.read.proofs.refusal.Reads as refusal-reads
 
 real-day-requires : tie.Need-real-day-requires
 real-day-requires c κs = search needs

@@ -3,8 +3,6 @@ use mathlib.Core.Path.{refl}
 use Rattle.paper.specs.Reading.{refusedAt}
 use Rattle.read.proofs.refusal.Statement.{statement}
 use Rattle.read.proofs.refusal.Tie as tie
-use Rattle.read.proofs.refusal.Reads as reads
-use Rattle.read.proofs.refusal.Lts as lts
 
 returns : tie.Need-returns
 unfolding refusedAt

@@ -5,10 +5,6 @@ use Rattle.accountfile.specs.Resume.{toGo}
 use Rattle.reading.proofs.Goes.{Stand, stand-start, stand-good, stand-on, stand-refused, stand-accepted, stand-kept}
 use Rattle.reading.proofs.behind_first.Statement.{statement}
 use Rattle.reading.proofs.behind_first.Tie as tie
-use Rattle.reading.proofs.behind_first.Reads as reads
-use Rattle.reading.proofs.behind_first.Lts as lts
-use Rattle.reading.proofs.account_files.Reads as account-files-reads
-use Rattle.reading.proofs.groups.Reads as groups-reads
 
 abbrev Inv-loop : tie.InvT-loop
 Inv-loop f today at head terms seen₀ left₀ seen left = Stand (terms .sheet) today f at head seen left

@@ -5,10 +5,6 @@ use Rattle.base.proofs.Seek.{never}
 use Rattle.reading.proofs.Heads.{header-long, name-inside, head-long, head-fields, head-plain, head-refused}
 use Rattle.reading.proofs.from_first.Statement.{statement}
 use Rattle.reading.proofs.from_first.Tie as tie
-use Rattle.reading.proofs.from_first.Reads as reads
-use Rattle.reading.proofs.from_first.Lts as lts
-use Rattle.firstline.proofs.first_line.Reads as first-line-reads
-use Rattle.reading.proofs.behind_first.Reads as behind-first-reads
 
 sub-first-line : tie.Need-sub-first-line
 sub-first-line c = search needs

@@ -3,11 +3,6 @@ use borrow.Author.Needs.{needs}
 use Rattle.reading.proofs.Heads.{no-line, is-head, head-others}
 use Rattle.reading.proofs.judge_file.Statement.{statement}
 use Rattle.reading.proofs.judge_file.Tie as tie
-use Rattle.reading.proofs.judge_file.Reads as reads
-use Rattle.reading.proofs.judge_file.Lts as lts
-use Rattle.kind.proofs.kind_of.Reads as kind-of-reads
-use Rattle.line.proofs.next_line.Reads as next-line-reads
-use Rattle.reading.proofs.from_first.Reads as from-first-reads
 
 returns : tie.Need-returns
 returns c =

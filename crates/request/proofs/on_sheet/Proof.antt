@@ -3,10 +3,6 @@ use borrow.Author.Needs.{needs}
 use Rattle.request.proofs.Asking.{exits}
 use Rattle.request.proofs.on_sheet.Statement.{statement}
 use Rattle.request.proofs.on_sheet.Tie as tie
-use Rattle.request.proofs.on_sheet.Reads as reads
-use Rattle.request.proofs.on_sheet.Lts as lts
-use Rattle.line.proofs.next_line.Reads as next-line-reads
-use Rattle.request.proofs.read_today.Reads as read-today-reads
 
 next-line-requires : tie.Need-next-line-requires
 next-line-requires c κs = search needs

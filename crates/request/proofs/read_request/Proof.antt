@@ -3,10 +3,6 @@ use borrow.Author.Needs.{needs}
 use Rattle.request.proofs.Asking.{exits}
 use Rattle.request.proofs.read_request.Statement.{statement}
 use Rattle.request.proofs.read_request.Tie as tie
-use Rattle.request.proofs.read_request.Reads as reads
-use Rattle.request.proofs.read_request.Lts as lts
-use Rattle.request.proofs.on_sheet.Reads as on-sheet-reads
-use Rattle.sheet.proofs.sheet_by.Reads as sheet-by-reads
 
 returns : tie.Need-returns
 returns c = search exits depth 8

@@ -3,9 +3,6 @@ use borrow.Author.Needs.{needs}
 use Rattle.request.proofs.Asking.{exits}
 use Rattle.request.proofs.read_today.Statement.{statement}
 use Rattle.request.proofs.read_today.Tie as tie
-use Rattle.request.proofs.read_today.Reads as reads
-use Rattle.request.proofs.read_today.Lts as lts
-use Rattle.calendar.proofs.read_day.Reads as read-day-reads
 
 returns : tie.Need-returns
 returns c = search exits depth 8

@@ -3,11 +3,6 @@ use borrow.Author.Needs.{needs}
 use Rattle.rewriting.proofs.Exits.{requests}
 use Rattle.rewriting.proofs.rewrite.Statement.{statement}
 use Rattle.rewriting.proofs.rewrite.Tie as tie
-use Rattle.rewriting.proofs.rewrite.Reads as reads
-use Rattle.rewriting.proofs.rewrite.Lts as lts
-use Rattle.explain.proofs.put_refused.Reads as put-refused-reads
-use Rattle.request.proofs.read_request.Reads as read-request-reads
-use Rattle.rewriting.proofs.rewrite_file.Reads as rewrite-file-reads
 
 read-request-requires : tie.Need-read-request-requires
 read-request-requires c κs = search needs

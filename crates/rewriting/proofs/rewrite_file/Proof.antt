@@ -5,11 +5,6 @@ use borrow.Author.Needs.{needs}
 use Rattle.rewriting.proofs.Exits.{rows-few, files}
 use Rattle.rewriting.proofs.rewrite_file.Statement.{statement}
 use Rattle.rewriting.proofs.rewrite_file.Tie as tie
-use Rattle.rewriting.proofs.rewrite_file.Reads as reads
-use Rattle.rewriting.proofs.rewrite_file.Lts as lts
-use Rattle.explain.proofs.put_refused.Reads as put-refused-reads
-use Rattle.read.proofs.read_file.Reads as read-file-reads
-use Rattle.rewriting.proofs.write_back.Reads as write-back-reads
 
 read-file-requires : tie.Need-read-file-requires
 read-file-requires c κs = search needs

@@ -3,9 +3,6 @@ use borrow.Author.Needs.{needs}
 use Rattle.rewriting.proofs.Front.{draft-wrote}
 use Rattle.rewriting.proofs.write_back.Statement.{statement}
 use Rattle.rewriting.proofs.write_back.Tie as tie
-use Rattle.rewriting.proofs.write_back.Reads as reads
-use Rattle.rewriting.proofs.write_back.Lts as lts
-use Rattle.write.proofs.write_file.Reads as write-file-reads
 
 write-file-requires : tie.Need-write-file-requires
 write-file-requires c κs = search needs

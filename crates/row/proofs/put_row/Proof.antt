@@ -12,9 +12,6 @@ use Rattle.paper.specs.Rows.{wordsBytes}
 use Rattle.row.proofs.Words.{row-first, row-room, row-next}
 use Rattle.row.proofs.put_row.Statement.{statement}
 use Rattle.row.proofs.put_row.Tie as tie
-use Rattle.row.proofs.put_row.Reads as reads
-use Rattle.row.proofs.put_row.Lts as lts
-use Rattle.word.proofs.put_word.Reads as put-word-reads
 
 abbrev Inv-loop : tie.InvT-loop
 Inv-loop rows₀ at words next₀ i₀ rows next i = (i ≤ 24) × Wrote rows₀ at (wordsBytes (take i words)) rows next

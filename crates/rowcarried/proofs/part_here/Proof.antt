@@ -3,9 +3,6 @@ use borrow.Author.Needs.{needs}
 use Rattle.rowcarried.proofs.Steps.{texts}
 use Rattle.rowcarried.proofs.part_here.Statement.{statement}
 use Rattle.rowcarried.proofs.part_here.Tie as tie
-use Rattle.rowcarried.proofs.part_here.Reads as reads
-use Rattle.rowcarried.proofs.part_here.Lts as lts
-use Rattle.fits.proofs.part_carried.Reads as part-carried-reads
 
 returns : tie.Need-returns
 returns c = search texts

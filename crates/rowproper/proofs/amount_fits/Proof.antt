@@ -5,9 +5,6 @@ use Rattle.base.proofs.Cases.{picks}
 use Rattle.rowproper.proofs.Laws.{amount-low}
 use Rattle.rowproper.proofs.amount_fits.Statement.{statement}
 use Rattle.rowproper.proofs.amount_fits.Tie as tie
-use Rattle.rowproper.proofs.amount_fits.Reads as reads
-use Rattle.rowproper.proofs.amount_fits.Lts as lts
-use Rattle.amount.proofs.amount_proper.Reads as amount-proper-reads
 
 amount-proper-requires : tie.Need-amount-proper-requires
 amount-proper-requires c κs = search needs

@@ -3,9 +3,6 @@ use borrow.Author.Needs.{needs}
 use Rattle.rowread.proofs.Fields.{fields}
 use Rattle.rowproper.proofs.file_check.Statement.{statement}
 use Rattle.rowproper.proofs.file_check.Tie as tie
-use Rattle.rowproper.proofs.file_check.Reads as reads
-use Rattle.rowproper.proofs.file_check.Lts as lts
-use Rattle.rowproper.proofs.kind_proper.Reads as kind-proper-reads
 
 kind-proper-requires : tie.Need-kind-proper-requires
 kind-proper-requires c κs = search needs

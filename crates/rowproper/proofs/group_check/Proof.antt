@@ -3,10 +3,6 @@ use borrow.Author.Needs.{needs}
 use Rattle.rowread.proofs.Fields.{fields}
 use Rattle.rowproper.proofs.group_check.Statement.{statement}
 use Rattle.rowproper.proofs.group_check.Tie as tie
-use Rattle.rowproper.proofs.group_check.Reads as reads
-use Rattle.rowproper.proofs.group_check.Lts as lts
-use Rattle.calendar.proofs.real_day.Reads as real-day-reads
-use Rattle.rowproper.proofs.payer_proper.Reads as payer-proper-reads
 
 real-day-requires : tie.Need-real-day-requires
 real-day-requires c κs = search needs

@@ -4,10 +4,6 @@ use Rattle.rowread.proofs.Fields.{fields}
 use Rattle.paper.specs.Proper.{headerProper}
 use Rattle.rowproper.proofs.header_check.Statement.{statement}
 use Rattle.rowproper.proofs.header_check.Tie as tie
-use Rattle.rowproper.proofs.header_check.Reads as reads
-use Rattle.rowproper.proofs.header_check.Lts as lts
-use Rattle.calendar.proofs.real_day.Reads as real-day-reads
-use Rattle.rowproper.proofs.name_full.Reads as name-full-reads
 
 real-day-requires : tie.Need-real-day-requires
 real-day-requires c κs = search needs

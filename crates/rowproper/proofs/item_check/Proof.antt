@@ -3,11 +3,6 @@ use borrow.Author.Needs.{needs}
 use Rattle.rowproper.proofs.Exits.{money-wrong, symbols-wrong, texts-last}
 use Rattle.rowproper.proofs.item_check.Statement.{statement}
 use Rattle.rowproper.proofs.item_check.Tie as tie
-use Rattle.rowproper.proofs.item_check.Reads as reads
-use Rattle.rowproper.proofs.item_check.Lts as lts
-use Rattle.rowproper.proofs.money_check.Reads as money-check-reads
-use Rattle.rowproper.proofs.symbols_check.Reads as symbols-check-reads
-use Rattle.rowproper.proofs.texts_check.Reads as texts-check-reads
 
 money-check-requires : tie.Need-money-check-requires
 money-check-requires c κs = search needs

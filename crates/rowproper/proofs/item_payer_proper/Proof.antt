@@ -4,10 +4,6 @@ use Rattle.base.proofs.Cases.{picks}
 use Rattle.paper.specs.Proper.{itemPayerProper}
 use Rattle.rowproper.proofs.item_payer_proper.Statement.{statement}
 use Rattle.rowproper.proofs.item_payer_proper.Tie as tie
-use Rattle.rowproper.proofs.item_payer_proper.Reads as reads
-use Rattle.rowproper.proofs.item_payer_proper.Lts as lts
-use Rattle.account.proofs.account_proper.Reads as account-proper-reads
-use Rattle.account.proofs.is_nobody.Reads as is-nobody-reads
 
 account-proper-requires : tie.Need-account-proper-requires
 account-proper-requires c κs = search needs

@@ -3,8 +3,6 @@ use Rattle.base.proofs.Cases.{picks}
 use Rattle.paper.specs.Proper.{kindProper}
 use Rattle.rowproper.proofs.kind_proper.Statement.{statement}
 use Rattle.rowproper.proofs.kind_proper.Tie as tie
-use Rattle.rowproper.proofs.kind_proper.Reads as reads
-use Rattle.rowproper.proofs.kind_proper.Lts as lts
 
 returns : tie.Need-returns
 unfolding kindProper

@@ -4,12 +4,6 @@ use Rattle.rowread.proofs.Fields.{fields}
 use Rattle.rowproper.specs.Stages.{moneyProper}
 use Rattle.rowproper.proofs.money_check.Statement.{statement}
 use Rattle.rowproper.proofs.money_check.Tie as tie
-use Rattle.rowproper.proofs.money_check.Reads as reads
-use Rattle.rowproper.proofs.money_check.Lts as lts
-use Rattle.account.proofs.account_proper.Reads as account-proper-reads
-use Rattle.bank.proofs.bank_proper.Reads as bank-proper-reads
-use Rattle.rowproper.proofs.amount_fits.Reads as amount-fits-reads
-use Rattle.rowproper.proofs.item_payer_proper.Reads as item-payer-proper-reads
 
 item-payer-proper-requires : tie.Need-item-payer-proper-requires
 item-payer-proper-requires c κs = search needs

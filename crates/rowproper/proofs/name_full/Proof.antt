@@ -3,9 +3,6 @@ use borrow.Author.Needs.{needs}
 use Rattle.base.proofs.Cases.{picks}
 use Rattle.rowproper.proofs.name_full.Statement.{statement}
 use Rattle.rowproper.proofs.name_full.Tie as tie
-use Rattle.rowproper.proofs.name_full.Reads as reads
-use Rattle.rowproper.proofs.name_full.Lts as lts
-use Rattle.seek.proofs.all_text.Reads as all-text-reads
 
 all-text-requires : tie.Need-all-text-requires
 all-text-requires c κs = search needs

@@ -7,10 +7,6 @@ use Rattle.rowread.proofs.Laws.{lies-in}
 use Rattle.rowproper.proofs.Exits.{places}
 use Rattle.rowproper.proofs.part_fine.Statement.{statement}
 use Rattle.rowproper.proofs.part_fine.Tie as tie
-use Rattle.rowproper.proofs.part_fine.Reads as reads
-use Rattle.rowproper.proofs.part_fine.Lts as lts
-use Rattle.fits.proofs.part_proper.Reads as part-proper-reads
-use Rattle.rowread.proofs.lies.Reads as lies-reads
 
 returns : tie.Need-returns
 returns c = search places

@@ -4,10 +4,6 @@ use Rattle.base.proofs.Cases.{picks}
 use Rattle.paper.specs.Proper.{payerProper}
 use Rattle.rowproper.proofs.payer_proper.Statement.{statement}
 use Rattle.rowproper.proofs.payer_proper.Tie as tie
-use Rattle.rowproper.proofs.payer_proper.Reads as reads
-use Rattle.rowproper.proofs.payer_proper.Lts as lts
-use Rattle.account.proofs.account_proper.Reads as account-proper-reads
-use Rattle.account.proofs.is_nobody.Reads as is-nobody-reads
 
 is-nobody-requires : tie.Need-is-nobody-requires
 is-nobody-requires c κs = search needs

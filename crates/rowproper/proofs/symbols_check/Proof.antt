@@ -4,9 +4,6 @@ use Rattle.rowread.proofs.Fields.{fields}
 use Rattle.rowproper.specs.Stages.{symbolsProper}
 use Rattle.rowproper.proofs.symbols_check.Statement.{statement}
 use Rattle.rowproper.proofs.symbols_check.Tie as tie
-use Rattle.rowproper.proofs.symbols_check.Reads as reads
-use Rattle.rowproper.proofs.symbols_check.Lts as lts
-use Rattle.bank.proofs.priority_proper.Reads as priority-proper-reads
 
 returns : tie.Need-returns
 unfolding symbolsProper

@@ -4,10 +4,6 @@ use Rattle.rowread.proofs.Fields.{fields}
 use Rattle.rowproper.specs.Stages.{textsProper}
 use Rattle.rowproper.proofs.texts_check.Statement.{statement}
 use Rattle.rowproper.proofs.texts_check.Tie as tie
-use Rattle.rowproper.proofs.texts_check.Reads as reads
-use Rattle.rowproper.proofs.texts_check.Lts as lts
-use Rattle.rowproper.proofs.name_fine.Reads as name-fine-reads
-use Rattle.rowproper.proofs.part_fine.Reads as part-fine-reads
 
 part-fine-requires : tie.Need-part-fine-requires
 part-fine-requires c κs = search needs

@@ -3,10 +3,6 @@ use borrow.Author.Needs.{needs}
 use native.Mathlib.Omega.{arith}
 use Rattle.rowread.proofs.item_at.Statement.{statement}
 use Rattle.rowread.proofs.item_at.Tie as tie
-use Rattle.rowread.proofs.item_at.Reads as reads
-use Rattle.rowread.proofs.item_at.Lts as lts
-use Rattle.rowread.proofs.span_at.Reads as span-at-reads
-use Rattle.word.proofs.word_at.Reads as word-at-reads
 
 add-word-at : tie.Need-add-word-at
 add-word-at c = search needs

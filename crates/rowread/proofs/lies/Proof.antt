@@ -2,8 +2,6 @@
 use Rattle.rowread.proofs.Laws.{lies-out, lies-apart}
 use Rattle.rowread.proofs.lies.Statement.{statement}
 use Rattle.rowread.proofs.lies.Tie as tie
-use Rattle.rowread.proofs.lies.Reads as reads
-use Rattle.rowread.proofs.lies.Lts as lts
 
 returns : tie.Need-returns
 returns c = search lies-out

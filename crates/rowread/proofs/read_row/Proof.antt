@@ -3,10 +3,6 @@ use borrow.Author.Needs.{needs}
 use Rattle.rowread.proofs.Exits.{exits}
 use Rattle.rowread.proofs.read_row.Statement.{statement}
 use Rattle.rowread.proofs.read_row.Tie as tie
-use Rattle.rowread.proofs.read_row.Reads as reads
-use Rattle.rowread.proofs.read_row.Lts as lts
-use Rattle.rowread.proofs.item_at.Reads as item-at-reads
-use Rattle.word.proofs.word_at.Reads as word-at-reads
 
 word-at-requires : tie.Need-word-at-requires
 word-at-requires c κs = search needs

@@ -2,9 +2,6 @@
 use borrow.Author.Needs.{needs}
 use Rattle.rowread.proofs.span_at.Statement.{statement}
 use Rattle.rowread.proofs.span_at.Tie as tie
-use Rattle.rowread.proofs.span_at.Reads as reads
-use Rattle.rowread.proofs.span_at.Lts as lts
-use Rattle.word.proofs.word_at.Reads as word-at-reads
 
 word-at-requires : tie.Need-word-at-requires
 word-at-requires c κs = search needs

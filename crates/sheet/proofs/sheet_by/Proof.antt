@@ -1,12 +1,9 @@
 -- `sheet_by` names the sheet as document 01 does.
-use borrow.Author.Needs.{needs}
 use Rattle.base.specs.Pick.{pick}
 use Rattle.base.proofs.Cases.{picks}
 use Rattle.sheet.specs.Sheets.{sheetBy}
 use Rattle.sheet.proofs.sheet_by.Statement.{statement}
 use Rattle.sheet.proofs.sheet_by.Tie as tie
-use Rattle.sheet.proofs.sheet_by.Reads as reads
-use Rattle.sheet.proofs.sheet_by.Lts as lts
 
 returns : tie.Need-returns
 unfolding sheetBy

@@ -1,12 +1,9 @@
 -- `sheet_of` names the sheet as document 01 does.
-use borrow.Author.Needs.{needs}
 use Rattle.base.specs.Pick.{pick}
 use Rattle.base.proofs.Cases.{picks}
 use Rattle.sheet.specs.Sheets.{sheetOf}
 use Rattle.sheet.proofs.sheet_of.Statement.{statement}
 use Rattle.sheet.proofs.sheet_of.Tie as tie
-use Rattle.sheet.proofs.sheet_of.Reads as reads
-use Rattle.sheet.proofs.sheet_of.Lts as lts
 
 returns : tie.Need-returns
 unfolding sheetOf

@@ -3,10 +3,6 @@ use borrow.Author.Needs.{needs}
 use Rattle.spell.proofs.Writes.{choices}
 use Rattle.spell.proofs.put_end.Statement.{statement}
 use Rattle.spell.proofs.put_end.Tie as tie
-use Rattle.spell.proofs.put_end.Reads as reads
-use Rattle.spell.proofs.put_end.Lts as lts
-use Rattle.put.proofs.put_bytes.Reads as put-bytes-reads
-use Rattle.spell.proofs.put_name.Reads as put-name-reads
 
 put-bytes-requires : tie.Need-put-bytes-requires
 put-bytes-requires c κs = search (choices, needs)

@@ -3,9 +3,6 @@ use borrow.Author.Needs.{needs}
 use Rattle.spell.proofs.Writes.{choices}
 use Rattle.spell.proofs.put_mark.Statement.{statement}
 use Rattle.spell.proofs.put_mark.Tie as tie
-use Rattle.spell.proofs.put_mark.Reads as reads
-use Rattle.spell.proofs.put_mark.Lts as lts
-use Rattle.put.proofs.put_bytes.Reads as put-bytes-reads
 
 slice-aggregate-put-bytes : tie.Need-slice-aggregate-put-bytes
 slice-aggregate-put-bytes c = search needs

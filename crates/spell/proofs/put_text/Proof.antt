@@ -3,12 +3,6 @@ use borrow.Author.Needs.{needs}
 use Rattle.spell.proofs.Writes.{wholes}
 use Rattle.spell.proofs.put_text.Statement.{statement}
 use Rattle.spell.proofs.put_text.Tie as tie
-use Rattle.spell.proofs.put_text.Reads as reads
-use Rattle.spell.proofs.put_text.Lts as lts
-use Rattle.extent.proofs.no_parts.Reads as no-parts-reads
-use Rattle.joins.proofs.put_parts.Reads as put-parts-reads
-use Rattle.spell.proofs.put_end.Reads as put-end-reads
-use Rattle.spell.proofs.put_mark.Reads as put-mark-reads
 
 no-parts-requires : tie.Need-no-parts-requires
 no-parts-requires c κs = search needs

@@ -4,9 +4,6 @@ use Rattle.paper.specs.ItemLine.{fixedTail}
 use Rattle.tail.proofs.Tails.{tails}
 use Rattle.tail.proofs.fixed_tail.Statement.{statement}
 use Rattle.tail.proofs.fixed_tail.Tie as tie
-use Rattle.tail.proofs.fixed_tail.Reads as reads
-use Rattle.tail.proofs.fixed_tail.Lts as lts
-use Rattle.field.proofs.number_at.Reads as number-at-reads
 
 returns : tie.Need-returns
 unfolding fixedTail

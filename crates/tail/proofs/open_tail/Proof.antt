@@ -3,9 +3,6 @@ use borrow.Author.Needs.{needs}
 use Rattle.tail.proofs.Tails.{tails}
 use Rattle.tail.proofs.open_tail.Statement.{statement}
 use Rattle.tail.proofs.open_tail.Tie as tie
-use Rattle.tail.proofs.open_tail.Reads as reads
-use Rattle.tail.proofs.open_tail.Lts as lts
-use Rattle.field.proofs.number_at.Reads as number-at-reads
 
 returns : tie.Need-returns
 returns c = (λ y k. search tails depth 8, search needs)

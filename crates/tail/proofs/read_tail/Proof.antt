@@ -3,10 +3,6 @@ use borrow.Author.Needs.{needs}
 use Rattle.tail.proofs.Tails.{kinds}
 use Rattle.tail.proofs.read_tail.Statement.{statement}
 use Rattle.tail.proofs.read_tail.Tie as tie
-use Rattle.tail.proofs.read_tail.Reads as reads
-use Rattle.tail.proofs.read_tail.Lts as lts
-use Rattle.tail.proofs.fixed_tail.Reads as fixed-tail-reads
-use Rattle.tail.proofs.open_tail.Reads as open-tail-reads
 
 fixed-tail-requires : tie.Need-fixed-tail-requires
 fixed-tail-requires c κs = search needs

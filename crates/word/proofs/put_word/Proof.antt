@@ -8,8 +8,6 @@ use Rattle.paper.specs.Words.{wordBytes}
 use borrow.Author.Needs.{needs}
 use Rattle.word.proofs.put_word.Statement.{statement}
 use Rattle.word.proofs.put_word.Tie as tie
-use Rattle.word.proofs.put_word.Reads as reads
-use Rattle.word.proofs.put_word.Lts as lts
 
 cast-rows : tie.Need-cast-rows
 cast-rows c = search needs

@@ -9,8 +9,6 @@ use Rattle.word.proofs.Load.{Loaded, load-room, load-more}
 use borrow.Author.Needs.{needs}
 use Rattle.word.proofs.word_at.Statement.{statement}
 use Rattle.word.proofs.word_at.Tie as tie
-use Rattle.word.proofs.word_at.Reads as reads
-use Rattle.word.proofs.word_at.Lts as lts
 
 abbrev Inv-loop : tie.InvT-loop
 Inv-loop rows at w₀ k₀ w k = Loaded rows at w k

@@ -3,10 +3,6 @@ use borrow.Author.Needs.{needs}
 use Rattle.write.proofs.Exits.{accepting}
 use Rattle.write.proofs.accept.Statement.{statement}
 use Rattle.write.proofs.accept.Tie as tie
-use Rattle.write.proofs.accept.Reads as reads
-use Rattle.write.proofs.accept.Lts as lts
-use Rattle.write.proofs.counted.Reads as counted-reads
-use Rattle.write.proofs.fill.Reads as fill-reads
 
 counted-requires : tie.Need-counted-requires
 counted-requires c κs = search needs

@@ -3,9 +3,6 @@ use borrow.Author.Needs.{needs}
 use Rattle.write.proofs.Exits.{carrying}
 use Rattle.write.proofs.carry.Statement.{statement}
 use Rattle.write.proofs.carry.Tie as tie
-use Rattle.write.proofs.carry.Reads as reads
-use Rattle.write.proofs.carry.Lts as lts
-use Rattle.write.proofs.header_carried.Reads as header-carried-reads
 
 header-carried-requires : tie.Need-header-carried-requires
 header-carried-requires c κs = search needs

@@ -3,9 +3,6 @@ use borrow.Author.Needs.{needs}
 use Rattle.write.proofs.Exits.{whole-length}
 use Rattle.write.proofs.file_len.Statement.{statement}
 use Rattle.write.proofs.file_len.Tie as tie
-use Rattle.write.proofs.file_len.Reads as reads
-use Rattle.write.proofs.file_len.Lts as lts
-use Rattle.linelen.proofs.first_len.Reads as first-len-reads
 
 first-len-requires : tie.Need-first-len-requires
 first-len-requires c κs = search needs

@@ -3,10 +3,6 @@ use borrow.Author.Needs.{needs}
 use Rattle.write.proofs.Exits.{putting}
 use Rattle.write.proofs.fill.Statement.{statement}
 use Rattle.write.proofs.fill.Tie as tie
-use Rattle.write.proofs.fill.Reads as reads
-use Rattle.write.proofs.fill.Lts as lts
-use Rattle.putlines.proofs.put_first.Reads as put-first-reads
-use Rattle.fillfile.proofs.fill_file.Reads as fill-file-reads
 
 put-first-requires : tie.Need-put-first-requires
 put-first-requires c κs = search (putting, needs)

@@ -2,8 +2,6 @@
 use Rattle.write.proofs.Exits.{interval}
 use Rattle.write.proofs.header_carried.Statement.{statement}
 use Rattle.write.proofs.header_carried.Tie as tie
-use Rattle.write.proofs.header_carried.Reads as reads
-use Rattle.write.proofs.header_carried.Lts as lts
 
 returns : tie.Need-returns
 returns c = search interval

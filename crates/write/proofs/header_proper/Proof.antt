@@ -3,9 +3,6 @@ use borrow.Author.Needs.{needs}
 use Rattle.base.proofs.Cases.{picks}
 use Rattle.write.proofs.header_proper.Statement.{statement}
 use Rattle.write.proofs.header_proper.Tie as tie
-use Rattle.write.proofs.header_proper.Reads as reads
-use Rattle.write.proofs.header_proper.Lts as lts
-use Rattle.rowproper.proofs.header_check.Reads as header-check-reads
 
 header-check-requires : tie.Need-header-check-requires
 header-check-requires c κs = search needs

@@ -3,10 +3,6 @@ use borrow.Author.Needs.{needs}
 use Rattle.write.proofs.Exits.{heading}
 use Rattle.write.proofs.judge.Statement.{statement}
 use Rattle.write.proofs.judge.Tie as tie
-use Rattle.write.proofs.judge.Reads as reads
-use Rattle.write.proofs.judge.Lts as lts
-use Rattle.write.proofs.header_proper.Reads as header-proper-reads
-use Rattle.write.proofs.judge_rows.Reads as judge-rows-reads
 
 header-proper-requires : tie.Need-header-proper-requires
 header-proper-requires c κs = search needs

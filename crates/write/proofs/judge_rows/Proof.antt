@@ -3,11 +3,6 @@ use borrow.Author.Needs.{needs}
 use Rattle.write.proofs.Exits.{judging, rows-fit}
 use Rattle.write.proofs.judge_rows.Statement.{statement}
 use Rattle.write.proofs.judge_rows.Tie as tie
-use Rattle.write.proofs.judge_rows.Reads as reads
-use Rattle.write.proofs.judge_rows.Lts as lts
-use Rattle.write.proofs.carry.Reads as carry-reads
-use Rattle.write.proofs.file_len.Reads as file-len-reads
-use Rattle.survey.proofs.survey.Reads as survey-reads
 
 survey-requires : tie.Need-survey-requires
 survey-requires c κs = search needs

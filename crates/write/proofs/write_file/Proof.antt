@@ -3,11 +3,6 @@ use borrow.Author.Needs.{needs}
 use Rattle.write.proofs.Exits.{sheets}
 use Rattle.write.proofs.write_file.Statement.{statement}
 use Rattle.write.proofs.write_file.Tie as tie
-use Rattle.write.proofs.write_file.Reads as reads
-use Rattle.write.proofs.write_file.Lts as lts
-use Rattle.sheet.proofs.sheet_of.Reads as sheet-of-reads
-use Rattle.write.proofs.refusal.Reads as refusal-reads
-use Rattle.write.proofs.write_on.Reads as write-on-reads
 
 sheet-of-requires : tie.Need-sheet-of-requires
 sheet-of-requires c κs = search needs

@@ -3,12 +3,6 @@ use borrow.Author.Needs.{needs}
 use Rattle.write.proofs.Exits.{days}
 use Rattle.write.proofs.write_on.Statement.{statement}
 use Rattle.write.proofs.write_on.Tie as tie
-use Rattle.write.proofs.write_on.Reads as reads
-use Rattle.write.proofs.write_on.Lts as lts
-use Rattle.calendar.proofs.real_day.Reads as real-day-reads
-use Rattle.write.proofs.accept.Reads as accept-reads
-use Rattle.write.proofs.judge.Reads as judge-reads
-use Rattle.write.proofs.refusal.Reads as refusal-reads
 
 real-day-requires : tie.Need-real-day-requires
 real-day-requires c κs = search needs

@@ -3,8 +3,6 @@ use borrow.Author.Needs.{needs}
 use Rattle.seen.specs.Bits.{bit}
 use Rattle.seen.proofs.Seen.has.Statement.{statement}
 use Rattle.seen.proofs.Seen.has.Tie as tie
-use Rattle.seen.proofs.Seen.has.Reads as reads
-use Rattle.seen.proofs.Seen.has.Lts as lts
 
 mul-w : tie.Need-mul-w
 mul-w c = search needs

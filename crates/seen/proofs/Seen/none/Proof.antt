@@ -2,8 +2,6 @@
 use Rattle.seen.proofs.Laws.{holds-none}
 use Rattle.seen.proofs.Seen.none.Statement.{statement}
 use Rattle.seen.proofs.Seen.none.Tie as tie
-use Rattle.seen.proofs.Seen.none.Reads as reads
-use Rattle.seen.proofs.Seen.none.Lts as lts
 
 returns : tie.Need-returns
 returns c = search holds-none

@@ -6,8 +6,6 @@ use borrow.Author.Needs.{needs}
 use Rattle.seen.proofs.Laws.{added}
 use Rattle.seen.proofs.Seen.with.Statement.{statement}
 use Rattle.seen.proofs.Seen.with.Tie as tie
-use Rattle.seen.proofs.Seen.with.Reads as reads
-use Rattle.seen.proofs.Seen.with.Lts as lts
 
 mul-w : tie.Need-mul-w
 mul-w c = search needs

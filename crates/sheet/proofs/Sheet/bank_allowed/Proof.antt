@@ -1,11 +1,8 @@
 -- `Sheet::bank_allowed` answers as its definition does.
-use borrow.Author.Needs.{needs}
 use Rattle.base.proofs.Cases.{picks}
 use Rattle.sheet.specs.Sheets.{bankAllowed}
 use Rattle.sheet.proofs.Sheet.bank_allowed.Statement.{statement}
 use Rattle.sheet.proofs.Sheet.bank_allowed.Tie as tie
-use Rattle.sheet.proofs.Sheet.bank_allowed.Reads as reads
-use Rattle.sheet.proofs.Sheet.bank_allowed.Lts as lts
 
 returns : tie.Need-returns
 unfolding bankAllowed
