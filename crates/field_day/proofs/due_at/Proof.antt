@@ -1,51 +1,63 @@
--- `due_at` meets its contract: the field by its bytes. Assumes nothing.
+-- `due_at` meets its contract: six digits, or the whole field. Assumes nothing.
 use borrow.Author.Needs.{needs}
-use Rattle.field.proofs.Whole.{wholes}
-use Rattle.line.proofs.Fields.{end-within}
+use Rattle.field_day.proofs.Exits.{digits-due}
 use Rattle.field_day.proofs.due_at.Statement.{statement}
 use Rattle.field_day.proofs.due_at.Tie as tie
 use Rattle.field_day.proofs.due_at.Reads as reads
 use Rattle.field_day.proofs.due_at.Lts as lts
-use Rattle.calendar.proofs.read_due.Reads as read-due-reads
-use Rattle.line.proofs.field_end.Reads as field-end-reads
+use Rattle.field.proofs.number_at.Reads as number-at-reads
+use Rattle.field_day.proofs.if_due.Reads as if-due-reads
+use Rattle.field_day.proofs.whole_due.Reads as whole-due-reads
 
-field-end-requires : tie.Need-field-end-requires
-field-end-requires c κs = search needs
-
-sub-read-due : tie.Need-sub-read-due
-sub-read-due c = search needs
-
-part-read-due-start : tie.Need-part-read-due-start
-part-read-due-start c = search needs
-
-part-read-due-end : tie.Need-part-read-due-end
-part-read-due-end c = search (end-within, needs)
-
-read-due-requires : tie.Need-read-due-requires
-read-due-requires c κs = search needs
-
-enum-known-d : tie.Need-enum-known-d
-enum-known-d c = search needs
+number-at-requires : tie.Need-number-at-requires
+number-at-requires c κs = search needs
 
 enum-known-n : tie.Need-enum-known-n
 enum-known-n c = search needs
 
+enum-told : tie.Need-enum-told
+enum-told c = search needs
+
+whole-due-requires : tie.Need-whole-due-requires
+whole-due-requires c κs = search needs
+
 returns : tie.Need-returns
-returns c = search wholes
+returns c = search needs
+
+add-d : tie.Need-add-d
+add-d c = search needs
+
+mul-d : tie.Need-mul-d
+mul-d c = search needs
+
+mul-d-2 : tie.Need-mul-d-2
+mul-d-2 c = search needs
+
+add-d-2 : tie.Need-add-d-2
+add-d-2 c = search needs
+
+add-d-3 : tie.Need-add-d-3
+add-d-3 c = search needs
+
+if-due-requires : tie.Need-if-due-requires
+if-due-requires c κs = search needs
 
 returns-2 : tie.Need-returns-2
-returns-2 c = search wholes
+returns-2 c = search digits-due
 
 pub due-at-spec : {M : Type 1} → statement M
 due-at-spec =
     tie.close
     (tie.spec
-    field-end-requires
-    sub-read-due
-    part-read-due-start
-    part-read-due-end
-    read-due-requires
-    enum-known-d
+    number-at-requires
     enum-known-n
+    enum-told
+    whole-due-requires
     returns
+    add-d
+    mul-d
+    mul-d-2
+    add-d-2
+    add-d-3
+    if-due-requires
     returns-2)

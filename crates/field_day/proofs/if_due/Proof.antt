@@ -1,0 +1,29 @@
+-- `if_due` meets its contract: the two tests of a day. Assumes nothing.
+use borrow.Author.Needs.{needs}
+use Rattle.field.proofs.Onward.{onwards}
+use Rattle.field_day.proofs.Exits.{is-real}
+use Rattle.field_day.proofs.if_due.Statement.{statement}
+use Rattle.field_day.proofs.if_due.Tie as tie
+use Rattle.field_day.proofs.if_due.Reads as reads
+use Rattle.field_day.proofs.if_due.Lts as lts
+use Rattle.calendar.proofs.due_allowed.Reads as due-allowed-reads
+use Rattle.calendar.proofs.real_day.Reads as real-day-reads
+
+real-day-requires : tie.Need-real-day-requires
+real-day-requires c κs = search needs
+
+due-allowed-requires : tie.Need-due-allowed-requires
+due-allowed-requires c κs = search (is-real, needs)
+
+returns : tie.Need-returns
+returns c = search onwards
+
+returns-2 : tie.Need-returns-2
+returns-2 c = search onwards
+
+returns-3 : tie.Need-returns-3
+returns-3 c = search onwards
+
+pub if-due-spec : {M : Type 1} → statement M
+if-due-spec =
+    tie.close (tie.spec real-day-requires due-allowed-requires returns returns-2 returns-3)
