@@ -1,4 +1,4 @@
--- Laws for whoever reads an item's line: its bank field, its texts, the item put together, the line in pieces. Assumes nothing.
+-- Laws for whoever reads an item's line: its texts, the item put together, the line in pieces. Assumes nothing.
 use mathlib.Core.Path.{_≡_, sym}
 use mathlib.Core.Bool.{Bool}
 use mathlib.Core.List.{List}
@@ -7,19 +7,12 @@ use native.Mathlib.Omega.{arith}
 use lib.ListN.{drop}
 use Rattle.sheet.specs.declared.Style.{Style}
 use Rattle.sheet.specs.declared.Sheet.{Sheet}
-use Rattle.paper.specs.BankField.{Bank, readBank}
 use Rattle.paper.specs.Texts.{Texts, readText}
 use Rattle.paper.specs.Entries.{Said, no, onField}
 use Rattle.paper.specs.Batch.{most14}
 use Rattle.paper.specs.ItemLine.{noTexts, tail, readItem}
 use Rattle.paper.specs.ItemLine as lines
-use Rattle.bank.proofs.Sound.{bank-warnings}
-use Rattle.field.specs.At.{fieldAt}
-use Rattle.field.proofs.Steps.{step-known, step-unknown, found-value}
-use Rattle.field_bank.specs.declared.BankAt.{BankAt}
-use Rattle.field_bank.specs.declared.BankAt.the-variants as bank
-use Rattle.field_bank.specs.Told as banks
-use Rattle.field_bank.proofs.Steps.{bankOf}
+use Rattle.field.proofs.Steps.{step-known, step-unknown}
 use Rattle.text.specs.declared.TextRead.{TextRead}
 use Rattle.text.specs.declared.TextRead.the-variants as text
 use Rattle.text.specs.Told as texts
@@ -31,12 +24,6 @@ use Rattle.itemline.specs.declared.Front.{Front}
 use Rattle.itemline.specs.declared.ItemRead.{ItemRead}
 use Rattle.itemline.specs.Told.{noSpans, told, Kept}
 use Rattle.itemline.specs.Stages.{withTexts, says, withTail, fromBank, fromVariable, fromAmount, payerFirst, fromPayee, byPieces}
-
--- ---- the bank field warns once at most
-
-module _ (ranked : Bool) (s : List ℕ) (n : BankAt) (b c p w e : ℕ) (f : n ≡ bank.Bank b c p w e) where
-  pub bank-low : (at : ℕ) → banks.told n ≡ fieldAt (readBank ranked) s at → w ≤ 1
-  bank-low at g = bank-warnings ranked _ _ (found-value (readBank ranked) s at (bankOf b c p w) e (rw f at g))
 
 -- ---- the texts
 

@@ -6,24 +6,41 @@ use Prim.Native.Nat.{ℕ, _+_, _≤_}
 use native.Mathlib.Nat.{add-zero}
 use lib.ListN.{length, drop}
 use Rattle.sheet.specs.declared.Sheet.{Sheet}
+use Rattle.paper.specs.BankField.{readBank}
 use Rattle.paper.specs.Entries.{Said, no}
 use Rattle.paper.specs.ItemLine.{readItem}
 use Rattle.base.proofs.Lists.{drop-none}
+use Rattle.field.specs.At.{fieldAt}
+use Rattle.field.specs.declared.NumAt.{NumAt}
+use Rattle.field.specs.declared.NumAt.the-variants.{Value, Refused}
+use Rattle.field.specs.Told as number
 use Rattle.field.proofs.Steps.{number-within, steps}
 use Rattle.field_account.proofs.Steps.{accounts, account-within}
-use Rattle.field_bank.proofs.Steps.{banks, bank-within}
+use Rattle.judging.specs.Kept.{keeping, warningsOf}
+use Rattle.judging.proofs.Steps.{kept-field, missed-kept, bank-within, bank-low}
 use Rattle.tail.proofs.Steps.{onward, text-within}
-use Rattle.itemline.proofs.Steps.{bank-low, step-texts, step-no-texts, texts-few}
+use Rattle.itemline.proofs.Steps.{step-texts, step-no-texts, texts-few}
 use Rattle.judgeitem.specs.declared.PayeeFrom.{PayeeFrom}
 use Rattle.judgeitem.specs.declared.PayeeFrom.the-variants as before
 use Rattle.judgeitem.specs.Brief.{kept, brief}
 use Rattle.judgeitem.specs.Told.{toldFrom, InsideFrom}
-use Rattle.judgeitem.specs.Stages.{payerFirst, byPieces}
+use Rattle.judgeitem.specs.Stages.{withTail, fromBank, payerFirst, byPieces}
 use Rattle.judgeitem.proofs.Brief.{line-brief}
 
 -- no text gives no warning
 pub kept-plain : (amount warnings : ℕ) → kept amount warnings ≡ kept amount (warnings + 0)
 kept-plain amount warnings = rw (add-zero warnings)
+
+-- ---- the bank field: n is what its judge answered
+
+module _ (sh : Sheet) (amount : ℕ) (s : List ℕ) (at : ℕ) (n : NumAt) (g : number.told n ≡ keeping warningsOf (fieldAt (readBank (sh .priority)) s at)) (r : Said) where
+  pub step-bank : (w e : ℕ) → n ≡ Value w e → r ≡ withTail (sh .text) (sh .fixedtail) (sh .bare) amount w e (drop e s) → r ≡ fromBank sh amount at (drop at s)
+  unfolding fromBank
+  step-bank w e f q = q ∙ sym (kept-field warningsOf (readBank (sh .priority)) s at w e (rw f at g) (λ b a t. withTail (sh .text) (sh .fixedtail) (sh .bare) amount b a t))
+
+  pub step-no-bank : (c : ℕ) → n ≡ Refused c → r ≡ no c at → r ≡ fromBank sh amount at (drop at s)
+  unfolding fromBank
+  step-no-bank c f q = q ∙ sym (missed-kept warningsOf (readBank (sh .priority)) s at c (rw f at g) _)
 
 -- ---- the payer: t is what its reader answered
 
@@ -47,6 +64,6 @@ payer-within s t i at f = rw f at i
 pub by-pieces : (sh : Sheet) (single : Bool) (s : List ℕ) (r : Said) → r ≡ byPieces sh single s → r ≡ brief (readItem sh single s)
 by-pieces sh single s r q = q ∙ sym (line-brief sh single s)
 
-pub ruleset items = (accounts, banks, step-texts, step-no-texts, onward, kept-plain, step-payer, step-no-payer, no-payer, by-pieces, steps)
+pub ruleset items = (accounts, step-bank, step-no-bank, step-texts, step-no-texts, onward, kept-plain, step-payer, step-no-payer, no-payer, by-pieces, steps)
 
 pub ruleset bounds = (account-within, number-within, bank-within, text-within, payer-within, bank-low, texts-few)

@@ -1,7 +1,6 @@
 // An item's line as judging needs it: all its fields are tested, its amount and its warnings are kept.
 use field::NumAt;
 use field_account::AcctAt;
-use field_bank::BankAt;
 use sheet::Sheet;
 use sheet::Style;
 use tail::TailRead;
@@ -70,15 +69,11 @@ fn from_bank(s: &[u8], at: usize, sh: Sheet, amount: u64) -> Judged
     requires { ⌜ at ≤ length (now s) ⌝ }
     ensures { λ r. ⌜ told r ≡ fromBank sh amount at (drop at (now (s .entry))) ⌝ }
 {
-    match field_bank::bank_at(s, at, sh.priority) {
-        BankAt::Refused(n) => Judged::Refused(n, at),
-        BankAt::Bank {
-            bank,
-            constant,
-            priority,
-            warnings,
-            end,
-        } => with_tail(s, end, sh.text, sh.fixedtail, sh.bare, amount, warnings),
+    match judging::judge_bank(s, at, sh.priority) {
+        NumAt::Refused(n) => Judged::Refused(n, at),
+        NumAt::Value(warnings, end) => {
+            with_tail(s, end, sh.text, sh.fixedtail, sh.bare, amount, warnings)
+        }
     }
 }
 

@@ -1,0 +1,57 @@
+-- One step of an answer r over a field of the line s that is judged: n is what the judge answered, f what is kept of the value. Assumes nothing.
+use mathlib.Core.Path.{_≡_, refl, sym, ap, _∙_}
+use mathlib.Core.Bool.{Bool}
+use mathlib.Core.List.{List}
+use Prim.Native.Nat.{ℕ, _≤_}
+use native.Mathlib.Omega.{arith}
+use lib.ListN.{length, drop}
+use Rattle.paper.specs.Read.{Field}
+use Rattle.paper.specs.BankField.{Bank, readBank}
+use Rattle.paper.specs.Entries.{Said, no, field}
+use Rattle.bank.proofs.Sound.{bank-warnings}
+use Rattle.field.specs.At.{At, found, missed, fieldAt}
+use Rattle.field.specs.declared.NumAt.{NumAt}
+use Rattle.field.specs.declared.NumAt.the-variants.{Value, Refused}
+use Rattle.field.specs.Told.{told}
+use Rattle.field.proofs.Steps.{found-value, found-within, found-field, missed-field}
+use Rattle.judging.specs.Kept.{keeping, warningsOf}
+
+-- ---- what was there, where this is kept
+
+module _ {A B : Type 0} (f : A → B) where
+  was-found : (x : At A) (w : B) (e : ℕ) → found w e ≡ keeping f x → (v : A) × (found v e ≡ x) × (w ≡ f v)
+  unfolding keeping
+  was-found (found v d) w e q = (v, ap (found v) cc, cc)
+  was-found (missed n) w e q = absurd (let z : _≡_ {A = ℕ} 0 1 = cc in omega arith)
+
+  was-missed : (x : At A) (n : ℕ) → missed n ≡ keeping f x → missed n ≡ x
+  unfolding keeping
+  was-missed (found v d) n q = absurd (let z : _≡_ {A = ℕ} 0 1 = cc in omega arith)
+  was-missed (missed m) n q = cc
+
+module _ {A B : Type 0} (f : A → B) (read : List ℕ → Field A) (s : List ℕ) (at : ℕ) where
+  module _ (w : B) (e : ℕ) (g : found w e ≡ keeping f (fieldAt read s at)) where
+    pub kept-within : at ≤ length s → e ≤ length s
+    kept-within l = let v = was-found f (fieldAt read s at) w e g in found-within read s at (v .0) e (v .1) l
+
+    -- k is the rest of the reading
+    pub kept-field : (k : B → ℕ → List ℕ → Said) → field read at (drop at s) (λ v a t. k (f v) a t) ≡ k w e (drop e s)
+    kept-field k =
+        let v = was-found f (fieldAt read s at) w e g in
+        found-field read s at (v .0) e (v .1) (λ v a t. k (f v) a t) ∙ ap (λ (b : B). k b e (drop e s)) (sym (v .2))
+
+  pub missed-kept : (n : ℕ) → missed n ≡ keeping f (fieldAt read s at) → (k : A → ℕ → List ℕ → Said) → field read at (drop at s) k ≡ no n at
+  missed-kept n g k = missed-field read s at n (was-missed f (fieldAt read s at) n g) k
+
+-- ---- the bank field
+
+module _ (ranked : Bool) (s : List ℕ) (at : ℕ) (n : NumAt) (g : told n ≡ keeping warningsOf (fieldAt (readBank ranked) s at)) where
+  module _ (w e : ℕ) (q : n ≡ Value w e) where
+    pub bank-within : at ≤ length s → e ≤ length s
+    bank-within l = kept-within warningsOf (readBank ranked) s at w e (rw q at g) l
+
+    -- it warns once at most
+    pub bank-low : w ≤ 1
+    bank-low =
+        let v = was-found warningsOf (fieldAt (readBank ranked) s at) w e (rw q at g) in
+        rw (v .2) (bank-warnings ranked _ (v .0) (found-value (readBank ranked) s at (v .0) e (v .1)))

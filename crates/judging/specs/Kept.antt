@@ -1,0 +1,13 @@
+-- What is kept of a field that is judged. Assumes nothing.
+use Prim.Native.Nat.{ℕ}
+use Rattle.paper.specs.BankField.{Bank}
+use Rattle.field.specs.At.{At, found, missed}
+
+-- the field's end, and what f says of its value; or the refusal's number
+unfoldable pub keeping : {A B : Type 0} → (A → B) → At A → At B
+keeping f (found v e) = found (f v) e
+keeping f (missed n) = missed n
+
+-- how many warnings a bank field gives
+abbrev pub warningsOf : Bank → ℕ
+warningsOf b = b .warnings
