@@ -6,7 +6,6 @@ use Prim.Native.Nat.{ℕ, zero, suc, _+_, _-_, _≤_, _<_}
 use native.Mathlib.Nat.{sub-zero, suc-sub-suc, zero-sub}
 use native.Mathlib.Numerals.{add-one}
 use native.Mathlib.Omega.{arith}
-use lib.Dec.{leb, eqb}
 use lib.ListN.{length, getD, take, drop, length-drop}
 use lib.Seq.{drop-cons, drop-drop, getD-drop, take-nil, take-suc}
 use borrow.Author.Tests.{ne-eqb, le-leb, le-ltb}
@@ -46,8 +45,9 @@ module _ (p : ℕ → Bool) (s : List ℕ) (at : ℕ) where
       rw (add-one, take-suc (drop at s) j 0 (omega (arith, length-drop at s)), g)
       (all-append p (take j (drop at s)) (getD s (at + j) 0 ∷ []) (h (sym k ∙ e)) (all-cons p (getD s (at + j) 0) [] q refl))
 
-  pub pass-end : (j : ℕ) (t : Bool) → j ≤ 16 → 16 ≤ j → Passes p s at j t → Passes p s at 16 t
-  pass-end j t m n h = let e : j ≡ 16 = omega arith in rw e at h
+  -- w is the block's width
+  pub pass-end : (w j : ℕ) (t : Bool) → j ≤ w → w ≤ j → Passes p s at j t → Passes p s at w t
+  pass-end w j t m n h = let e : j ≡ w = omega arith in rw e at h
 
 -- ---- blocks
 
@@ -94,17 +94,17 @@ module _ (p : ℕ → Bool) (s : List ℕ) (at : ℕ) where
       rw j at (skip-by i (r - i) k (omega arith) (m .between))
 
   module _ (i : ℕ) (k : Skips p s at i) where
-    -- a block at q, which may begin before i; t is the answer to the test
-    pub skip-over : (q : ℕ) (t : Bool) → q ≤ i → i < q + 16 → q + 16 ≤ length s → (t ≡ true → all p (take 16 (drop q s)) ≡ true) → t ≡ true → Skips p s at (q + 16)
-    skip-over q t l r m h e =
-        let j : i + (16 - (i - q)) ≡ q + 16 = omega arith in
+    -- w bytes at q, which may begin before i; t is the answer to the test
+    pub skip-over : (q w : ℕ) (t : Bool) → q ≤ i → i < q + w → q + w ≤ length s → (t ≡ true → all p (take w (drop q s)) ≡ true) → t ≡ true → Skips p s at (q + w)
+    skip-over q w t l r m h e =
+        let j : i + (w - (i - q)) ≡ q + w = omega arith in
         let d : q + (i - q) ≡ i = omega arith in
-        let a = all-part p (i - q) 16 (drop q s) (h e) in
-        rw j at (skip-by i (16 - (i - q)) k (omega arith) (rw (drop-drop (i - q) q s, d) at a))
+        let a = all-part p (i - q) w (drop q s) (h e) in
+        rw j at (skip-by i (w - (i - q)) k (omega arith) (rw (drop-drop (i - q) q s, d) at a))
 
-    -- .. at i
-    pub skip-block : (t : Bool) → 16 ≤ length s - i → (t ≡ true → all p (take 16 (drop i s)) ≡ true) → t ≡ true → Skips p s at (i + 16)
-    skip-block t r h e = let l = k .inside in skip-by i 16 k (omega arith) (h e)
+    -- .. at i, where n bytes are left or more
+    pub skip-block : (w n : ℕ) (t : Bool) → n ≤ length s - i → w ≤ n → (t ≡ true → all p (take w (drop i s)) ≡ true) → t ≡ true → Skips p s at (i + w)
+    skip-block w n t r m h e = let l = k .inside in skip-by i w k (omega arith) (h e)
 
     -- one byte more
     pub near-one : i < length s → p (getD s i 0) ≡ true → Skips p s at (i + 1)

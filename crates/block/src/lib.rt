@@ -155,6 +155,38 @@ fn other_block(s: &[u8], at: usize, b: u8) -> bool
     other
 }
 
+// Are the sixty-four bytes at `at` all other than b?
+fn other_long(s: &[u8], at: usize, b: u8) -> bool
+    requires { ⌜ at + 64 ≤ length (now s) ⌝ }
+    ensures { λ r. ⌜ (r ≡ true → all (isOther b) (take 64 (drop at (now (s .entry)))) ≡ true) ⌝ }
+{
+    let mut other = true;
+    let mut j: usize = 0;
+    while j < 64 {
+        if s[at + j] == b {
+            other = false;
+        }
+        j += 1;
+    }
+    other
+}
+
+// A place at or after `at` with no b before it: `at` itself unless much of the text is left.
+fn pass_long(s: &[u8], at: usize, b: u8) -> usize
+    requires { ⌜ at ≤ length (now s) ⌝ }
+    ensures { λ r. ⌜ Skips (isOther b) (now (s .entry)) at r ⌝ }
+{
+    let mut i = at;
+    while 256 <= s.len() - i {
+        if other_long(s, i, b) {
+            i += 64;
+        } else {
+            return i;
+        }
+    }
+    i
+}
+
 // A place at or after `at` with no b before it.
 fn pass_other(s: &[u8], at: usize, b: u8) -> usize
     requires { ⌜ at ≤ length (now s) ⌝ }
@@ -164,7 +196,7 @@ fn pass_other(s: &[u8], at: usize, b: u8) -> usize
     if n < 16 {
         return at;
     }
-    let mut i = at;
+    let mut i = pass_long(s, at, b);
     while i < n {
         let p = block_at(i, n);
         if other_block(s, p, b) {

@@ -29,7 +29,7 @@ loop-less : tie.Need-loop-less Inv-loop μ-loop
 loop-less c = search needs
 
 loop-again : tie.Need-loop-again Inv-loop μ-loop
-loop-again c = search skips
+loop-again c = search (skips, needs)
 
 returns : tie.Need-returns Inv-loop μ-loop
 returns c = search skips

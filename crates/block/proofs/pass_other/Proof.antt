@@ -17,6 +17,9 @@ abbrev μ-loop : tie.MeasureT-loop
 returns : tie.Need-returns Inv-loop μ-loop
 returns c = search skips
 
+pass-long-requires : tie.Need-pass-long-requires Inv-loop μ-loop
+pass-long-requires c κs = search needs
+
 loop-holds : tie.Need-loop-holds Inv-loop μ-loop
 loop-holds c = search (skips, needs)
 
@@ -48,6 +51,7 @@ pass-other-spec =
     Inv-loop
     μ-loop
     returns
+    pass-long-requires
     loop-holds
     block-at-requires
     other-block-requires
