@@ -1,4 +1,4 @@
-// Bytes passed sixteen at a time. The loops over a block have no early exit, so that the compiler compares all of its bytes at once.
+// Bytes passed sixteen at a time, or sixty-four in a long text. The loops over a block have no early exit, so that the compiler compares all of its bytes at once.
 // The last block ends with the text: it may begin before the bytes that are left, so that a short rest costs one block.
 ghost use mathlib.Core.Path.{_≡_};
 ghost use mathlib.Core.Bool.{true};
@@ -171,7 +171,7 @@ fn other_long(s: &[u8], at: usize, b: u8) -> bool
     other
 }
 
-// A place at or after `at` with no b before it: `at` itself unless much of the text is left.
+// A place at or after `at` with no b before it: `at` itself in a short text, where so wide a block costs more than it saves.
 fn pass_long(s: &[u8], at: usize, b: u8) -> usize
     requires { ⌜ at ≤ length (now s) ⌝ }
     ensures { λ r. ⌜ Skips (isOther b) (now (s .entry)) at r ⌝ }
