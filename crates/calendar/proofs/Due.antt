@@ -1,13 +1,14 @@
 -- The answers about due days, from the code's tests. Assumes nothing.
-use mathlib.Core.Path.{_≡_}
+use mathlib.Core.Path.{_≡_, sym}
 use mathlib.Core.Bool.{Bool, true, false}
 use Prim.Native.Nat.{ℕ, _-_, _≤_, _<_}
 use native.Mathlib.Omega.{arith}
 use lib.Dec.{leb}
-use borrow.Author.Tests.{lt-ltb, le-ltb}
+use borrow.Author.Tests.{lt-ltb, le-ltb, le-leb}
 use Rattle.base.specs.Pick.{pick}
 use Rattle.paper.specs.Days.{past, dueAllowed, dueWarnings, dayNumber, realDay}
 use Rattle.calendar.proofs.Order.{later, not-later}
+use Rattle.calendar.proofs.Steep.{no-faster}
 
 module _ (today d : ℕ) (s : realDay today ≡ true) (r : realDay d ≡ true) where
   -- a day before today
@@ -38,6 +39,10 @@ module _ (today d : ℕ) (s : realDay today ≡ true) (r : realDay d ≡ true) w
     unfolding dueWarnings pick
     none-warned warns = rw not-past
 
+    pub due-soon : (early : Bool) (ahead : ℕ) → d - today ≤ ahead → true ≡ dueAllowed early ahead today d
+    unfolding dueAllowed pick
+    due-soon early ahead k = rw not-past (sym (le-leb (dayNumber d - dayNumber today) ahead (omega (arith, no-faster today d s r h))))
+
     -- n and t are the numbers of the two days
     module _ (n t : ℕ) (e : n ≡ dayNumber d) (f : t ≡ dayNumber today) where
       pub due-less : t ≤ n
@@ -47,4 +52,4 @@ module _ (today d : ℕ) (s : realDay today ≡ true) (r : realDay d ≡ true) w
       unfolding dueAllowed pick
       due-ahead early ahead = rw (not-past, e, f)
 
-pub ruleset dues = (due-early, warned, not-warned, none-warned, due-less, due-ahead)
+pub ruleset dues = (due-early, warned, not-warned, none-warned, due-soon, due-less, due-ahead)

@@ -2,6 +2,7 @@ pub mod Below
 pub mod Real
 pub mod Number
 pub mod Order
+pub mod Steep
 pub mod Next
 pub mod Due
 pub mod Reading

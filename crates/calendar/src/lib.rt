@@ -83,6 +83,10 @@ pub fn due_allowed(early: bool, ahead: u64, today: u64, d: u64) -> bool
     if d < today {
         return early;
     }
+    // and by no more than the days themselves, so one that is soon is known so too
+    if d - today <= ahead {
+        return true;
+    }
     day_number(d) - day_number(today) <= ahead
 }
 

@@ -10,6 +10,9 @@ use Rattle.calendar.proofs.day_number.Reads as day-number-reads
 returns : tie.Need-returns
 returns c = search dues
 
+returns-2 : tie.Need-returns-2
+returns-2 c = search dues
+
 day-number-requires : tie.Need-day-number-requires
 day-number-requires c κs = search needs
 
@@ -19,9 +22,10 @@ day-number-requires-2 c κs = search needs
 sub-result : tie.Need-sub-result
 sub-result c = search (dues, needs)
 
-returns-2 : tie.Need-returns-2
-returns-2 c = search dues
+returns-3 : tie.Need-returns-3
+returns-3 c = search dues
 
 pub due-allowed-spec : {M : Type 1} → statement M
 due-allowed-spec =
-    tie.close (tie.spec returns day-number-requires day-number-requires-2 sub-result returns-2)
+    tie.close
+    (tie.spec returns returns-2 day-number-requires day-number-requires-2 sub-result returns-3)
