@@ -27,7 +27,7 @@ pub struct Sums {
 
 // The digits from `at` on, up to `most` of them. Each doubles the sum of those on its left, so the rule of accounts needs no division
 // for each digit.
-fn sum_run(s: &[u8], at: usize, most: usize) -> Sums
+pub fn sum_run(s: &[u8], at: usize, most: usize) -> Sums
     requires { ⌜ (at ≤ length (now s)) × (most ≤ 19) ⌝ }
     ensures { λ r. ⌜ (r .end ≡ at + length (run most (drop at (now (s .entry))))) × (digits 0 most (run most (drop at (now (s .entry)))) ≡ value (r .value)) × (r .sum ≡ doubled 19 (r .value)) ⌝ }
 {
@@ -111,7 +111,7 @@ fn with_base(s: &[u8], at: usize, prefix: u64, p: u64, least: usize) -> AcctAt
 }
 
 // Are the digits from `at` to `end` a prefix with its dash?
-fn has_prefix(s: &[u8], at: usize, end: usize) -> bool
+pub fn has_prefix(s: &[u8], at: usize, end: usize) -> bool
     requires { ⌜ (at ≤ end) × (end < length (now s)) ⌝ }
     ensures { λ r. ⌜ r ≡ dashed (now (s .entry)) at end ⌝ }
 {

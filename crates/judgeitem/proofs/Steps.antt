@@ -1,30 +1,34 @@
 -- One step of an answer r over the fields of an item's line s, for `search`: n is what a field's reader answered. Assumes nothing.
 use mathlib.Core.Path.{_≡_, sym, _∙_}
-use mathlib.Core.Bool.{Bool}
+use mathlib.Core.Bool.{Bool, true}
 use mathlib.Core.List.{List}
 use Prim.Native.Nat.{ℕ, _+_, _≤_}
 use native.Mathlib.Nat.{add-zero}
 use lib.ListN.{length, drop}
 use Rattle.sheet.specs.declared.Sheet.{Sheet}
+use Rattle.paper.specs.Accounts.{readAccount}
 use Rattle.paper.specs.BankField.{readBank}
-use Rattle.paper.specs.Entries.{Said, no}
+use Rattle.paper.specs.Entries.{Said, no, gap}
 use Rattle.paper.specs.ItemLine.{readItem}
+use Rattle.base.proofs.Cases.{pick-true}
 use Rattle.base.proofs.Lists.{drop-none}
 use Rattle.field.specs.At.{fieldAt}
 use Rattle.field.specs.declared.NumAt.{NumAt}
 use Rattle.field.specs.declared.NumAt.the-variants.{Value, Refused}
 use Rattle.field.specs.Told as number
 use Rattle.field.proofs.Steps.{number-within, steps}
-use Rattle.field_account.proofs.Steps.{accounts, account-within}
-use Rattle.judging.specs.Kept.{keeping, warningsOf}
-use Rattle.judging.proofs.Steps.{kept-field, missed-kept, bank-within, bank-low}
+use Rattle.judging.specs.Kept.{keeping, nothing, warningsOf}
+use Rattle.judging.specs.Told.{passed}
+use Rattle.judging.specs.declared.Passed.{Passed}
+use Rattle.judging.specs.declared.Passed.the-variants as pass
+use Rattle.judging.proofs.Steps.{kept-field, missed-kept, passed-field, refused-field, passed-within, bank-within, bank-low}
 use Rattle.tail.proofs.Steps.{onward, text-within}
 use Rattle.itemline.proofs.Steps.{step-texts, step-no-texts, texts-few}
 use Rattle.judgeitem.specs.declared.PayeeFrom.{PayeeFrom}
 use Rattle.judgeitem.specs.declared.PayeeFrom.the-variants as before
 use Rattle.judgeitem.specs.Brief.{kept, brief}
 use Rattle.judgeitem.specs.Told.{toldFrom, InsideFrom}
-use Rattle.judgeitem.specs.Stages.{withTail, fromBank, payerFirst, byPieces}
+use Rattle.judgeitem.specs.Stages.{withTail, fromBank, fromAmount, fromPayee, payerFirst, byPieces}
 use Rattle.judgeitem.proofs.Brief.{line-brief}
 
 -- no text gives no warning
@@ -41,6 +45,30 @@ module _ (sh : Sheet) (amount : ℕ) (s : List ℕ) (at : ℕ) (n : NumAt) (g : 
   pub step-no-bank : (c : ℕ) → n ≡ Refused c → r ≡ no c at → r ≡ fromBank sh amount at (drop at s)
   unfolding fromBank
   step-no-bank c f q = q ∙ sym (missed-kept warningsOf (readBank (sh .priority)) s at c (rw f at g) _)
+
+-- ---- accounts: n is what their judge answered
+
+module _ (n : Passed) (s : List ℕ) (r : Said) where
+  module _ (sh : Sheet) (at : ℕ) (g : passed n ≡ keeping nothing (fieldAt (readAccount (sh .joined) (sh .basemin)) s at)) where
+    pub step-payee : (e : ℕ) → n ≡ pass.At e → r ≡ gap e (drop e s) (λ a t. fromAmount sh a t) → r ≡ fromPayee sh at (drop at s)
+    unfolding fromPayee
+    step-payee e f q = q ∙ sym (passed-field (readAccount (sh .joined) (sh .basemin)) s at n g e f (λ a t. gap a t (λ b u. fromAmount sh b u)))
+
+    pub step-no-payee : (c : ℕ) → n ≡ pass.Refused c → r ≡ no c at → r ≡ fromPayee sh at (drop at s)
+    unfolding fromPayee
+    step-no-payee c f q = q ∙ sym (refused-field (readAccount (sh .joined) (sh .basemin)) s at n g c f _)
+
+  -- the line's first field, where the group is single
+  module _ (joined : Bool) (least : ℕ) (g : passed n ≡ keeping nothing (fieldAt (readAccount joined least) s 0)) (single : Bool) (y : single ≡ true) (k : ℕ → List ℕ → Said) where
+    pub step-first : (e : ℕ) → n ≡ pass.At e → r ≡ gap e (drop e s) k → r ≡ payerFirst joined least single s k
+    unfolding payerFirst
+    step-first e f q =
+        q ∙ sym (pick-true _ _ y ∙ rw drop-none at (passed-field (readAccount joined least) s 0 n g e f (λ a t. gap a t (λ b u. k b u))))
+
+    pub step-no-first : (c : ℕ) → n ≡ pass.Refused c → r ≡ no c 0 → r ≡ payerFirst joined least single s k
+    unfolding payerFirst
+    step-no-first c f q =
+        q ∙ sym (pick-true _ _ y ∙ rw drop-none at (refused-field (readAccount joined least) s 0 n g c f (λ v a t. gap a t (λ b u. k b u))))
 
 -- ---- the payer: t is what its reader answered
 
@@ -64,6 +92,6 @@ payer-within s t i at f = rw f at i
 pub by-pieces : (sh : Sheet) (single : Bool) (s : List ℕ) (r : Said) → r ≡ byPieces sh single s → r ≡ brief (readItem sh single s)
 by-pieces sh single s r q = q ∙ sym (line-brief sh single s)
 
-pub ruleset items = (accounts, step-bank, step-no-bank, step-texts, step-no-texts, onward, kept-plain, step-payer, step-no-payer, no-payer, by-pieces, steps)
+pub ruleset items = (step-payee, step-no-payee, step-first, step-no-first, step-bank, step-no-bank, step-texts, step-no-texts, onward, kept-plain, step-payer, step-no-payer, no-payer, by-pieces, steps)
 
-pub ruleset bounds = (account-within, number-within, bank-within, text-within, payer-within, bank-low, texts-few)
+pub ruleset bounds = (passed-within, number-within, bank-within, text-within, payer-within, bank-low, texts-few)

@@ -1,6 +1,6 @@
 // An item's line as judging needs it: all its fields are tested, its amount and its warnings are kept.
 use field::NumAt;
-use field_account::AcctAt;
+use judging::Passed;
 use sheet::Sheet;
 use sheet::Style;
 use tail::TailRead;
@@ -117,9 +117,9 @@ fn payer_first(s: &[u8], joined: bool, least: usize, single: bool) -> PayeeFrom
     ensures { λ r. ⌜ InsideFrom (now (s .entry)) r ⌝ }
 {
     if single {
-        match field_account::account_at(s, 0, joined, least) {
-            AcctAt::Refused(n) => PayeeFrom::Refused(n, 0),
-            AcctAt::Account(prefix, base, end) => {
+        match judging::judge_account(s, 0, joined, least) {
+            Passed::Refused(n) => PayeeFrom::Refused(n, 0),
+            Passed::At(end) => {
                 if s.len() <= end {
                     return PayeeFrom::Refused(4, end);
                 }
@@ -138,9 +138,9 @@ pub fn judge_item(s: &[u8], sh: Sheet, single: bool) -> Judged
 {
     match payer_first(s, sh.joined, sh.basemin, single) {
         PayeeFrom::Refused(n, place) => Judged::Refused(n, place),
-        PayeeFrom::At(at) => match field_account::account_at(s, at, sh.joined, sh.basemin) {
-            AcctAt::Refused(n) => Judged::Refused(n, at),
-            AcctAt::Account(prefix, base, end) => {
+        PayeeFrom::At(at) => match judging::judge_account(s, at, sh.joined, sh.basemin) {
+            Passed::Refused(n) => Judged::Refused(n, at),
+            Passed::At(end) => {
                 if s.len() <= end {
                     return Judged::Refused(4, end);
                 }

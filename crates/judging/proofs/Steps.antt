@@ -1,4 +1,4 @@
--- One step of an answer r over a field of the line s that is judged: n is what the judge answered, f what is kept of the value. Assumes nothing.
+-- A field of the line s that is judged, for whoever reads on: n is what the judge answered, f what is kept of the value. Assumes nothing.
 use mathlib.Core.Path.{_≡_, refl, sym, ap, _∙_}
 use mathlib.Core.Bool.{Bool}
 use mathlib.Core.List.{List}
@@ -14,7 +14,10 @@ use Rattle.field.specs.declared.NumAt.{NumAt}
 use Rattle.field.specs.declared.NumAt.the-variants.{Value, Refused}
 use Rattle.field.specs.Told.{told}
 use Rattle.field.proofs.Steps.{found-value, found-within, found-field, missed-field}
-use Rattle.judging.specs.Kept.{keeping, warningsOf}
+use Rattle.judging.specs.Kept.{keeping, nothing, warningsOf}
+use Rattle.judging.specs.Told.{passed}
+use Rattle.judging.specs.declared.Passed.{Passed}
+use Rattle.judging.specs.declared.Passed.the-variants as pass
 
 -- ---- what was there, where this is kept
 
@@ -42,6 +45,19 @@ module _ {A B : Type 0} (f : A → B) (read : List ℕ → Field A) (s : List �
 
   pub missed-kept : (n : ℕ) → missed n ≡ keeping f (fieldAt read s at) → (k : A → ℕ → List ℕ → Said) → field read at (drop at s) k ≡ no n at
   missed-kept n g k = missed-field read s at n (was-missed f (fieldAt read s at) n g) k
+
+-- ---- a field of which nothing is kept
+
+module _ {A : Type 0} (read : List ℕ → Field A) (s : List ℕ) (at : ℕ) (n : Passed) (g : passed n ≡ keeping nothing (fieldAt read s at)) where
+  module _ (e : ℕ) (f : n ≡ pass.At e) where
+    pub passed-within : at ≤ length s → e ≤ length s
+    passed-within l = kept-within nothing read s at tt e (rw f at g) l
+
+    pub passed-field : (k : ℕ → List ℕ → Said) → field read at (drop at s) (λ v a t. k a t) ≡ k e (drop e s)
+    passed-field k = kept-field nothing read s at tt e (rw f at g) (λ v a t. k a t)
+
+  pub refused-field : (c : ℕ) → n ≡ pass.Refused c → (k : A → ℕ → List ℕ → Said) → field read at (drop at s) k ≡ no c at
+  refused-field c f k = missed-kept nothing read s at c (rw f at g) k
 
 -- ---- the bank field
 

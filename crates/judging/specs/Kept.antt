@@ -11,3 +11,7 @@ keeping f (missed n) = missed n
 -- how many warnings a bank field gives
 abbrev pub warningsOf : Bank → ℕ
 warningsOf b = b .warnings
+
+-- nothing of a value
+abbrev pub nothing : {A : Type 0} → A → Unit {0}
+nothing v = tt

@@ -1,18 +1,23 @@
 // Fields of a line as judging needs them: what each says is tested, and little of its value is kept.
 use field::NumAt;
+use field_account::AcctAt;
 use field_bank::BankAt;
 ghost use mathlib.Core.Path.{_≡_};
 ghost use mathlib.Core.Bool.{true};
-ghost use Prim.Native.Nat.{_+_, _≤_};
+ghost use Prim.Native.Nat.{ℕ, _+_, _≤_, _<_};
 ghost use lib.ListN.{length, take, drop};
 ghost use Rattle.base.specs.Seek.{all};
 ghost use Rattle.paper.specs.Bytes.{isDigit};
+ghost use Rattle.paper.specs.Accounts.{ruled, readAccount};
 ghost use Rattle.paper.specs.BankField.{readBank};
 ghost use Rattle.account.specs.Bytes.{isZero};
-ghost use Rattle.field.specs.At.{fieldAt};
+ghost use Rattle.account.specs.Doubled.{doubled};
+ghost use Rattle.field.specs.At.{ending, fieldAt};
 ghost use Rattle.field.specs.Told.{told};
-ghost use Rattle.judging.specs.Kept.{keeping, warningsOf};
+ghost use Rattle.field_account.specs.Parts.{withBase};
+ghost use Rattle.judging.specs.Kept.{keeping, nothing, warningsOf};
 ghost use Rattle.judging.specs.Plain.{PlainBank};
+ghost use Rattle.judging.specs.Told.{passed};
 
 // Are the eight bytes at `at` digits? The loop has no early exit, so that the compiler compares all of them at once.
 fn eight_digits(s: &[u8], at: usize) -> bool
@@ -82,4 +87,71 @@ pub fn judge_bank(s: &[u8], at: usize, ranked: bool) -> NumAt
             end,
         } => NumAt::Value(warnings, end),
     }
+}
+
+// What is known of a field of which nothing is kept: where it ends, or the refusal's number.
+pub enum Passed {
+    At(usize),
+    Refused(u64),
+}
+
+// An account by the sums of a prefix and a base, 5 where they break the rule.
+fn by_sums(p: u64, b: u64, end: usize) -> Passed
+    ensures { λ r. ⌜ ((x y : ℕ) → x < 10000000000 → p ≡ doubled 19 x → y < 10000000000 → b ≡ doubled 19 y → passed r ≡ keeping nothing (ending end (ruled x y))) ⌝ }
+{
+    if account::sums_ok(p, b) {
+        return Passed::At(end);
+    }
+    Passed::Refused(5)
+}
+
+// The base behind the dash at `at`, and behind a prefix, whose sum is p.
+fn judge_base(s: &[u8], at: usize, p: u64, least: usize) -> Passed
+    requires { ⌜ at < length (now s) ⌝ }
+    ensures { λ r. ⌜ ((x : ℕ) → x < 10000000000 → p ≡ doubled 19 x → passed r ≡ keeping nothing (fieldAt (withBase least x) (now (s .entry)) (at + 1))) ⌝ }
+{
+    let from = at + 1;
+    let got = field_account::sum_run(s, from, 10);
+    let end = got.end;
+    if field::ends(s, end) {
+        if end - from < least {
+            return Passed::Refused(4);
+        }
+        return by_sums(p, got.sum, end);
+    }
+    Passed::Refused(4)
+}
+
+// The account at `at`, by its reader.
+fn any_account(s: &[u8], at: usize, joined: bool, least: usize) -> Passed
+    requires { ⌜ at ≤ length (now s) ⌝ }
+    ensures { λ r. ⌜ passed r ≡ keeping nothing (fieldAt (readAccount joined least) (now (s .entry)) at) ⌝ }
+{
+    match field_account::account_at(s, at, joined, least) {
+        AcctAt::Refused(n) => Passed::Refused(n),
+        AcctAt::Account(prefix, base, end) => Passed::At(end),
+    }
+}
+
+// The account at `at`. The sums of its digits decide, so no number is made of them; what is no prefix or base is left to the reader.
+pub fn judge_account(s: &[u8], at: usize, joined: bool, least: usize) -> Passed
+    requires { ⌜ at ≤ length (now s) ⌝ }
+    ensures { λ r. ⌜ passed r ≡ keeping nothing (fieldAt (readAccount joined least) (now (s .entry)) at) ⌝ }
+{
+    let got = field_account::sum_run(s, at, 16);
+    let end = got.end;
+    if field::ends(s, end) {
+        let n = end - at;
+        if 10 < n {
+            return any_account(s, at, joined, least);
+        }
+        if n < least {
+            return Passed::Refused(4);
+        }
+        return by_sums(0, got.sum, end);
+    }
+    if field_account::has_prefix(s, at, end) {
+        return judge_base(s, end, got.sum, least);
+    }
+    any_account(s, at, joined, least)
 }

@@ -1,12 +1,12 @@
 -- `judge_item`: the line in pieces is document 01's, but for the values left out. Assumes nothing.
 use borrow.Author.Needs.{needs}
-use Rattle.judgeitem.specs.Stages.{byPieces, fromPayee}
+use Rattle.judgeitem.specs.Stages.{byPieces}
 use Rattle.judgeitem.proofs.Steps.{items, bounds}
 use Rattle.judgeitem.proofs.judge_item.Statement.{statement}
 use Rattle.judgeitem.proofs.judge_item.Tie as tie
 use Rattle.judgeitem.proofs.judge_item.Reads as reads
 use Rattle.judgeitem.proofs.judge_item.Lts as lts
-use Rattle.field_account.proofs.account_at.Reads as account-at-reads
+use Rattle.judging.proofs.judge_account.Reads as judge-account-reads
 use Rattle.judgeitem.proofs.from_amount.Reads as from-amount-reads
 use Rattle.judgeitem.proofs.payer_first.Reads as payer-first-reads
 
@@ -19,17 +19,17 @@ enum-known-n c = search needs
 enum-known-at : tie.Need-enum-known-at
 enum-known-at c = search needs
 
-account-at-requires : tie.Need-account-at-requires
-account-at-requires c κs = search (bounds, needs)
+judge-account-requires : tie.Need-judge-account-requires
+judge-account-requires c κs = search (bounds, needs)
 
 enum-known-n-2 : tie.Need-enum-known-n-2
 enum-known-n-2 c = search needs
 
-enum-known-prefix : tie.Need-enum-known-prefix
-enum-known-prefix c = search needs
+enum-known-end : tie.Need-enum-known-end
+enum-known-end c = search needs
 
 returns : tie.Need-returns
-unfolding byPieces fromPayee
+unfolding byPieces
 returns c = search items depth 12
 
 add-from-amount : tie.Need-add-from-amount
@@ -39,15 +39,15 @@ from-amount-requires : tie.Need-from-amount-requires
 from-amount-requires c κs = search needs
 
 returns-2 : tie.Need-returns-2
-unfolding byPieces fromPayee
+unfolding byPieces
 returns-2 c = search items depth 12
 
 returns-3 : tie.Need-returns-3
-unfolding byPieces fromPayee
+unfolding byPieces
 returns-3 c = search items depth 12
 
 returns-4 : tie.Need-returns-4
-unfolding byPieces fromPayee
+unfolding byPieces
 returns-4 c = search items depth 12
 
 pub judge-item-spec : {M : Type 1} → statement M
@@ -57,9 +57,9 @@ judge-item-spec =
     payer-first-requires
     enum-known-n
     enum-known-at
-    account-at-requires
+    judge-account-requires
     enum-known-n-2
-    enum-known-prefix
+    enum-known-end
     returns
     add-from-amount
     from-amount-requires

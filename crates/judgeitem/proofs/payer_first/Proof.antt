@@ -6,30 +6,27 @@ use Rattle.judgeitem.proofs.payer_first.Statement.{statement}
 use Rattle.judgeitem.proofs.payer_first.Tie as tie
 use Rattle.judgeitem.proofs.payer_first.Reads as reads
 use Rattle.judgeitem.proofs.payer_first.Lts as lts
-use Rattle.field_account.proofs.account_at.Reads as account-at-reads
+use Rattle.judging.proofs.judge_account.Reads as judge-account-reads
 
-account-at-requires : tie.Need-account-at-requires
-account-at-requires c κs = search needs
+judge-account-requires : tie.Need-judge-account-requires
+judge-account-requires c κs = search needs
 
 enum-known-n : tie.Need-enum-known-n
 enum-known-n c = search needs
 
-enum-known-prefix : tie.Need-enum-known-prefix
-enum-known-prefix c = search needs
+enum-known-end : tie.Need-enum-known-end
+enum-known-end c = search needs
 
 returns : tie.Need-returns
-unfolding payerFirst
 returns c = (λ k. search items depth 12, search (bounds, needs))
 
-add-t13 : tie.Need-add-t13
-add-t13 c = search needs
+add-t11 : tie.Need-add-t11
+add-t11 c = search needs
 
 returns-2 : tie.Need-returns-2
-unfolding payerFirst
 returns-2 c = (λ k. search items depth 12, search (bounds, needs))
 
 returns-3 : tie.Need-returns-3
-unfolding payerFirst
 returns-3 c = (λ k. search items depth 12, search (bounds, needs))
 
 returns-4 : tie.Need-returns-4
@@ -40,11 +37,11 @@ pub payer-first-spec : {M : Type 1} → statement M
 payer-first-spec =
     tie.close
     (tie.spec
-    account-at-requires
+    judge-account-requires
     enum-known-n
-    enum-known-prefix
+    enum-known-end
     returns
-    add-t13
+    add-t11
     returns-2
     returns-3
     returns-4)

@@ -1,0 +1,20 @@
+-- `by_sums` meets its contract: sums that keep the rule, or not. Assumes nothing.
+use borrow.Author.Needs.{needs}
+use Rattle.judging.proofs.Accounts.{judged}
+use Rattle.judging.proofs.by_sums.Statement.{statement}
+use Rattle.judging.proofs.by_sums.Tie as tie
+use Rattle.judging.proofs.by_sums.Reads as reads
+use Rattle.judging.proofs.by_sums.Lts as lts
+use Rattle.account.proofs.sums_ok.Reads as sums-ok-reads
+
+sums-ok-requires : tie.Need-sums-ok-requires
+sums-ok-requires c κs = search needs
+
+returns : tie.Need-returns
+returns c = λ x y l f m g. search judged
+
+returns-2 : tie.Need-returns-2
+returns-2 c = λ x y l f m g. search judged
+
+pub by-sums-spec : {M : Type 1} → statement M
+by-sums-spec = tie.close (tie.spec sums-ok-requires returns returns-2)

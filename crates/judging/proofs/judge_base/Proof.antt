@@ -1,0 +1,49 @@
+-- `judge_base` meets its contract: a base behind its prefix. Assumes nothing.
+use borrow.Author.Needs.{needs}
+use Rattle.field.proofs.Number.{numbers}
+use Rattle.field_account.proofs.Doubling.{smalls}
+use Rattle.judging.proofs.Accounts.{judged}
+use Rattle.judging.proofs.judge_base.Statement.{statement}
+use Rattle.judging.proofs.judge_base.Tie as tie
+use Rattle.judging.proofs.judge_base.Reads as reads
+use Rattle.judging.proofs.judge_base.Lts as lts
+use Rattle.field.proofs.ends.Reads as ends-reads
+use Rattle.field_account.proofs.sum_run.Reads as sum-run-reads
+use Rattle.judging.proofs.by_sums.Reads as by-sums-reads
+
+add-from : tie.Need-add-from
+add-from c = search needs
+
+sum-run-requires : tie.Need-sum-run-requires
+sum-run-requires c κs = search needs
+
+ends-requires : tie.Need-ends-requires
+ends-requires c κs = search (numbers, smalls, needs)
+
+sub-if2 : tie.Need-sub-if2
+sub-if2 c = search needs
+
+returns : tie.Need-returns
+returns c = λ x l f. search judged
+
+by-sums-requires : tie.Need-by-sums-requires
+by-sums-requires c κs = search needs
+
+returns-2 : tie.Need-returns-2
+returns-2 c = λ x l f. search judged
+
+returns-3 : tie.Need-returns-3
+returns-3 c = λ x l f. search judged
+
+pub judge-base-spec : {M : Type 1} → statement M
+judge-base-spec =
+    tie.close
+    (tie.spec
+    add-from
+    sum-run-requires
+    ends-requires
+    sub-if2
+    returns
+    by-sums-requires
+    returns-2
+    returns-3)
