@@ -56,29 +56,29 @@ $(archive): $(LIB) $(BUILD)/archive.used
 endif
 
 # What users build is C99 and no more; the tests are C11.
-language = $(if $(filter host/abo% host/orderbook%,$<),-std=c99 -pedantic,-std=c11)
+language = $(if $(filter host/abo.c host/abo/% host/orderbook.c host/orderbook/%,$<),-std=c99 -pedantic,-std=c11)
 compile = $(language) -Wall -Wextra -Werror $(CFLAGS) -Iinclude -c -o $@ $<
-$(BUILD)/objects/%.o: %.c $(header) $(wildcard host/*.h peer/*.h bench/*.h) $(BUILD)/flags.used
+headers = $(header) $(wildcard host/*/*.h peer/*.h bench/*.h)
+$(BUILD)/objects/%.o: %.c $(headers) $(BUILD)/flags.used
 	@mkdir -p $(@D)
 	$(compiler) $(compile)
 
-# Any program of host/ or bench/: build/NAME is made of host/NAME.c and its parts.
+# Any program of host/ or bench/: build/NAME is made of NAME.c, in whichever folder that is, and its parts.
+source = $(firstword $(wildcard host/$(1).c host/*/$(1).c bench/$(1).c) host/$(1).c)
 parts = $(addsuffix .o,$(basename $(shell sh host/parts.sh $(1))))
 objects = $(addprefix $(BUILD)/objects/,$(call parts,$(1)))
 link = $(compiler) $(CFLAGS) $(STATIC) $(LDFLAGS) -o $@ $(filter %.o,$^) $(archive)
 .SECONDEXPANSION:
 .PRECIOUS: $(BUILD)/objects/%.o
-$(BUILD)/%: host/%.c $$(call objects,host/$$*.c) $(archive) $(BUILD)/link.used
-	$(link)
-$(BUILD)/%: bench/%.c $$(call objects,bench/$$*.c) $(archive) $(BUILD)/link.used
+$(BUILD)/%: $$(call source,$$*) $$(call objects,$$(call source,$$*)) $(archive) $(BUILD)/link.used
 	$(link)
 
 # build/native/NAME is for this machine, whatever it is, and without the archive.
 .PRECIOUS: $(BUILD)/native/%.o
-$(BUILD)/native/%.o: %.c $(header) $(wildcard host/*.h peer/*.h) $(BUILD)/flags.used
+$(BUILD)/native/%.o: %.c $(headers) $(BUILD)/flags.used
 	@mkdir -p $(@D)
 	$(native) $(compile)
-$(BUILD)/native/%: host/%.c $$(addprefix $(BUILD)/native/,$$(call parts,host/$$*.c)) $(BUILD)/link.used
+$(BUILD)/native/%: $$(call source,$$*) $$(addprefix $(BUILD)/native/,$$(call parts,$$(call source,$$*))) $(BUILD)/link.used
 	$(native) $(CFLAGS) $(LDFLAGS) -o $@ $(filter %.o,$^)
 
 demo: all

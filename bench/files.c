@@ -1,6 +1,6 @@
 #include "files.h"
-#include "../host/accounts.h"
-#include "../host/limits.h"
+#include "../host/generate/accounts.h"
+#include "../host/generate/limits.h"
 
 #include <string.h>
 

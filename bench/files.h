@@ -5,7 +5,7 @@
 
 #include <stdbool.h>
 
-#include "../host/text.h"
+#include "../host/generate/text.h"
 
 struct bench_file {
     struct text bytes;

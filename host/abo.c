@@ -9,10 +9,10 @@
 #include <string.h>
 
 #include <abo.h>
-#include "abo_arguments.h"
-#include "abo_input.h"
-#include "abo_refusal.h"
-#include "abo_table.h"
+#include "abo/arguments.h"
+#include "abo/input.h"
+#include "abo/refusal.h"
+#include "abo/table.h"
 
 #ifndef ABO_VERSION
 #define ABO_VERSION "1.1"

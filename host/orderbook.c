@@ -41,9 +41,9 @@
 #include <string.h>
 
 #include <abo.h>
-#include "orderbook_ledger.h"
-#include "orderbook_say.h"
-#include "orderbook_table.h"
+#include "orderbook/ledger.h"
+#include "orderbook/say.h"
+#include "orderbook/table.h"
 
 enum status { DONE = 0, REFUSED = 1, TROUBLE = 2 };
 

@@ -11,7 +11,7 @@ awk -v first="$1" '
     function folder(file) { sub(/[^\/]*$/, "", file); return file }
     function plain(file) { while (sub(/[^\/.]+\/\.\.\//, "", file)); return file }
     BEGIN {
-        while (("ls */*.c" | getline source) > 0) there[source] = 1
+        while (("ls */*.c host/*/*.c" | getline source) > 0) there[source] = 1
         add(first)
         for (i = 0; i < count; i++) {
             file = queue[i]

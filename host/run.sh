@@ -30,9 +30,12 @@ program() { # NAME ARG ..: builds a test that is a program, and runs it
 
 run_test() { # NAME
     case $1 in
-    header | api | installed | demo_test | abo_test | orderbook_test) sh "host/$1.sh" ;;
-    many) sh host/many_test.sh "$((files * times))" "$seed" ;;
-    corpus) program fuzz host/corpus/* ;;
+    header | api | installed) sh "host/api/$1.sh" ;;
+    demo_test) sh host/demo_test.sh ;;
+    abo_test) sh host/abo/abo_test.sh ;;
+    orderbook_test) sh host/orderbook/orderbook_test.sh ;;
+    many) sh host/compare/many_test.sh "$((files * times))" "$seed" ;;
+    corpus) program fuzz host/fuzz/corpus/* ;;
     stack) program stack 0 "$seed" "$step" ;;
     attack | compare_explain | compare_line) program "$1" "$((files / 2))" "$seed" "$step" ;;
     compare_read | compare_write) program "$1" "$files" "$seed" "$step" ;;

@@ -1,0 +1,363 @@
+#!/bin/sh
+# The tool host/abo.c, run as a person runs it: over the inputs of host/runs without their first line, generated files, a large
+# one, one refusal for each number, and command lines that are wrong. Its answers are compared with the second program's
+# (host/compare/compare_abo.c). The last line is 'N passed, M failed', and the exit status is 0 only if nothing failed.
+#
+#   SEEDS=1000 host/abo/abo_test.sh    how many files are generated (default 40, by an emulator 8); SEED is the first one's seed
+#
+# host/target.sh names the other variables.
+set -u
+LC_ALL=C
+export LC_ALL
+cd "$(dirname "$0")/../.." || exit 2
+. host/target.sh
+. host/tally.sh
+build_test abo compare_abo || exit 2
+build=$(cd "$build" && pwd) # a test runs the tool in another folder
+work=$(mktemp -d) || exit 2
+trap 'rm -rf "$work"' EXIT
+file=$work/file
+
+abo() { $run "$build/abo" "$@"; }
+second() { $run "$build/compare_abo" "$@"; }
+
+tell() { # COMMAND ARG ..: runs the tool; its output, what it says on standard error and its status are kept
+    abo "$@" >"$work/out" 2>"$work/err"
+    status=$?
+}
+
+dashed() { # YYYYMMDD: as the tool takes a day
+    echo "$1" | sed 's/\(..\)\(..\)$/-\1-\2/'
+}
+
+in_columns() { # no line of a refusal is wider than a terminal, but for the sentence itself
+    [ "$(tail -n +2 "$1" | awk 'length > 80' | wc -l)" -eq 0 ]
+}
+
+# TEXT NUMBER BYTE: the caret of this refusal stands under the byte: what is shown from there on is what the file has there.
+caret() {
+    column=$(sed -n '3s/\^$//p' "$1" | awk '{ print length }')
+    seen=$(sed -n 2p "$1" | cut -c "$((column + 1))-" | cut -c 1-30)
+    [ "$2" -eq 3 ] && [ "$3" -eq "$(wc -c <"$file")" ] && wanted='(the file ends here)' ||
+        wanted=$(tail -c "+$(($3 + 1))" "$file" | head -c 30 | tr '\r' '\n' | sed -n '1p' | tr -c '\n -~' '.')
+    [ "$seen" = "$wanted" ] || { echo "shown '$seen', in the file '$wanted'"; false; }
+}
+
+# The refusal, or the acceptance, that check prints, in the words of explaining.
+plainly='1s/^refused at line \([0-9]*\), byte \([0-9]*\): .* (\([0-9]*\))\.$/refused \3 line \1 byte \2/
+    1s/^accepted, \([0-9]*\) rows, \([0-9]*\) warnings$/accepted rows \1 warnings \2/'
+
+same_answer() { # WHAT SHEET YYYYMMDD: all commands on the file, against the second program
+    day=$(dashed "$3")
+    second answer "$file" "$2" "$3" "$work"
+    due=$?
+    for command in check explain rewrite show; do
+        tell "$command" "$file" --sheet "$2" --day "$day"
+        check "$1: the status of $command is $due" [ "$status" -eq "$due" ]
+        mv "$work/out" "$work/$command.out"
+        mv "$work/err" "$work/$command.err"
+    done
+    [ "$due" -eq 2 ] && return
+    sed "$plainly" "$work/check.out" | head -n 1 >"$work/check.line"
+    check "$1: check says what it should" cmp "$work/check.line" "$work/line"
+    check "$1: explain says what it should" cmp "$work/explain.out" "$work/line"
+    check "$1: rewrite writes what it should" cmp "$work/rewrite.out" "$work/canonical"
+    grep -E '^    .*[0-9]\.[0-9]' "$work/show.out" | tr -s ' ' >"$work/show.items"
+    tr -s ' ' <"$work/items" >"$work/items.squeezed"
+    check "$1: show has every item" cmp "$work/show.items" "$work/items.squeezed"
+    if [ "$due" -eq 1 ]; then same_refusal "$1"; else check "$1: show ends with what check says" same_end; fi
+}
+
+same_refusal() { # WHAT: check, rewrite and show tell one refusal, check as its output
+    read -r _ number _ _ _ byte <"$work/line"
+    check "$1: the caret is at its place" caret "$work/check.out" "$number" "$byte"
+    check "$1: the refusal is no wider than a terminal" in_columns "$work/check.out"
+    check "$1: rewrite tells the same" cmp "$work/check.out" "$work/rewrite.err"
+    check "$1: show tells the same" cmp "$work/check.out" "$work/show.err"
+}
+
+same_end() { tail -n 1 "$work/show.out" | cmp - "$work/check.out"; }
+
+number_of() { # LETTER
+    case $1 in K) echo 1 ;; S) echo 2 ;; C) echo 3 ;; E) echo 4 ;; *) echo "$1" ;; esac
+}
+
+# ---- host/runs: the first line becomes the options ----
+
+run_of() { # NAME.in: the rewriting program and the tool agree, where the tool's room is not more
+    name=$(basename "$1" .in)
+    line=$(head -c 9 "$1" | tr '\r' '\n' | head -n 1)
+    letter=$(printf %s "$line" | cut -c 1)
+    rest=$(printf %s "$line" | cut -c 3-)
+    today=$(printf %s "$rest" | sed 's/^\(..\)\(..\)\(.*\)$/20\3\2\1/')
+    case $line in
+    [KSCE]' '[0-9][0-9][0-9][0-9][0-9][0-9]) ;;
+    *) today=none ;;
+    esac
+    head -c 10 "$1" | tail -c 2 | od -An -c | grep -q '\\r  *\\n' && past=11 || past=10
+    tail -c "+$past" "$1" >"$file"
+    if [ "$today" = none ]; then
+        tell check "$file" --sheet "$letter" --day "$rest"
+        check "$name: the options are refused" [ "$status" -eq 2 ]
+        return
+    fi
+    same_answer "$name" "$(number_of "$letter")" "$today"
+    if [ "$status" -eq 2 ] || grep -aq '^refused 16 ' "${1%.in}.out"; then return; fi
+    [ "$status" -eq 0 ] && said=$work/rewrite.out || said=$work/explain.out
+    check "$name: what the rewriting program says" cmp "$said" "${1%.in}.out"
+    tell check "$file" --sheet "$letter" --day "$(dashed "$today")"
+    check "$name: a letter is as good as a number" cmp "$work/out" "$work/check.out"
+}
+
+for input in host/runs/*.in; do run_of "$input"; done
+
+# ---- generated files ----
+
+seed=${SEED:-1}
+[ -z "$run" ] && seeds=40 || seeds=8
+last=$((seed + ${SEEDS:-$seeds}))
+while [ "$seed" -lt "$last" ]; do
+    # shellcheck disable=SC2046
+    set -- $(second generate "$seed" "$file")
+    same_answer "seed $seed" "$1" "$2"
+    seed=$((seed + 1))
+done
+
+# ---- one refusal for each number, word by word ----
+
+head_of() { # SHEET [INTERVAL]: a first line
+    [ "$1" = C ] && printf 'UHL1\n' || printf 'UHL1010118Firma               1234567890%s000000000000\n' "${2:-001999}"
+}
+
+says() { # SHEET LINE-OF-FILE .. EXPECTED: the file, behind a first line, is refused on 1 January 2018 in these words
+    sheet=$1
+    shift
+    head_of "$sheet" "${interval:-}" >"$file"
+    while [ $# -gt 1 ]; do
+        printf '%b\n' "$1" >>"$file"
+        shift
+    done
+    tell check "$file" --sheet "$sheet" --day 2018-01-01
+    printf '%b\n' "$1" >"$work/wanted"
+    check "$1" diff "$work/wanted" "$work/out"
+    check "$1: the status is 1" [ "$status" -eq 1 ]
+    same_answer "$1" "$(number_of "$sheet")" 20180101
+}
+
+k='1 1501 001001 8100' c='1 1501 000000 0300' g='2 19 1 010118' i='19 1 0 03000558'
+says C "$c" 'refused at line 3, byte 24: the file ends too early (3).\n  (the file ends here)\n  ^'
+says C "$g" "refused at line 2, byte 5: another kind of line is due here, or the end of the file (3).\n  $g\n  ^"
+says C "$c" "$g" '19 1 x 03000558' \
+    'refused at line 4, byte 43: the bytes or the length of this field are wrong, or a divider is (4).\n  19 1 x 03000558\n       ^'
+says C "$c" "$g" '19 1' \
+    'refused at line 4, byte 42: the line ends too early, or a divider is missing (4).\n  19 1\n      ^'
+says C "$c" "$g" '18 1 0 03000558' \
+    'refused at line 4, byte 38: this is no valid account number (5).\n  18 1 0 03000558\n  ^'
+says C "$c" "$g" '19 0 0 03000558' \
+    "refused at line 4, byte 41: the amount is zero or over the sheet's limit (6).\n  19 0 0 03000558\n     ^"
+says K '1 1502 001001 8100' \
+    'refused at line 2, byte 61: this kind of account file is not on the sheet (7).\n  1 1502 001001 8100\n    ^'
+says K '1 1501 001001 0800' \
+    "refused at line 2, byte 73: the payer's bank is not the sheet's (8).\n  1 1501 001001 0800\n                ^"
+says K '1 1501 000001 8100' \
+    "refused at line 2, byte 66: the number's first three digits are outside the interval or were used before (9).\n  1 1501 000001 8100\n         ^"
+interval=002001
+says K "$k" \
+    "refused at line 1, byte 43: the interval's start is above its end (9).\n  UHL1010118Firma               1234567890002001000000000000\n$(printf '%45s' '')^"
+interval=
+says K "$k" '2 19 2 010118' "$i" '3 +' \
+    "refused at line 3, byte 83: the group's total is not the sum of its items (10).\n  2 19 2 010118\n       ^"
+much='19 99999999999999 0 03000558'
+says C "$c" "$g" "$much" "$i" '3 +' \
+    "refused at line 3, byte 29: the sum of the group's items has more than 14 digits (10).\n  $g\n       ^"
+says K "$k" '2 19 1 300218' \
+    'refused at line 3, byte 85: the day is not real, or not among the days that the sheet takes (11).\n  2 19 1 300218\n         ^'
+says C "$c" "$g" '19 1 0 00000558' \
+    "refused at line 4, byte 45: the payee's bank is 0000 (12).\n  19 1 0 00000558\n         ^"
+says C "$c" "$g" '19 1 0 103000558' \
+    'refused at line 4, byte 45: the ninth or tenth digit from the right is not allowed (13).\n  19 1 0 103000558\n         ^'
+says C "$c" "$g" "$i 0 a|b|c|d|e" \
+    "refused at line 4, byte 56: the text breaks the sheet's rules on its start, its parts, their length or bars (14).\n  $i 0 a|b|c|d|e\n                    ^"
+
+# ---- what is shown of a line: dots, and a piece of a long one ----
+
+says C "$c" "$g" "$i 0 \\0351\\t\\0001\\0177z" \
+    "refused at line 4, byte 56: the bytes or the length of this field are wrong, or a divider is (4).\n  $i 0 ....z\n                    ^"
+long=$(printf '%0100d' 0)
+says C "$c" "$g" "$long$long" \
+    "refused at line 4, byte 38: the bytes or the length of this field are wrong, or a divider is (4).\n  $(printf '%072d' 0)..\n  ^"
+says C "$long$long" \
+    "refused at line 2, byte 5: another kind of line is due here, or the end of the file (3).\n  $(printf '%072d' 0)..\n  ^"
+says C "$c\\r$g\\r19 0 0 03000558\\r" \
+    "refused at line 4, byte 41: the amount is zero or over the sheet's limit (6).\n  19 0 0 03000558\n     ^"
+far='000019-0000000019 000019-0000000019 00000000000001 0000000000 0003000558 0000000000 a|b|c|d|e'
+says C "$c" '2 1 010118' "$far" \
+    "refused at line 4, byte 119: the text breaks the sheet's rules on its start, its parts, their length or bars (14).
+  ..$(printf %s "$far" | tail -c 72)\n$(printf '%67s' '')^"
+head_of K | sed "s/000000000000\$/$long/" >"$file"
+tell check "$file" --sheet K --day 2018-01-01
+printf 'refused at line 1, byte 46: %s (4).\n  ..Firma%15s1234567890001999%036d..\n%40s^\n' \
+    'the bytes or the length of this field are wrong, or a divider is' '' 0 '' >"$work/wanted"
+check 'a long line is cut on both sides' diff "$work/wanted" "$work/out"
+same_answer 'a long first line' 1 20180101
+{ printf '%s%s 1 0 03000558 ' "$long" "$long"; head_of C; } >"$file"
+same_answer 'a long line that is not the first' 3 20180101
+
+# ---- one item, and one account file, too many ----
+
+lines() { # COUNT LINE ..: the lines so many times over, `@` in them replaced by the count so far in six digits
+    awk -v n="$1" -v text="$2" 'BEGIN { for (i = 0; i < n; i++) { t = text; gsub(/@/, sprintf("%06d", i), t); printf t } }'
+}
+{ head_of S; printf '1 1501 000001 0800\n2 19 1001 010118\n'; lines 1001 '19 1 0 03000558  \n'; printf '3 +\n5 +\n'; } >"$file"
+tell check "$file" --sheet S --day 2018-01-01
+check 'item 1,001 of S' grep -q 'this item is one more than the sheet takes (15)\.$' "$work/out"
+same_answer 'item 1,001 of S' 2 20180101
+{ head_of C; lines 1001 "1 1501 @ 0300\n$g\n$i\n3 +\n5 +\n"; } >"$file"
+tell check "$file" --sheet C --day 2018-01-01
+check 'account file 1,001' grep -q 'this account file is one more than a file may have (15)\.$' "$work/out"
+same_answer 'account file 1,001' 3 20180101
+
+# ---- an empty file, and standard input ----
+
+: >"$file"
+for letter in K S C E; do same_answer "an empty file, $letter" "$(number_of $letter)" 20180101; done
+tell check - --sheet C --day 2018-01-01 </dev/null
+check 'no standard input is an empty file' diff - "$work/out" <<END
+refused at line 1, byte 0: the file ends too early (3).
+  (the file ends here)
+  ^
+END
+
+# ---- what show prints, word by word ----
+
+tail -n +2 host/runs/sheet_k.in >"$file"
+tell show "$file" --sheet K --day 2018-01-01
+check 'show, word by word' diff - "$work/out" <<END
+file of 2018-01-01, name "Firma", client 1234567890, interval 001 to 999
+account file 001001, kind 1501
+  group due 2018-01-02, payer 19-19, sum 50.01, items 1
+    payer  payee  bank  crowns  variable  specific  constant  priority  message, name
+           705    8100   50.01        42        17      0558         7  "led" "a"
+  group due 2018-12-31, a payer for each item, sum 50.02, items 1
+    payer  payee  bank  crowns  variable  specific  constant  priority  message, name
+    19-19  705    8100   50.02        42         0      0558         5
+account file 002001, kind 1501
+  group due 2018-01-01, a payer for each item, sum 0.01, items 1
+    payer  payee  bank  crowns  variable  specific  constant  priority  message, name
+    19-19  705    8100    0.01         1         0      0558         5
+accepted, 8 rows, 1 warnings
+END
+cp "$work/out" "$work/shown"
+tell show - --day=2018-01-01 --sheet=K <"$file"
+check 'show of standard input' cmp "$work/out" "$work/shown"
+abo rewrite "$file" --sheet K --day 2018-01-01 >"$work/canonical"
+tell rewrite - --sheet K --day 2018-01-01 <"$work/canonical"
+check 'the canonical file is rewritten as itself' cmp "$work/out" "$work/canonical"
+
+# ---- a large file, whole, damaged near its end, and by a pipe ----
+
+second make 1 wages 3000000 >"$work/large"
+check 'the large file has 3 MB or nearly so' [ "$(wc -c <"$work/large")" -gt 2900000 ]
+cp "$work/large" "$file"
+same_answer 'a large file' 1 20180101
+check 'a large file is accepted' [ "$due" -eq 0 ]
+tell rewrite - --sheet 1 --day 2018-01-01 <"$file"
+check 'a large file by standard input' cmp "$work/out" "$work/canonical"
+# in portions, as a pipe gives them
+{ head -c 100000 "$work/large"; sleep 1; tail -c +100001 "$work/large"; } | abo rewrite - --sheet 1 --day 2018-01-01 >"$work/out"
+check 'a large file by a pipe' cmp "$work/out" "$work/canonical"
+{ head -c 2800000 "$work/large"; printf '\nx\n'; } >"$file"
+same_answer 'a large file with a fault near its end' 1 20180101
+
+# ---- the line of progress: on a terminal, for large input only ----
+
+progress() { # FILE: what the tool says with a terminal for its standard error, as one line
+    script -qec "$run $build/abo check $1 --sheet K --day 2018-01-01" /dev/null </dev/null | tr '\r\n' '  '
+}
+if command -v script >/dev/null; then
+    check 'progress on a terminal' expr "$(progress "$work/large")" : '.*abo: reading, 2 MiB .*abo: judging, 2 MiB .*accepted, '
+    tail -n +2 host/runs/sheet_k.in >"$file"
+    check 'no progress for a small file' refuses expr "$(progress "$file")" : '.*MiB'
+fi
+tell check "$work/large" --sheet K --day 2018-01-01
+check 'no progress where there is no terminal' [ ! -s "$work/err" ]
+
+# ---- an output by name ----
+
+echo before >"$work/named"
+tell rewrite "$file" --sheet C --day 2018-01-01 -o "$work/named"
+check 'a refusal leaves the output as it was' [ "$status $(cat "$work/named")" = '1 before' ]
+tail -n +2 host/runs/document.in >"$file"
+tell rewrite "$file" --sheet C --day 2018-01-01 -o "$work/named"
+check 'the output has the canonical file' cmp "$work/named" host/runs/document.out
+check 'and nothing is printed' [ "$status $(cat "$work/out" "$work/err")" = '0 ' ]
+tell rewrite "$file" --sheet C --day 2018-01-01 -o "$file"
+check 'a file may be rewritten in its own place' cmp "$file" host/runs/document.out
+tell rewrite -o - --sheet C "$file" --day 2018-01-01
+check 'a dash is standard output' cmp "$work/out" host/runs/document.out
+cp "$file" "$work/-dashed"
+(cd "$work" && abo check --sheet C --day 2018-01-01 -- -dashed) >"$work/out"
+check 'a name that begins with a dash' grep -qx 'accepted, 3 rows, 0 warnings' "$work/out"
+
+# ---- command lines that are wrong, and trouble with files: status 2, a sentence, no output ----
+
+wrong() { # SENTENCE ARG ..: the tool says this and no more
+    sentence=$1
+    shift
+    tell "$@"
+    check "$sentence: the status is 2" [ "$status" -eq 2 ]
+    check "$sentence: nothing is printed" [ ! -s "$work/out" ]
+    printf 'abo: %s\n' "$sentence" >"$work/wanted"
+    check "$sentence" diff "$work/wanted" "$work/err"
+}
+how='`abo help` says how it is used.'
+wrong "No command was given. $how"
+wrong "chek is no command. $how" chek "$file" --sheet C --day 2018-01-01
+wrong "No file was named. $how" check --sheet C --day 2018-01-01
+wrong "The option --sheet is missing. $how" check "$file" --day 2018-01-01
+wrong "The option --day is missing. $how" show "$file" --sheet C
+wrong "The option --shet is not known. $how" check "$file" --shet C --day 2018-01-01
+wrong "The option --sheets is not known. $how" check "$file" --sheets C --day 2018-01-01
+wrong "The option -x is not known. $how" explain -x "$file" --sheet C --day 2018-01-01
+wrong "The option --day lacks its value. $how" check "$file" --sheet C --day
+wrong "One file is taken at a time, and - is a second one. $how" check "$file" - --sheet C --day 2018-01-01
+for sheet in k X 0 5 11 KS ''; do
+    wrong "The sheet $sheet is none of K, S, C, E and 1, 2, 3, 4. $how" check "$file" --sheet "$sheet" --day 2018-01-01
+done
+for day in 20180101 2018-1-1 01-01-2018 2018-01-01x '' 2018/01/01 2O18-01-01; do
+    wrong "The day $day is not one spelled as in 2026-11-15. $how" check "$file" --sheet C --day "$day"
+done
+for day in 2018-02-29 2018-13-01 2018-00-01 2018-01-00 1999-12-31 2100-01-01; do
+    wrong 'The day is no real day of 2000 to 2099.' check "$file" --sheet C --day "$day"
+done
+wrong "Only rewrite takes -o. $how" check "$file" --sheet C --day 2018-01-01 -o "$work/named"
+wrong "$work/none cannot be read: No such file or directory." check "$work/none" --sheet C --day 2018-01-01
+wrong "$work cannot be read: Is a directory." show "$work" --sheet C --day 2018-01-01
+wrong "$work/no/where could not be written whole: No such file or directory." \
+    rewrite "$file" --sheet C --day 2018-01-01 -o "$work/no/where"
+if [ -z "$run" ]; then # an emulator may open files of its own in the place of what is closed
+    abo check - --sheet C --day 2018-01-01 <&- >"$work/out" 2>"$work/err"
+    check 'standard input that is closed' [ "$? $(cat "$work/err")" = '2 abo: Standard input cannot be read: Bad file descriptor.' ]
+fi
+if [ -c /dev/full ]; then
+    for command in check rewrite show explain; do
+        abo "$command" "$file" --sheet C --day 2018-01-01 >/dev/full 2>"$work/err"
+        check "$command to a full output" [ "$?" -eq 2 ]
+        check "$command to a full output says so" grep -q '^abo: Standard output could not be written whole' "$work/err"
+    done
+    wrong '/dev/full could not be written whole: No space left on device.' rewrite "$file" --sheet C --day 2018-01-01 -o /dev/full
+fi
+
+# ---- help and version ----
+
+for word in help --help -h 'check --help'; do
+    # shellcheck disable=SC2086
+    tell $word
+    check "abo $word: the status is 0" [ "$status" -eq 0 ]
+    for told in 'exit status is 0' 'abo check' 'abo rewrite' 'abo show' 'abo explain' '--sheet SHEET' '--day DAY'; do
+        check "abo $word tells '$told'" grep -q -e "$told" "$work/out"
+    done
+done
+tell --version
+check 'the version' grep -Eqx 'abo [0-9]+(\.[0-9]+)*' "$work/out"
+last_line

@@ -1,0 +1,73 @@
+#!/bin/sh
+# The page docs/C-API.md against what it speaks of: its program is host/api/example.c word by word, which compiles and prints what
+# the page says; its commands work as they stand; its names are in the header; the archive has no state. The last line is
+# 'N passed, M failed', and the exit status is 0 only if nothing failed. host/target.sh names the variables.
+set -u
+cd "$(dirname "$0")/../.." || exit 2
+. host/target.sh
+. host/tally.sh
+have "$cc"
+build_test libabo.a || exit 2
+work=$build/api
+mkdir -p "$work" || exit 2
+page=docs/C-API.md
+
+block() { # NAME: the fenced block behind the line '<!-- NAME -->'
+    awk -v mark="<!-- $1 -->" '
+        $0 == mark { marked = 1; next }
+        marked && !open && /^```/ { open = 1; next }
+        open && /^```$/ { exit }
+        open { print }' "$page"
+}
+
+compile() { # STANDARD: the example by this standard
+    # shellcheck disable=SC2086
+    $cc -std="$1" -O2 $strict -pedantic -Iinclude $static -o "$work/api_$1" host/api/example.c "$lib"
+}
+
+prints() { # STANDARD: exits with 0 and prints what the page says, CR LF shown as LF
+    # shellcheck disable=SC2086
+    $run "$work/api_$1" >"$work/printed" && tr -d '\r' <"$work/printed" | diff "$work/said" -
+}
+
+by_the_page() { # the page's commands, in a folder of their own that has its program as wages.c, the header and the archive
+    rm -rf "$work/by_hand"
+    mkdir -p "$work/by_hand/include" "$work/by_hand/build"
+    cp include/abo.h "$work/by_hand/include/"
+    cp "$lib" "$work/by_hand/build/libabo.a"
+    block example.c >"$work/by_hand/wages.c"
+    block link >"$work/by_hand/link.sh"
+    # on another machine the compiler is the cross compiler, and what it makes is run by qemu
+    sed -i "s|^cc |$cc $static |; s|^\./|$run ./|" "$work/by_hand/link.sh"
+    (cd "$work/by_hand" && sh -eu link.sh) >"$work/printed" && tr -d '\r' <"$work/printed" | diff "$work/said" -
+}
+
+symbols() { # TYPES: names of this archive that nm gives one of these types
+    "$($cc -print-prog-name=nm)" "$lib" | awk -v types="^[$1]$" 'NF > 1 && $(NF - 1) ~ types { print $NF }' | sort -u
+}
+
+no_state() { # nothing that could change between calls is in the archive, and nothing but memcpy is wanted from elsewhere
+    [ -n "$(symbols T)" ] && [ -z "$(symbols BbCDdSs)" ] && [ "$(symbols U)" = memcpy ]
+}
+
+in_header() { # NAME: is declared, as a whole word
+    grep -qw "$1" include/abo.h
+}
+
+block example.c >"$work/shown.c"
+block printed >"$work/said"
+check "the page's program is host/api/example.c" diff host/api/example.c "$work/shown.c"
+for standard in c99 c11; do
+    check "the example as $standard" compile "$standard"
+    check "the example as $standard prints what the page says" prints "$standard"
+done
+check "the page's commands work" by_the_page
+check "the archive has no state and calls nothing but memcpy" no_state
+# names of files apart
+for name in $(sed 's/[a-z_]*\.[ch]//g' "$page" | grep -oE '\b(ABO|abo)_[A-Za-z0-9_]+' | sort -u); do
+    check "$name is in the header" in_header "$name"
+done
+for call in $(sed -n 's/^struct [a-z_]* \(abo_[a-z]*\)(.*/\1/p' include/abo.h); do
+    check "$call is in the page" grep -qw "$call" "$page"
+done
+last_line

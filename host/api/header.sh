@@ -1,0 +1,52 @@
+#!/bin/sh
+# The public header: it compiles without a warning as C99, C11 and C++11, its layout is that of docs/ROWS.md, and its own assertions
+# refuse another layout. The last line is 'N passed, M failed', and the exit status is 0 only if nothing failed. host/target.sh names
+# the variables.
+set -u
+cd "$(dirname "$0")/../.." || exit 2
+. host/target.sh
+. host/tally.sh
+have "$cc" "$cxx"
+build_test libabo.a || exit 2
+work=$build/header
+mkdir -p "$work/wrong" || exit 2
+flags="-O2 $strict -pedantic"
+
+compile() { # STANDARD FOLDER ARG ..: by the compiler of that language, with the header of that folder
+    standard=$1 folder=$2
+    shift 2
+    # shellcheck disable=SC2086
+    case $standard in
+    c++*) $cxx -x c++ -std="$standard" $flags -I"$folder" "$@" ;;
+    *) $cc -x c -std="$standard" $flags -I"$folder" "$@" ;;
+    esac
+}
+
+wrong() { # WHAT SED: a header with this edit is refused in every language
+    sed "$2" include/abo.h >"$work/wrong/abo.h"
+    check "the edit '$1' changes the header" refuses cmp -s include/abo.h "$work/wrong/abo.h"
+    for standard in c99 c11 c++11; do
+        check "$standard refuses $1" refuses compile "$standard" "$work/wrong" -fsyntax-only "$work/alone.c"
+    done
+}
+
+# twice, because a header may be read twice; and first, because it may need no other before it
+printf '#include <abo.h>\n#include <abo.h>\nint main(void) { return 0; }\n' >"$work/alone.c"
+for standard in c99 c11 c17 c++11 c++17; do
+    check "the header alone as $standard" compile "$standard" include -fsyntax-only "$work/alone.c"
+done
+for standard in c99 c11 c++11; do
+    program=$work/header_$standard
+    check "host/api/header.c as $standard" compile "$standard" include -c -o "$program.o" host/api/header.c
+    # linked as C in each language, since it wants no library of C++, and Debian's cross compiler has no static libm to go with that
+    # shellcheck disable=SC2086
+    check "host/api/header.c as $standard, linked" $cc $static -o "$program" "$program.o" "$lib"
+    # shellcheck disable=SC2086
+    add "header as $standard" $run "$program" docs/ROWS.md docs/NUMBERS.md
+done
+wrong 'two fields of an item exchanged' 's/uint64_t bank, amount,/uint64_t amount, bank,/'
+wrong 'a field that is missing' 's/uint64_t due;//'
+wrong 'a row one word too long' 's/uint64_t unused\[3\]/uint64_t unused[4]/'
+wrong 'an answer one word too long' 's/uint64_t bytes;/uint64_t bytes, more;/'
+wrong 'a line found with one word too few' 's/uint64_t at; //'
+last_line

@@ -1,0 +1,154 @@
+/*
+ * The four calls on stacks of 64 KiB, on the files with the most lines of each
+ * kind and on the corner files: each is explained, read and, if it says a batch,
+ * written again, and its lines are walked to the last.  Code that calls itself
+ * once a line, or keeps a line on the stack, does not come back from these.
+ *
+ *   stack [0 [SEED [STEP]]]     as seeds.h says; nothing is generated
+ */
+#define _DEFAULT_SOURCE /* for fork */
+#include <signal.h>
+#include <stdio.h>
+#include <string.h>
+#include <sys/wait.h>
+#include <unistd.h>
+
+#include "../call/show.h"
+#include "../generate/corners.h"
+#include "../generate/dice.h"
+#include "../generate/large.h"
+#include "../generate/limits.h"
+#include "../generate/seeds.h"
+#include "ask_edges.h"
+#include "narrow.h"
+
+static struct scene scene;
+
+static struct outcome ask(const char *what, unsigned place,
+                          const struct call *c, size_t room)
+{
+    return check_edges(&scene, what, place, c, room, AT_BACK, 0x5a);
+}
+
+/* With no room, and with just what that says is needed. */
+static struct outcome ask_exact(const char *what, unsigned place,
+                                const struct call *c)
+{
+    struct outcome o = ask(what, place, c, 0);
+    return o.number == ABO_NO_ROOM ? ask(what, place, c, (size_t)o.needed) : o;
+}
+
+static struct slice lend_part(size_t part, const uint8_t *bytes, size_t len)
+{
+    struct edge *e = &scene.parts[part];
+    scene.parts_used = part + 1;
+    return (struct slice){edge_lend(e, bytes, len, AT_BACK, '0'), len};
+}
+
+/* The rows that were read, with the file as the texts. */
+static void write_again(const char *what, unsigned place, struct call c,
+                        const struct outcome *read)
+{
+    c.which = WRITES;
+    c.texts = c.file;
+    c.file = lend_part(1, scene.ours.lent, (size_t)read->written);
+    c.name = lend_part(2, read->name, sizeof read->name);
+    c.date = read->words[HEADER_WORDS];
+    c.client = read->words[HEADER_WORDS + 1];
+    c.from = read->words[HEADER_WORDS + 2];
+    c.to = read->words[HEADER_WORDS + 3];
+    struct outcome w = ask_exact(what, place, &c);
+    check(w.number == ABO_ACCEPTED, "what was read is not written again");
+}
+
+/* The refused line, and one that no file has, for which all are walked. */
+static void find_lines(const char *what, unsigned place, struct call c,
+                       uint64_t refused)
+{
+    c.which = FINDS;
+    c.line = refused;
+    ask(what, place, &c, 0);
+    c.line = UINT64_MAX;
+    ask(what, place, &c, 0);
+}
+
+/* Gives back the number that reading gave. */
+static uint64_t test_file(const char *what, unsigned place,
+                          const struct made *made)
+{
+    struct call c = {.which = EXPLAINS, .sheet = made->sheet,
+                     .today = made->today};
+    c.file = lend_part(0, made->file.data, made->file.len);
+    ask(what, place, &c, ABO_EXPLAIN_BYTES);
+    c.which = READS;
+    struct outcome read = ask_exact(what, place, &c);
+    if (read.number == ABO_ACCEPTED)
+        write_again(what, place, c, &read);
+    find_lines(what, place, c, read.words[0]);
+    return read.number;
+}
+
+static void test_bulks(struct seeds seeds, unsigned sheet)
+{
+    static const struct {
+        struct bulk bulk;
+        uint64_t number, number_of_s;
+    } list[] = {
+        {{.files = 1, .groups = 99999, .items = 1}, 0, 15},
+        {{.files = 1, .groups = 1, .items = 99999}, 0, 15},
+        {{.files = 1000, .groups = 1, .items = 1}, 0, 0},
+        {{.files = 1, .groups = 100000, .items = 1}, 15, 15},
+        {{.files = 1001, .groups = 1, .items = 1}, 15, 15},
+        {{.files = 1, .groups = 99999, .items = 1, .behind = ""}, 3, 15},
+    };
+    struct made made = {0};
+    for (unsigned i = first_step(seeds, sheet); i < COUNT_OF(list);
+         i += seeds.step) {
+        uint64_t due = sheet == S ? list[i].number_of_s : list[i].number;
+        make_bulk(&made, sheet, &list[i].bulk);
+        check(test_file("bulk", i, &made) == due,
+              "a large file has another number than it was made for");
+    }
+    text_free(&made.file);
+}
+
+/* Work that takes a little more than there is must not come back, or nothing
+   above would say anything. */
+static void too_deep(void)
+{
+    volatile uint8_t much[NARROW_STACK + 16];
+    for (size_t i = sizeof much; i > 0; i--)
+        much[i - 1] = (uint8_t)i;
+}
+
+static void test_guard(void)
+{
+    int status = 0;
+    fflush(stdout);
+    pid_t child = fork();
+    if (child == 0) {
+        signal(SIGSEGV, SIG_DFL);
+        fclose(stderr); /* the emulator and the sanitizers tell of it there */
+        run_narrow(READS, too_deep);
+        _exit(0);
+    }
+    check(child > 0 && waitpid(child, &status, 0) == child && status != 0,
+          "more than 64 KiB of stack can be used");
+}
+
+int main(int argc, char **argv)
+{
+    struct seeds seeds = take_seeds(argc, argv, 0);
+    struct made made = {0};
+    catch_crashes();
+    for (unsigned sheet = K; sheet <= E; sheet++) {
+        test_bulks(seeds, sheet);
+        for (unsigned i = first_step(seeds, sheet);
+             corner_file(&made, sheet, i); i += seeds.step)
+            test_file("corner file", i, &made);
+    }
+    text_free(&made.file);
+    report_edges();
+    test_guard();
+    return last_line();
+}

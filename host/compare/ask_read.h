@@ -1,0 +1,24 @@
+/* One file read by the library and by the second program, with rooms of every
+   kind: the whole answer, the rows' bytes and the bytes around them. */
+#ifndef HOST_ASK_READ_H
+#define HOST_ASK_READ_H
+
+#include <abo.h>
+
+#include "../generate/generate.h"
+
+enum { READ_NUMBERS = ABO_NO_ROOM + 1 };
+
+/* How often each number came on each sheet; sheet 0 is no sheet. */
+extern unsigned long read_counts[5][READ_NUMBERS];
+
+/* None, then too little, exact and plenty if the file asks for rows, else
+   any. */
+void compare_file(const char *what, uint64_t seed, const struct made *made);
+
+/* A call with these very pointers, and room for so many bytes; at NULL if there
+   is no file. */
+void compare_call(const char *what, const uint8_t *file, size_t len,
+                  uint64_t sheet, uint64_t today, size_t room);
+
+#endif

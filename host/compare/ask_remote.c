@@ -1,0 +1,185 @@
+#include "ask_remote.h"
+#include "../call/call_peer.h"
+#include "../call/lend.h"
+#include "../call/show.h"
+#include "remote.h"
+
+#include <stdio.h>
+#include <stdlib.h>
+#include <string.h>
+
+/* A slot is handed over when it has so many bytes, which a cache still holds;
+   the largest call takes more than that. */
+enum { GUARD = 32, ENOUGH_BYTES = 1 << 18 };
+
+/* What was lent, where the server does not reach it. */
+struct kept {
+    struct slot slot;
+    struct asking askings[SLOT_CALLS]; /* the slices are those of the slot */
+    size_t ends[SLOT_CALLS]; /* of each call's bytes, which begin where those
+                                of the call before end */
+    size_t used;
+    bool handed;
+};
+
+static struct kept kept[SLOTS];
+static struct slot *shared;
+static unsigned turn; /* the slot that is filled */
+
+unsigned long remote_counts[NUMBERS];
+
+/* Lends bytes behind those lent before; room if there are none to copy. */
+static struct lent lend(struct kept *k, struct slice s, const struct asking *a)
+{
+    size_t from = k->used, at = (from + GUARD + 15) / 16 * 16 + a->skew % 16;
+    k->used = at + s.len + GUARD;
+    if (k->used > SLOT_BYTES) {
+        printf("failed: seed %llu asks for more bytes than a slot has\n",
+               (unsigned long long)a->seed);
+        exit(2);
+    }
+    memset(k->slot.bytes + from, a->fill, k->used - from);
+    if (s.bytes != NULL)
+        memcpy(k->slot.bytes + at, s.bytes, s.len);
+    return (struct lent){at, s.len};
+}
+
+static void lend_call(struct kept *k, const struct asking *a)
+{
+    const struct call *c = &a->call;
+    struct request r = {
+        .which = c->which, .sheet = c->sheet, .today = c->today,
+        .date = c->date, .client = c->client, .from = c->from, .to = c->to,
+        .line = c->line, .file = lend(k, c->file, a),
+    };
+    if (c->which == WRITES) {
+        r.texts = lend(k, c->texts, a);
+        r.name = lend(k, c->name, a);
+    }
+    r.out = lend(k, (struct slice){NULL, a->room}, a);
+    if (a->room == 0 && a->no_pointer)
+        r.out.place = NOWHERE;
+    size_t place = k->slot.count++;
+    k->slot.requests[place] = r;
+    k->askings[place] = *a;
+    k->askings[place].call = call_of_request(&r, k->slot.bytes);
+    k->ends[place] = k->used;
+}
+
+/* Is all that the call was lent as it was, but for the bytes written? */
+static bool rest_kept(const struct kept *k, size_t place,
+                      const uint8_t *theirs, size_t used)
+{
+    const uint8_t *mine = k->slot.bytes;
+    const struct lent *out = &k->slot.requests[place].out;
+    size_t begin = place == 0 ? 0 : k->ends[place - 1], end = k->ends[place];
+    size_t first = out->place == NOWHERE ? end : (size_t)out->place;
+    size_t behind = first + used;
+    return memcmp(mine + begin, theirs + begin, first - begin) == 0 &&
+           memcmp(mine + behind, theirs + behind, end - behind) == 0;
+}
+
+/* What is wrong, or NULL. */
+static const char *fault_of(const struct kept *k, size_t place,
+                            const struct slot *s, const struct outcome *p,
+                            const struct room *theirs)
+{
+    const struct request *r = &k->slot.requests[place];
+    size_t used = (size_t)p->written;
+    if (!room_untouched(theirs, used))
+        return "the second program wrote elsewhere";
+    if (!same_outcome(&s->requests[place].answer, p))
+        return "the answers differ";
+    if (!rest_kept(k, place, s->bytes, used))
+        return "bytes that were not to be written have changed";
+    if (used > 0 && memcmp(s->bytes + r->out.place, theirs->bytes, used) != 0)
+        return "the bytes written differ";
+    return NULL;
+}
+
+static void show_fault(const struct asking *a, const char *fault,
+                       const struct outcome *abo, const struct outcome *peer)
+{
+    printf("failed: %s: %s, seed %llu\n", call_names[a->call.which], fault,
+           (unsigned long long)a->seed);
+    show_call(&a->call, a->room, a->no_pointer && a->room == 0);
+    if (abo != NULL)
+        show_outcome("abo: ", abo);
+    if (peer != NULL)
+        show_outcome("peer:", peer);
+}
+
+static void compare_call(const struct kept *k, size_t place,
+                         const struct slot *s)
+{
+    static struct room theirs;
+    const struct asking *a = &k->askings[place];
+    lend_room(&theirs, a->room, a->skew, a->fill);
+    in_hand(call_names[a->call.which], a->seed, a->call.file.bytes,
+            a->call.file.len);
+    struct outcome p =
+        call_peer(&a->call, a->no_pointer && a->room == 0 ? NULL : theirs.bytes,
+                  a->room);
+    const char *fault = fault_of(k, place, s, &p, &theirs);
+    if (count_check(fault == NULL))
+        show_fault(a, fault, &s->requests[place].answer, &p);
+    if (p.number < NUMBERS)
+        remote_counts[p.number]++;
+}
+
+static void compare_slot(unsigned number)
+{
+    struct kept *k = &kept[number];
+    const struct slot *s = &shared[number];
+    if (!take_slot(number)) {
+        const struct asking *a = &k->askings[s->made % SLOT_CALLS];
+        count_check(false);
+        show_fault(a, "the server ended in this call", NULL, NULL);
+        exit(last_line());
+    }
+    for (size_t place = 0; place < k->slot.count; place++)
+        compare_call(k, place, s);
+    k->handed = false;
+    k->slot.count = 0;
+    k->used = 0;
+}
+
+/* The server goes on with this slot while the other is compared. */
+static void hand_over(void)
+{
+    struct kept *k = &kept[turn];
+    struct slot *s = &shared[turn];
+    s->count = k->slot.count;
+    s->made = 0;
+    memcpy(s->requests, k->slot.requests,
+           k->slot.count * sizeof *k->slot.requests);
+    memcpy(s->bytes, k->slot.bytes, k->used);
+    k->handed = true;
+    hand_slot(turn);
+    turn = (turn + 1) % SLOTS;
+    if (kept[turn].handed)
+        compare_slot(turn);
+}
+
+void begin_asking(char **command)
+{
+    shared = start_server(command);
+}
+
+void ask_remote(const struct asking *a)
+{
+    struct kept *k = &kept[turn];
+    lend_call(k, a);
+    if (k->slot.count == SLOT_CALLS || k->used >= ENOUGH_BYTES)
+        hand_over();
+}
+
+void end_asking(void)
+{
+    if (kept[turn].slot.count > 0)
+        hand_over();
+    for (unsigned i = 0; i < SLOTS; i++, turn = (turn + 1) % SLOTS)
+        if (kept[turn].handed)
+            compare_slot(turn);
+    check(end_server(), "the server did not end well");
+}

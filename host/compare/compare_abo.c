@@ -1,0 +1,174 @@
+/*
+ * What the second program says of a file, and files to try, for host/abo/abo_test.sh:
+ *
+ *   compare_abo answer FILE SHEET DAY FOLDER   puts into the folder: `line`, the line of explaining; `canonical`, the canonical
+ *                                              file; `items`, a line for each item, as the tool shows it but with one space
+ *                                              between words.  The last two are empty if the file is refused
+ *   compare_abo make SHEET KIND BYTES          a valid file of about so many bytes (bench/files.h names the kinds)
+ *   compare_abo generate SEED FILE             puts the file of a seed there; prints the sheet and the day to read it with
+ *
+ * SHEET is a number, DAY is YYYYMMDD.  The exit status is the tool's: 0 accepted, 1 refused, 2 for a sheet or a day that is
+ * none, and for trouble.
+ */
+#include <inttypes.h>
+#include <stdbool.h>
+#include <stdio.h>
+#include <stdlib.h>
+#include <string.h>
+
+#include "../../bench/files.h"
+#include "../../peer/peer.h"
+#include "../generate/generate.h"
+#include "../generate/words.h"
+
+struct asked {
+    struct text file, rows;
+    uint64_t sheet, today;
+    struct peer_answer answer;
+};
+
+static void judge(struct asked *a)
+{
+    a->answer = peer_read(a->file.data, a->file.len, a->sheet, a->today, NULL, 0);
+    text_repeat(&a->rows, 0, (size_t)a->answer.needed * ABO_ROW_BYTES);
+    if (a->answer.number == 16)
+        a->answer = peer_read(a->file.data, a->file.len, a->sheet, a->today,
+                              a->rows.data, a->rows.len);
+}
+
+static void explain(const struct asked *a, FILE *to)
+{
+    uint8_t line[100];
+    struct peer_text t = peer_explain(a->file.data, a->file.len, a->sheet,
+                                      a->today, line, sizeof line);
+    fwrite(line, 1, (size_t)t.bytes, to);
+}
+
+static void rewrite(const struct asked *a, FILE *to)
+{
+    const struct peer_header *h = &a->answer.header;
+    struct text out = {0};
+    struct peer_written w = {16, 0, 0, 0};
+    while (w.number == 16) {
+        text_repeat(&out, 0, (size_t)w.bytes - out.len);
+        w = peer_write(a->rows.data, a->rows.len, a->file.data, a->file.len,
+                       h->date, h->name, sizeof h->name, h->client, h->from, h->to,
+                       a->sheet, a->today, out.data, out.len);
+    }
+    fwrite(out.data, 1, out.len, to);
+    text_free(&out);
+}
+
+/* Words are separated by a space each, and so are the first word and the line's start. */
+static void print_account(FILE *to, const uint8_t *row, unsigned place)
+{
+    if (word_of(row, 0, place) != 0)
+        fprintf(to, " %" PRIu64 "-%" PRIu64, word_of(row, 0, place), word_of(row, 0, place + 1));
+    else if (word_of(row, 0, place + 1) != 0)
+        fprintf(to, " %" PRIu64, word_of(row, 0, place + 1));
+}
+
+static void print_text(FILE *to, const struct asked *a, const uint8_t *row,
+                       unsigned place)
+{
+    const uint8_t *bytes = a->file.data + word_of(row, 0, place);
+    fprintf(to, " \"");
+    for (uint64_t i = 0; i < word_of(row, 0, place + 1); i++)
+        fputc(bytes[i] < 127 ? bytes[i] : '.', to);
+    fputc('"', to);
+}
+
+static void print_item(FILE *to, const struct asked *a, const uint8_t *row)
+{
+    unsigned used = ABO_PARTS;
+    print_account(to, row, 1);
+    print_account(to, row, 3);
+    fprintf(to, " %04" PRIu64, word_of(row, 0, 5));
+    fprintf(to, " %" PRIu64 ".%" PRIu64 "%" PRIu64, word_of(row, 0, 6) / 100,
+           word_of(row, 0, 6) / 10 % 10, word_of(row, 0, 6) % 10);
+    fprintf(to, " %" PRIu64 " %" PRIu64 " %04" PRIu64 " %" PRIu64, word_of(row, 0, 7),
+           word_of(row, 0, 8), word_of(row, 0, 9), word_of(row, 0, 10));
+    while (used > 0 && word_of(row, 0, 10 + 2 * used) == 0)
+        used--;
+    for (unsigned i = 0; i < used; i++)
+        print_text(to, a, row, 11 + 2 * i);
+    if (word_of(row, 0, 20) != 0) {
+        fprintf(to, " name");
+        print_text(to, a, row, 19);
+    }
+    fputc('\n', to);
+}
+
+static void items(const struct asked *a, FILE *to)
+{
+    for (size_t at = 0; at < a->rows.len; at += ABO_ROW_BYTES)
+        if (word_of(a->rows.data + at, 0, 0) == ABO_ROW_ITEM)
+            print_item(to, a, a->rows.data + at);
+}
+
+/* Puts into a file of the folder what is to be said, or nothing. */
+static bool put(const struct asked *a, const char *folder, const char *name,
+                void (*say)(const struct asked *, FILE *))
+{
+    char path[4096];
+    snprintf(path, sizeof path, "%s/%s", folder, name);
+    FILE *to = fopen(path, "wb");
+    if (to == NULL)
+        return false;
+    if (say != NULL)
+        say(a, to);
+    return fclose(to) == 0;
+}
+
+static int answer(char **argument)
+{
+    struct asked a = {.sheet = strtoull(argument[1], NULL, 10),
+                      .today = strtoull(argument[2], NULL, 10)};
+    if (!text_load(&a.file, argument[0]))
+        return 2;
+    judge(&a);
+    uint64_t number = a.answer.number;
+    bool whole = put(&a, argument[3], "line", explain) &&
+                 put(&a, argument[3], "canonical", number == 0 ? rewrite : NULL) &&
+                 put(&a, argument[3], "items", number == 0 ? items : NULL);
+    text_free(&a.file);
+    text_free(&a.rows);
+    return !whole || number == 1 || number == 2 ? 2 : number == 0 ? 0 : 1;
+}
+
+static int make(char **argument)
+{
+    struct bench_file file = {0};
+    bool made = make_bench_file(&file, (unsigned)strtoul(argument[0], NULL, 10), argument[1], strtoul(argument[2], NULL, 10));
+    if (made)
+        fwrite(file.bytes.data, 1, file.bytes.len, stdout);
+    text_free(&file.bytes);
+    return made ? 0 : 2;
+}
+
+static int generate_to(char **argument)
+{
+    struct made made = {0};
+    FILE *to = fopen(argument[1], "wb");
+    if (to == NULL)
+        return 2;
+    generate(&made, strtoull(argument[0], NULL, 10));
+    bool whole = fwrite(made.file.data, 1, made.file.len, to) == made.file.len;
+    whole = fclose(to) == 0 && whole;
+    printf("%" PRIu64 " %" PRIu64 "\n", made.sheet, made.today);
+    text_free(&made.file);
+    return whole ? 0 : 2;
+}
+
+int main(int argc, char **argv)
+{
+    const char *what = argc > 1 ? argv[1] : "";
+    if (argc == 4 && strcmp(what, "generate") == 0)
+        return generate_to(argv + 2);
+    if (argc == 5 && strcmp(what, "make") == 0)
+        return make(argv + 2);
+    if (argc == 6 && strcmp(what, "answer") == 0)
+        return answer(argv + 2);
+    fputs("The first lines of host/compare/compare_abo.c say how it is used.\n", stderr);
+    return 2;
+}

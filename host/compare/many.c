@@ -1,0 +1,141 @@
+/*
+ * One of the library's calls against the second program's, on many files or
+ * batches, each in one room.  The library is asked in a server's process, so
+ * that it alone is emulated where it must be.
+ *
+ *   many read|write|explain|line FILES SEED SERVER ..     as qemu-x86_64 build/serve
+ */
+#include <stdio.h>
+#include <string.h>
+
+#include "../call/call_peer.h"
+#include "../call/show.h"
+#include "../generate/dice.h"
+#include "../generate/draft.h"
+#include "../generate/generate.h"
+#include "../generate/plan.h"
+#include "../generate/seeds.h"
+#include "ask_remote.h"
+
+enum { ENOUGH = 20000, ENOUGH_FOR_RARE = 1000000 };
+
+/* What would do, more, less, or none; any if that does not matter. */
+static size_t choose_room(struct dice *d, const struct outcome *without)
+{
+    size_t exact = (size_t)without->needed;
+    if (without->number != ABO_NO_ROOM)
+        return one_in(d, 4) ? 0 : below(d, 1000);
+    switch (below(d, 16)) {
+    case 0:
+        return 0;
+    case 1:
+        return exact - 1;
+    case 2:
+        return below(d, exact);
+    case 3:
+    case 4:
+    case 5:
+        return exact;
+    default:
+        return exact + between(d, 1, 2 * ABO_ROW_BYTES);
+    }
+}
+
+static void ask(uint64_t seed, const struct call *call)
+{
+    struct dice d = {~seed};
+    in_hand(call_names[call->which], seed, call->file.bytes, call->file.len);
+    struct outcome without = call_peer(call, NULL, 0);
+    struct asking a = {.seed = seed, .call = *call};
+    a.room = choose_room(&d, &without);
+    a.no_pointer = one_in(&d, 2);
+    a.fill = telling_byte(&d);
+    a.skew = (unsigned)below(&d, 16);
+    ask_remote(&a);
+}
+
+static void ask_files(struct seeds seeds, enum which which)
+{
+    struct made made = {0};
+    for (uint64_t i = 0; i < seeds.count; i++) {
+        struct dice lines = {seeds.first + i};
+        generate(&made, seeds.first + i);
+        ask(seeds.first + i, &(struct call){
+            .which = which,
+            .line = which == FINDS ? below(&lines, 24) : 0,
+            .file = {made.file.data, made.file.len},
+            .sheet = made.sheet,
+            .today = made.today,
+        });
+    }
+    text_free(&made.file);
+}
+
+static void ask_batches(struct seeds seeds)
+{
+    struct draft draft = {0};
+    for (uint64_t i = 0; i < seeds.count; i++) {
+        draw_draft(&draft, seeds.first + i);
+        ask(seeds.first + i, &(struct call){
+            .which = WRITES,
+            .file = {draft.rows.data, draft.rows.len},
+            .texts = {draft.texts.data, draft.texts.len},
+            .name = {draft.name, draft.name_len},
+            .date = draft.date,
+            .client = draft.client,
+            .from = draft.from,
+            .to = draft.to,
+            .sheet = draft.sheet,
+            .today = draft.today,
+        });
+    }
+    free_draft(&draft);
+}
+
+static bool can_come(enum which which, unsigned number)
+{
+    if (which == FINDS)
+        return number <= 1; /* not found, found */
+    if (number == ABO_ACCEPTED || number == ABO_NO_ROOM)
+        return true;
+    if (which == READS)
+        return number < ABO_NO_ROOM;
+    return which == WRITES &&
+           (number <= ABO_BAD_TODAY || number >= ABO_NOT_A_BATCH);
+}
+
+/* With enough files every number that the call can give must have come; too
+   many items come about once in a hundred thousand. */
+static void report(struct seeds seeds, enum which which)
+{
+    bool tested = are_enough(seeds, ENOUGH);
+    for (unsigned number = 0; number < NUMBERS; number++) {
+        if (!can_come(which, number))
+            continue;
+        printf("number %2u: %lu\n", number, remote_counts[number]);
+        if (tested && (number != ABO_TOO_MANY || seeds.count >= ENOUGH_FOR_RARE))
+            check(remote_counts[number] > 0, "a number never came");
+    }
+}
+
+int main(int argc, char **argv)
+{
+    unsigned which = 0;
+    while (argc > 4 && which < CALLS && strcmp(argv[1], call_names[which]) != 0)
+        which++;
+    if (argc <= 4 || which == CALLS) {
+        fprintf(stderr, "many: name read, write, explain or line, how many files, "
+                        "the first seed and the server.\n");
+        return 2;
+    }
+    struct seeds seeds = take_seeds(3, argv + 1, 0);
+    catch_crashes();
+    begin_asking(argv + 4);
+    if (which == WRITES)
+        ask_batches(seeds);
+    else
+        ask_files(seeds, (enum which)which);
+    end_asking();
+    report(seeds, (enum which)which);
+    return last_line();
+}

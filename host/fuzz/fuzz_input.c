@@ -1,0 +1,126 @@
+#include "fuzz_input.h"
+#include "../generate/days.h"
+#include "../generate/words.h"
+
+enum { HEAD = 5, WRITE_HEAD = 17, NAME = ABO_NAME_BYTES, ENOUGH_ROOM = 128, NO_SHEET = 5 };
+
+/* The first byte's modulus, and the bit of its quotient that makes an
+   explanation the finding of a line. */
+enum { CHOICES = 3, LINE_BIT = 32 };
+
+static void put_number(struct text *out, uint64_t number, size_t bytes)
+{
+    for (size_t i = 0; i < bytes; i++, number >>= 8)
+        text_byte(out, (uint8_t)number);
+}
+
+static uint64_t take_day(const uint8_t *data)
+{
+    uint64_t place = number_at(data, 2);
+    return place < DAYS ? day_at((size_t)place) : place;
+}
+
+static void put_day(struct text *out, uint64_t day)
+{
+    size_t place = 0;
+    while (place < DAYS && day_at(place) != day)
+        place++;
+    put_number(out, place, 2);
+}
+
+/* What writing has behind the first bytes. */
+static bool take_batch(struct fuzz_input *in, const uint8_t *data, size_t len)
+{
+    struct call *c = &in->call;
+    size_t head = WRITE_HEAD + NAME;
+    if (len < head)
+        return false;
+    size_t texts = data[HEAD], left = len - head;
+    if (texts > left)
+        texts = left;
+    c->date = take_day(data + 6);
+    c->from = number_at(data + 8, 2);
+    c->to = number_at(data + 10, 2);
+    c->client = number_at(data + 12, 5);
+    c->name = (struct slice){data + WRITE_HEAD, NAME};
+    c->texts = (struct slice){data + head, in->runs_on ? left : texts};
+    c->file = (struct slice){data + head + texts, left - texts};
+    return true;
+}
+
+static void take_line(struct fuzz_input *in, const uint8_t *data)
+{
+    uint64_t number = number_at(data + 2, 2);
+    in->call.which = FINDS;
+    in->call.line = data[4] == 0 ? number : UINT64_MAX - number;
+    in->room = 0;
+}
+
+bool decode_input(struct fuzz_input *in, const uint8_t *data, size_t len)
+{
+    if (len < HEAD)
+        return false;
+    uint8_t bits = data[0] / CHOICES;
+    *in = (struct fuzz_input){
+        .call = {.which = (enum which)(data[0] % CHOICES),
+                 .file = {data + HEAD, len - HEAD},
+                 .sheet = data[1] % (NO_SHEET + 1),
+                 .today = take_day(data + 2)},
+        .at_back = bits & 1,
+        .runs_on = bits & 2,
+        .room = data[4],
+    };
+    if (in->call.which == EXPLAINS && bits & LINE_BIT)
+        take_line(in, data);
+    return in->call.which != WRITES || take_batch(in, data, len);
+}
+
+size_t room_of_input(const struct fuzz_input *in, uint64_t wanted)
+{
+    size_t room = (size_t)wanted + in->room;
+    return in->room == 0 || room < ENOUGH_ROOM ? 0 : room - ENOUGH_ROOM;
+}
+
+static void put_head(struct text *out, enum which which, uint64_t sheet,
+                     uint64_t today, struct dice *d)
+{
+    static const uint8_t rooms[] = {0, ENOUGH_ROOM - 1, ENOUGH_ROOM,
+                                    ENOUGH_ROOM, ENOUGH_ROOM, 255};
+    text_clear(out);
+    text_byte(out, (uint8_t)(which + CHOICES * below(d, 4)));
+    text_byte(out, sheet < NO_SHEET ? (uint8_t)sheet : NO_SHEET);
+    put_day(out, today);
+    text_byte(out, PICK(d, rooms));
+}
+
+void put_file_input(struct text *out, const struct made *made, bool explains,
+                    struct dice *d)
+{
+    put_head(out, explains ? EXPLAINS : READS, made->sheet, made->today, d);
+    text_bytes(out, made->file.data, made->file.len);
+}
+
+void put_line_input(struct text *out, const struct made *made, struct dice *d)
+{
+    text_clear(out);
+    text_byte(out, (uint8_t)(EXPLAINS + CHOICES * (LINE_BIT + below(d, 2))));
+    text_byte(out, (uint8_t)made->sheet);
+    put_number(out, below(d, 16), 2);
+    text_byte(out, one_in(d, 8));
+    text_bytes(out, made->file.data, made->file.len);
+}
+
+void put_draft_input(struct text *out, const struct draft *draft,
+                     struct dice *d)
+{
+    size_t texts = draft->texts.len < 255 ? draft->texts.len : 255;
+    put_head(out, WRITES, draft->sheet, draft->today, d);
+    text_byte(out, (uint8_t)texts);
+    put_day(out, draft->date);
+    put_number(out, draft->from, 2);
+    put_number(out, draft->to, 2);
+    put_number(out, draft->client, 5);
+    text_bytes(out, draft->name, NAME);
+    text_bytes(out, draft->texts.data, texts);
+    text_bytes(out, draft->rows.data, draft->rows.len);
+}
