@@ -1,10 +1,11 @@
 #include "calls.h"
+#include "../host/generate/plain.h"
 
 #include <abo.h>
 #include <stdlib.h>
 #include <string.h>
 
-enum { ROW = 192, TODAY = 20180101 };
+enum { TODAY = PLAIN_TODAY };
 
 bool lend_for(struct lent *l, enum call call, unsigned sheet, const char *kind,
               size_t bytes)
@@ -14,7 +15,7 @@ bool lend_for(struct lent *l, enum call call, unsigned sheet, const char *kind,
         return false;
     const struct text *file = &l->file.bytes;
     l->sheet = sheet;
-    l->rows_len = l->file.rows * ROW;
+    l->rows_len = l->file.rows * ABO_ROW_BYTES;
     l->out_len = file->len; /* no line is spelled longer than it was read */
     l->rows = malloc(l->rows_len);
     l->out = malloc(l->out_len);
@@ -57,13 +58,15 @@ static size_t write_once(struct lent *l, enum who who)
     uint64_t number, bytes;
     if (who == ABO) {
         struct abo_written w = abo_write(
-            l->rows, l->rows_len, f->data, f->len, h->date, h->name, 20,
-            h->client, h->from, h->to, l->sheet, TODAY, l->out, l->out_len);
+            l->rows, l->rows_len, f->data, f->len, h->date, h->name,
+            sizeof h->name, h->client, h->from, h->to, l->sheet, TODAY, l->out,
+            l->out_len);
         number = w.number, bytes = w.bytes;
     } else {
         struct peer_written w = peer_write(
-            l->rows, l->rows_len, f->data, f->len, h->date, h->name, 20,
-            h->client, h->from, h->to, l->sheet, TODAY, l->out, l->out_len);
+            l->rows, l->rows_len, f->data, f->len, h->date, h->name,
+            sizeof h->name, h->client, h->from, h->to, l->sheet, TODAY, l->out,
+            l->out_len);
         number = w.number, bytes = w.bytes;
     }
     return number == 0 ? bytes : 0;

@@ -1,6 +1,7 @@
 #include "files.h"
 #include "../host/generate/accounts.h"
 #include "../host/generate/limits.h"
+#include "../host/generate/plain.h"
 
 #include <string.h>
 
@@ -97,9 +98,7 @@ static void put_shortest(struct text *t, struct dice *d, unsigned sheet,
                          uint64_t *amount)
 {
     *amount = between(d, 1, 9);
-    text_words(t, "19 ");
-    text_number(t, *amount, 1);
-    text_words(t, sheet == S ? " 0 03000558  " : " 0 03000558");
+    put_plain_item(t, sheet, *amount);
 }
 
 /* Every field as long as it may be. */
@@ -188,23 +187,6 @@ static void put_group(struct text *t, const struct pool *p, bool single,
     text_words(t, "3 +\r\n");
 }
 
-static void put_first(struct text *t, unsigned sheet)
-{
-    text_words(t, "UHL1");
-    if (sheet != C)
-        text_words(t, "010118FIRMA               1234567890000999000000000000");
-    text_words(t, "\r\n");
-}
-
-static void put_head(struct text *t, unsigned sheet, size_t place)
-{
-    static const char *const banks[] = {"", " 8100\r\n", " 0800\r\n",
-                                        " 0300\r\n", " 6100\r\n"};
-    text_words(t, "1 1501 ");
-    text_number(t, place * 1000, 6);
-    text_words(t, banks[sheet]);
-}
-
 static size_t smaller(size_t a, size_t b)
 {
     return a < b ? a : b;
@@ -237,9 +219,11 @@ bool make_bench_file(struct bench_file *file, unsigned sheet, const char *name,
     fill_pool(&pool, kind, sheet);
     file->items = file->rows = 0;
     text_clear(t);
-    put_first(t, sheet);
+    put_plain_first(t, sheet);
+    text_words(t, "\r\n");
     do {
-        put_head(t, sheet, files++);
+        put_plain_file(t, sheet, files++ * 1000);
+        text_words(t, "\r\n");
         file->rows++;
         put_groups(file, &pool, kind, sheet,
                    smaller(kind->per_file, all - file->items), bytes);

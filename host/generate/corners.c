@@ -1,4 +1,5 @@
 #include "corners.h"
+#include "plain.h"
 #include "plan.h"
 
 /* A line that is kept on a stack of 64 KiB does not fit there. */
@@ -42,19 +43,14 @@ static const struct {
 /* Letters stand for whole lines of the sheet's frame. */
 static void put_frame(struct text *t, unsigned sheet, const char *words)
 {
-    static const char *const firsts[] = {
-        "UHL1\n",
-        "UHL1010118FIRMA               1234567890000999000000000000\n",
-    };
-    static const char *const banks[] = {"", "8100\n", "0800\n", "0300\n",
-                                        "6100\n"};
     if (words[0] == 'F') {
-        text_words(t, firsts[sheet != C]);
+        put_plain_first(t, sheet);
+        text_byte(t, '\n');
         words += 5;
     }
     if (words[0] == 'H') {
-        text_words(t, "1 1501 000000 ");
-        text_words(t, banks[sheet]);
+        put_plain_file(t, sheet, 0);
+        text_byte(t, '\n');
         words += 4;
     }
     if (words[0] == 'G') {
@@ -75,7 +71,7 @@ bool corner_file(struct made *made, unsigned sheet, unsigned place)
                                       '+', 0, 127, 200, '\n', '\r'};
     struct text *t = &made->file;
     made->sheet = sheet;
-    made->today = 20180101;
+    made->today = PLAIN_TODAY;
     text_clear(t);
     if (place < COUNT_OF(short_files)) {
         text_words(t, short_files[place]);

@@ -119,7 +119,6 @@ static void put_number(struct plan *p, unsigned place)
 
 static void put_bank_of_payer(struct plan *p)
 {
-    static const char *const banks[] = {"", "8100", "0800", "0300", "6100"};
     static const char *const aims[] = {"8100", "0800", "0300", "6100", "0000",
                                        "810", "08100", "800", "", "81x0",
                                        "9999", "8101", "0801", "6099"};
@@ -127,7 +126,7 @@ static void put_bank_of_payer(struct plan *p)
     if (p->sheet == C && one_in(&p->dice, 2))
         text_number(p->out, below(&p->dice, 10000), 4);
     else
-        text_words(p->out, banks[p->sheet]);
+        text_words(p->out, payer_bank(p->sheet));
     if (spoils(p, AT_PAYER_BANK))
         SPOIL(p, start, aims);
 }

@@ -1,24 +1,12 @@
 #include "large.h"
+#include "plain.h"
 #include "plan.h"
 
-#define MOST_AMOUNT MOST_SUM
-
-static void put_first(struct text *t, unsigned sheet)
-{
-    text_words(t, "UHL1");
-    if (sheet != C)
-        text_words(t, "010118FIRMA               1234567890000999000000000000");
-    text_byte(t, '\n');
-}
-
+/* All of K's numbers differ in their first three digits, up to 1,000. */
 static void put_file_head(struct text *t, unsigned sheet, uint64_t place)
 {
-    static const char *const banks[] = {"", " 8100\n", " 0800\n", " 0300\n",
-                                        " 6100\n"};
-    text_words(t, "1 1501 ");
-    /* All of K's numbers differ in their first three digits, up to 1,000. */
-    text_number(t, place % 1000 * 1000, 6);
-    text_words(t, banks[sheet]);
+    put_plain_file(t, sheet, place % 1000 * 1000);
+    text_byte(t, '\n');
 }
 
 static void put_group_head(struct text *t, uint64_t items, uint64_t amount)
@@ -33,20 +21,26 @@ static void put_items(struct text *t, unsigned sheet, uint64_t items,
                       uint64_t amount)
 {
     for (uint64_t i = 0; i < items; i++) {
-        text_words(t, "19 ");
-        text_number(t, amount, 1);
-        text_words(t, sheet == S ? " 0 03000558  \n" : " 0 03000558\n");
+        put_plain_item(t, sheet, amount);
+        text_byte(t, '\n');
     }
+}
+
+/* The file as far as its first line. */
+static void begin(struct made *made, unsigned sheet)
+{
+    made->sheet = sheet;
+    made->today = PLAIN_TODAY;
+    text_clear(&made->file);
+    put_plain_first(&made->file, sheet);
+    text_byte(&made->file, '\n');
 }
 
 void make_bulk(struct made *made, unsigned sheet, const struct bulk *bulk)
 {
     struct text *t = &made->file;
     uint64_t amount = bulk->amount != 0 ? bulk->amount : 1;
-    made->sheet = sheet;
-    made->today = 20180101;
-    text_clear(t);
-    put_first(t, sheet);
+    begin(made, sheet);
     for (uint64_t f = 0; f < bulk->files; f++) {
         put_file_head(t, sheet, f);
         for (uint64_t g = 0; g < bulk->groups; g++) {
@@ -65,10 +59,7 @@ void make_bulk(struct made *made, unsigned sheet, const struct bulk *bulk)
 void make_pair(struct made *made, unsigned first, unsigned second)
 {
     static const char group[] = "2 19 1 020118\n19 1 0 03000558\n3 +\n5 +\n";
-    made->sheet = K;
-    made->today = 20180101;
-    text_clear(&made->file);
-    put_first(&made->file, K);
+    begin(made, K);
     put_file_head(&made->file, K, first);
     text_words(&made->file, group);
     put_file_head(&made->file, K, second);
@@ -100,8 +91,8 @@ static const struct bulk list[] = {
     {.files = 1, .groups = 1, .items = 99999, .behind = ""},
     {.files = 1, .groups = 1, .items = 99999, .behind = "3 x\n"},
     /* A sum that needs all of 64 bits. */
-    {.files = 1, .groups = 1, .items = 99999, .amount = MOST_AMOUNT},
-    {.files = 1, .groups = 1, .items = 3, .amount = MOST_AMOUNT},
+    {.files = 1, .groups = 1, .items = 99999, .amount = MOST_SUM},
+    {.files = 1, .groups = 1, .items = 3, .amount = MOST_SUM},
     {.files = 1, .groups = 1, .items = 102, .amount = MOST_SMALL},
     /* Account files. */
     {.files = 999, .groups = 1, .items = 1},

@@ -19,6 +19,15 @@ static inline uint64_t most_of_item(unsigned sheet)
     return sheet == S || sheet == E ? MOST_SMALL : MOST_SUM;
 }
 
+/* The payer's bank; C takes any other one too. */
+static inline const char *payer_bank(unsigned sheet)
+{
+    return sheet == K   ? "8100"
+           : sheet == S ? "0800"
+           : sheet == C ? "0300"
+                        : "6100";
+}
+
 /* The kinds are 1501 and so many in all. */
 static inline unsigned kinds_of(unsigned sheet)
 {
