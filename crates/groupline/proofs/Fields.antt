@@ -1,5 +1,5 @@
 -- What the fields of the line give, for `search`: s is the line, and n what a field's reader answered. Assumes nothing.
-use mathlib.Core.Path.{_≡_, sym}
+use mathlib.Core.Path.{_≡_, sym, _∙_}
 use mathlib.Core.Bool.{Bool, true, false}
 use mathlib.Core.List.{List, [], _∷_}
 use Prim.Native.Nat.{ℕ, _^_, _<_}
@@ -25,6 +25,10 @@ pub payer-counted : (always : Bool) (s : List ℕ) (n : ℕ) → n ≡ spaceCoun
 unfolding hasPayer
 payer-counted always s n g h = rw g (sym (pick-false _ _ h))
 
+pub payer-third : (always : Bool) (s : List ℕ) (r : Bool) → r ≡ leb 3 (spaceCount s) → always ≡ false → r ≡ hasPayer always s
+unfolding hasPayer
+payer-third always s r g h = g ∙ sym (pick-false _ _ h)
+
 pub payer-always : (always : Bool) (s : List ℕ) → always ≡ true → true ≡ hasPayer always s
 unfolding hasPayer
 payer-always always s h = sym (pick-true _ _ h)
@@ -44,7 +48,7 @@ pub step-group : (warns : Bool) (today date w : ℕ) → w ≡ dueWarnings warns
     → got (group payer total date) w (at ∷ []) ≡ got (group payer total date) (dueWarnings warns today date) (at ∷ [])
 step-group warns today date w g payer total at = rw g
 
-pub ruleset payers = (payer-counted, payer-always)
+pub ruleset payers = (payer-counted, payer-third, payer-always)
 
 pub ruleset groups = (accounts, step-group, steps)
 

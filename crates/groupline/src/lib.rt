@@ -5,10 +5,12 @@ use sheet::Sheet;
 ghost use mathlib.Core.Path.{_≡_};
 ghost use mathlib.Core.Bool.{true};
 ghost use Prim.Native.Nat.{_≤_};
+ghost use lib.Dec.{ltb, leb};
 ghost use lib.ListN.{length, drop};
 ghost use Rattle.paper.specs.Accounts.{account};
 ghost use Rattle.paper.specs.Days.{realDay};
-ghost use Rattle.paper.specs.GroupLine.{hasPayer, totalAndDate, readGroup};
+ghost use Rattle.paper.specs.GroupLine.{spaceCount, hasPayer, totalAndDate, readGroup};
+ghost use Rattle.groupline.specs.Spaced.{spaced};
 ghost use Rattle.groupline.specs.Told.{told, Low};
 
 // What the line says: the payer, prefix and base 0 where there is none, total and due date, how many warnings the line gives, and where
@@ -25,12 +27,60 @@ pub enum GroupRead {
     Refused(u64, usize),
 }
 
+// Do spaces stand behind the first byte and before the last six, as in `2 TOTAL DDMMRR`?
+fn is_spaced(s: &[u8]) -> bool
+    ensures { λ r. ⌜ r ≡ spaced (now (s .entry)) ⌝ }
+{
+    let n = s.len();
+    if n < 9 {
+        return false;
+    }
+    if s[1] != 32 {
+        return false;
+    }
+    s[n - 7] == 32
+}
+
+// Does a space stand before `stop`, from the third byte on? It is looked for from the right, as a total is shorter than an account.
+fn space_inside(s: &[u8], stop: usize) -> bool
+    requires { ⌜ (2 ≤ stop) × (stop ≤ length (now s)) ⌝ }
+    ensures { λ r. ⌜ r ≡ ltb (spaceCount (drop stop (now (s .entry)))) (spaceCount (drop 2 (now (s .entry)))) ⌝ }
+{
+    let mut i = stop;
+    while 2 < i {
+        let j = i - 1;
+        if s[j] == 32 {
+            return true;
+        }
+        i = j;
+    }
+    false
+}
+
+// Has a line that is spaced so a third space?
+fn third_space(s: &[u8]) -> bool
+    requires { ⌜ spaced (now s) ≡ true ⌝ }
+    ensures { λ r. ⌜ r ≡ leb 3 (spaceCount (now (s .entry))) ⌝ }
+{
+    let stop = s.len() - 7;
+    if space_inside(s, stop) {
+        return true;
+    }
+    if s[0] == 32 {
+        return true;
+    }
+    line::field_end(s, stop + 1) < s.len()
+}
+
 // Does the payer's field stand in the line? Where it does not stand always, the line's spaces tell.
 fn has_payer(s: &[u8], always: bool) -> bool
     ensures { λ r. ⌜ r ≡ hasPayer always (now (s .entry)) ⌝ }
 {
     if always {
         return true;
+    }
+    if is_spaced(s) {
+        return third_space(s);
     }
     3 <= line::spaces(s)
 }

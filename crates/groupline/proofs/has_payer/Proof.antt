@@ -1,20 +1,40 @@
--- `has_payer` meets its contract: always, or by the count of spaces. Assumes nothing.
+-- `has_payer` meets its contract: always, or by the line's spaces. Assumes nothing.
 use borrow.Author.Needs.{needs}
 use Rattle.groupline.proofs.Fields.{payers}
+use Rattle.groupline.proofs.Spaces.{places}
 use Rattle.groupline.proofs.has_payer.Statement.{statement}
 use Rattle.groupline.proofs.has_payer.Tie as tie
 use Rattle.groupline.proofs.has_payer.Reads as reads
 use Rattle.groupline.proofs.has_payer.Lts as lts
+use Rattle.groupline.proofs.is_spaced.Reads as is-spaced-reads
+use Rattle.groupline.proofs.third_space.Reads as third-space-reads
 use Rattle.line.proofs.spaces.Reads as spaces-reads
 
 returns : tie.Need-returns
 returns c = search payers
 
-spaces-requires : tie.Need-spaces-requires
-spaces-requires c κs = search needs
+is-spaced-requires : tie.Need-is-spaced-requires
+is-spaced-requires c κs = search needs
+
+third-space-requires : tie.Need-third-space-requires
+third-space-requires c κs = search (places, needs)
 
 returns-2 : tie.Need-returns-2
 returns-2 c = search payers
 
+spaces-requires : tie.Need-spaces-requires
+spaces-requires c κs = search needs
+
+returns-3 : tie.Need-returns-3
+returns-3 c = search payers
+
 pub has-payer-spec : {M : Type 1} → statement M
-has-payer-spec = tie.close (tie.spec returns spaces-requires returns-2)
+has-payer-spec =
+    tie.close
+    (tie.spec
+    returns
+    is-spaced-requires
+    third-space-requires
+    returns-2
+    spaces-requires
+    returns-3)
