@@ -1,4 +1,5 @@
 pub mod Goes
 pub mod Fields
 pub mod Texts
+pub mod Named
 pub mod Tails

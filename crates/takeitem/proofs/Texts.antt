@@ -1,35 +1,28 @@
 -- The texts of a line that says something, by their places. Assumes nothing.
 use mathlib.Core.Path.{_≡_, refl, sym, ap, _∙_}
 use mathlib.Core.Bool.{Bool, true, false}
-use mathlib.Core.List.{List, [], _∷_, map}
-use Prim.Native.Nat.{ℕ, _+_, _-_, _≤_, _<_}
+use mathlib.Core.List.{List, [], map}
+use Prim.Native.Nat.{ℕ, _+_, _≤_, _<_}
 use native.Mathlib.Omega.{arith}
 use mir.Val.{Fits}
 use mir.Syntax.{w64}
 use lib.Dec.{eqb, ltb}
-use lib.ListN.{length, take, drop, drop-of-length-le, length-drop}
-use lib.Seq.{take-length, drop-length, drop-drop}
-use borrow.Author.Tests.{ltb-false, le-ltb, lt-ltb, ne-eqb, eq-eqb}
+use lib.ListN.{length, drop, drop-of-length-le, length-drop}
+use lib.Seq.{take-length, drop-drop}
+use borrow.Author.Tests.{ltb-false}
 use Rattle.base.specs.Pick.{pick}
 use Rattle.base.specs.Seek.{all, starts, seek}
 use Rattle.base.proofs.Cases.{by-test, pick-true, pick-false}
-use Rattle.base.proofs.Seek.{never, seek-le}
+use Rattle.base.proofs.Seek.{never, starts-long}
 use Rattle.sheet.specs.declared.Style.{Style}
 use Rattle.paper.specs.Read.{Field, value, fault}
-use Rattle.paper.specs.Bytes.{isText, bar, av, np, mark, null}
+use Rattle.paper.specs.Bytes.{isText, av, np, mark, null}
 use Rattle.paper.specs.Texts.{Piece, piece, Texts, divide, cut, over, overs, pad, opens, finish, messageEnd, message, marked, readText}
 use Rattle.paper.specs.ItemLine.{isValue}
-use Rattle.span.specs.declared.Part.{Part}
 use Rattle.span.specs.declared.Spans.{Spans}
 use Rattle.span.specs.Held.{textsAt, Held}
-use Rattle.span.specs.Places.{span, partTo, placed, longer, foundAt, fourFrom}
+use Rattle.span.specs.Places.{fourFrom}
 use Rattle.span.proofs.Right.{found-right, found-held}
-use Rattle.base.proofs.Seek.{starts-long}
-use Rattle.text.specs.declared.TextRead.{TextRead}
-use Rattle.text.specs.declared.TextRead.the-variants as text
-use Rattle.text.specs.Told as texts
-use Rattle.itemline.specs.Told.{noSpans}
-use Rattle.taking.proofs.Parts.{some-value}
 
 -- ---- a value came through a test
 
@@ -42,7 +35,7 @@ module _ {A : Type 0} (t : Bool) (n : ℕ) (x : Field A) where
   unfolding pick isValue
   past-not h = by-test t (λ e. never (sym (simp e at h))) (λ e. (e, rw e))
 
-value-as : {A : Type 0} (x z : Field A) → isValue x ≡ true → x ≡ z → isValue z ≡ true
+pub value-as : {A : Type 0} (x z : Field A) → isValue x ≡ true → x ≡ z → isValue z ≡ true
 value-as x z h e = rw e at h
 
 -- ---- parts and name
@@ -162,80 +155,3 @@ pub varied-not : (y : Style) (t : Bool) → t ≡ pick (y .names) true (y .may) 
 varied-not y t g e = sym g ∙ e
 
 pub ruleset plain-texts = (varied-not, av-room, start-within, text-is, text-held)
-
--- ---- a text that is read again: r is what its reader answered
-
-module _ (y : Style) (s : List ℕ) (from : ℕ) (h : isValue (readText y from (drop from s)) ≡ true) (r : TextRead)
-    (g : texts.told s r ≡ readText y from (drop from s)) (i : texts.Inside s r) where
-  pub again-is : (f : Spans) → r ≡ text.Texts f → value (textsAt s f) ≡ readText y from (drop from s)
-  again-is f e = rw e at g
-
-  pub again-held : (f : Spans) → r ≡ text.Texts f → Held s f
-  again-held f e = rw e at i
-
-  module _ (n : ℕ) (e : r ≡ text.Refused n) (f : Spans) where
-    none : {P : Type 0} → P
-    unfolding isValue
-    none = never (sym (rw (← g, e) at h))
-
-    pub again-not : value (textsAt s f) ≡ readText y from (drop from s)
-    again-not = none
-
-    pub again-none : Held s f
-    again-none = none
-
-pub ruleset again = (again-is, again-held, again-not, again-none)
-
--- ---- a message of one part
-
-placed-none : (a : ℕ) → placed a 0 ≡ span 0 0
-unfolding placed pick
-placed-none a = refl
-
-placed-some : (a n : ℕ) → (n ≡ 0 → ⊥) → n ≤ 35 → placed a n ≡ span a n
-unfolding placed
-placed-some a n h l = pick-false _ _ (ne-eqb n 0 h) ∙ pick-false _ _ (le-ltb 35 n l)
-
-longer-not : (n : ℕ) → n ≤ 35 → longer n ≡ 0
-unfolding longer
-longer-not n l = pick-false _ _ (le-ltb 35 n l)
-
-abbrev partOf : ℕ → ℕ → ℕ → Part
-partOf a n next = record { at = a; len = n; next = next }
-
--- the last part of a text of n bytes
-part-last : (n a e : ℕ) → e ≡ n → partTo n a e ≡ partOf a (n - a) n
-unfolding partTo
-part-last n a e q = rw q (ap (partOf a (n - a)) (pick-false _ _ (le-ltb n n (omega arith))))
-
-found-one : (a n m : ℕ) → n ≤ 35 → foundAt (partOf a n m) (partOf m 0 m) (partOf m 0 m) (partOf m 0 m) 0 0
-    ≡ (record { part1 = placed a n; part2 = span 0 0; part3 = span 0 0; part4 = span 0 0; name = span 0 0; warnings = 0 })
-unfolding foundAt
-found-one a n m l = rw (placed-none m, placed-none 0, longer-not n l, longer-not 0 (omega arith))
-
-module _ (s : List ℕ) (from e : ℕ) (l : from ≤ length s) (g : e ≡ from + seek bar (drop from s)) (h : length s ≤ e) where
-  first : partTo (length s) from (from + seek bar (drop from s)) ≡ partOf from (length s - from) (length s)
-  first = part-last (length s) from (from + seek bar (drop from s)) (omega (arith, g, seek-le bar (drop from s), length-drop from s))
-
-  last : partTo (length s) (length s) (length s + seek bar (drop (length s) s)) ≡ partOf (length s) 0 (length s)
-  unfolding seek
-  last =
-      let z : length s - length s ≡ 0 = omega arith in
-      part-last (length s) (length s) (length s + seek bar (drop (length s) s)) (rw drop-length (omega arith)) ∙ rw z
-
-  module _ (k : e - from ≤ 35) where
-    long : length s - from ≡ e - from
-    long = omega (arith, g, seek-le bar (drop from s), length-drop from s)
-
-    one : fourFrom s from 0 0 ≡ (record { part1 = placed from (e - from); part2 = span 0 0; part3 = span 0 0; part4 = span 0 0; name = span 0 0; warnings = 0 })
-    unfolding fourFrom
-    one = rw (first, last, last, last, long) (found-one from (e - from) (length s) k)
-
-    pub part-none : (f : Spans) → f ≡ noSpans → e - from ≡ 0 → f ≡ fourFrom s from 0 0
-    part-none f q z = q ∙ sym (one ∙ rw (z, placed-none from))
-
-    pub part-one : (e - from ≡ 0 → ⊥)
-        → _≡_ {A = Spans} (record { part1 = span from (e - from); part2 = span 0 0; part3 = span 0 0; part4 = span 0 0; name = span 0 0; warnings = 0 }) (fourFrom s from 0 0)
-    part-one n = sym (one ∙ rw (placed-some from (e - from) n k))
-
-pub ruleset parts = (part-none, part-one)

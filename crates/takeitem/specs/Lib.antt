@@ -1,2 +1,3 @@
 pub mod Said
 pub mod Told
+pub mod Named

@@ -1,19 +1,26 @@
 // An item's line that was judged before: its fields are taken one after the other, and its texts found by their places.
+use division::first_part;
+use division::next_part;
 use find::find_byte;
 use itemline::Fields;
 use itemline::Front;
 use itemline::Paid;
 use sheet::Sheet;
 use sheet::Style;
+use span::Part;
 use span::Span;
 use span::Spans;
 use span::four_from;
+use span::gather;
+use span::one_part;
 use taking::Account;
-use text::TextRead;
+use text::Begun;
+use text::begin_text;
+use text::name_at;
 ghost use mathlib.Core.Path.{_≡_};
 ghost use mathlib.Core.Bool.{true, false};
 ghost use mathlib.Core.List.{List};
-ghost use Prim.Native.Nat.{ℕ, _+_, _≤_};
+ghost use Prim.Native.Nat.{ℕ, _+_, _≤_, _<_};
 ghost use lib.ListN.{length, drop};
 ghost use Rattle.base.specs.Pick.{pick};
 ghost use Rattle.paper.specs.Accounts as paper;
@@ -22,15 +29,17 @@ ghost use Rattle.paper.specs.Batch.{most14};
 ghost use Rattle.paper.specs.Entries.{Said};
 ghost use Rattle.paper.specs.ItemLine.{isValue, readItem};
 ghost use Rattle.paper.specs.Read.{value};
-ghost use Rattle.paper.specs.Texts.{readText};
+ghost use Rattle.paper.specs.Texts.{others, message, readText};
 ghost use Rattle.span.specs.Held.{textsAt, Held};
-ghost use Rattle.span.specs.Places.{fourFrom};
+ghost use Rattle.span.specs.Places.{partAt, fourFrom};
+ghost use Rattle.division.specs.Unnamed.{unnamed};
 ghost use Rattle.itemline.specs.declared.ItemRead.the-variants as answer;
 ghost use Rattle.itemline.specs.Told.{noSpans, told, Sound};
 ghost use Rattle.itemline.specs.Stages.{withTexts, says, withTail, fromPayee, payerFirst};
 ghost use Rattle.taking.specs.Known.{There};
 ghost use Rattle.takeitem.specs.Said.{isSaid};
 ghost use Rattle.takeitem.specs.Told.{toldTail, Inside};
+ghost use Rattle.takeitem.specs.Named.{withName};
 
 // The tail of an item's line: a specific symbol and no text, or a symbol and where its text begins.
 pub enum Tail {
@@ -49,20 +58,6 @@ fn no_spans() -> Spans
         part4: Span { at: 0, len: 0 },
         name: Span { at: 0, len: 0 },
         warnings: 0,
-    }
-}
-
-// A text that may have a name, or a message without `AV:`, is read again as it was judged.
-fn read_again(y: Style, s: &[u8], from: usize) -> Spans
-    requires { ⌜ y .most ≤ 4 ⌝ }
-    requires { ⌜ from ≤ length (now s) ⌝ }
-    requires { ⌜ isValue (readText y from (drop from (now s))) ≡ true ⌝ }
-    ensures { λ r. ⌜ value (textsAt (now (s .entry)) r) ≡ readText y from (drop from (now (s .entry))) ⌝ }
-    ensures { λ r. ⌜ Held (now (s .entry)) r ⌝ }
-{
-    match text::read_text(y, s, from) {
-        TextRead::Texts(texts) => texts,
-        TextRead::Refused(_) => no_spans(),
     }
 }
 
@@ -100,20 +95,63 @@ fn take_parts(s: &[u8], from: usize) -> Spans
     if end < s.len() {
         return four_from(s, from, 0, 0);
     }
-    let len = end - from;
-    if 35 < len {
-        return four_from(s, from, 0, 0);
+    one_part(from, end - from, 0, 0)
+}
+
+// The parts of a message from a, the first, on, and the name behind them.
+fn take_others(s: &[u8], a: Part) -> Spans
+    requires { ⌜ a .at ≤ length (now s) ⌝ }
+    requires { ⌜ a ≡ partAt (unnamed (now s) (a .at)) (a .at) ⌝ }
+    requires { ⌜ length (others (a .at) (drop (a .at) (unnamed (now s) (a .at)))) < 4 ⌝ }
+    ensures { λ r. ⌜ r ≡ withName (now (s .entry)) (a .at) ⌝ }
+{
+    let b = next_part(s, a);
+    let c = next_part(s, b);
+    let d = next_part(s, c);
+    let name = name_at(d.next, s.len());
+    gather(a, b, c, d, name.at, name.len)
+}
+
+// The parts of a message, no more than four, and the name behind them. Most messages have one part and no name.
+fn take_named(s: &[u8], from: usize) -> Spans
+    requires { ⌜ from ≤ length (now s) ⌝ }
+    requires { ⌜ length (others from (drop from (unnamed (now s) from))) < 4 ⌝ }
+    ensures { λ r. ⌜ r ≡ withName (now (s .entry)) from ⌝ }
+{
+    let a = first_part(s, from);
+    if from + a.len == s.len() {
+        return one_part(from, a.len, 0, 0);
     }
-    if len == 0 {
-        return no_spans();
+    take_others(s, a)
+}
+
+// The message that begins at `from`, and the name behind it.
+fn take_message(y: Style, s: &[u8], from: usize) -> Spans
+    requires { ⌜ y .most ≤ 4 ⌝ }
+    requires { ⌜ from ≤ length (now s) ⌝ }
+    requires { ⌜ isValue (message y from (drop from (now s))) ≡ true ⌝ }
+    ensures { λ r. ⌜ value (textsAt (now (s .entry)) r) ≡ message y from (drop from (now (s .entry))) ⌝ }
+    ensures { λ r. ⌜ Held (now (s .entry)) r ⌝ }
+{
+    let names = y.names;
+    if names {
+        return take_named(s, from);
     }
-    Spans {
-        part1: Span { at: from, len },
-        part2: Span { at: 0, len: 0 },
-        part3: Span { at: 0, len: 0 },
-        part4: Span { at: 0, len: 0 },
-        name: Span { at: 0, len: 0 },
-        warnings: 0,
+    take_parts(s, from)
+}
+
+// A text that may have a name, or a message without `AV:`. It was judged before: neither its bytes nor its limits are tested again.
+fn take_varied(y: Style, s: &[u8], from: usize) -> Spans
+    requires { ⌜ y .most ≤ 4 ⌝ }
+    requires { ⌜ from ≤ length (now s) ⌝ }
+    requires { ⌜ isValue (readText y from (drop from (now s))) ≡ true ⌝ }
+    ensures { λ r. ⌜ value (textsAt (now (s .entry)) r) ≡ readText y from (drop from (now (s .entry))) ⌝ }
+    ensures { λ r. ⌜ Held (now (s .entry)) r ⌝ }
+{
+    match begin_text(y, s, from) {
+        Begun::Refused(_) => no_spans(),
+        Begun::Name => one_part(from, 0, from + 3, s.len() - from - 3),
+        Begun::Message(at) => take_message(y, s, at),
     }
 }
 
@@ -126,7 +164,7 @@ fn take_text(y: Style, s: &[u8], from: usize) -> Spans
     ensures { λ r. ⌜ Held (now (s .entry)) r ⌝ }
 {
     if varied(y) {
-        return read_again(y, s, from);
+        return take_varied(y, s, from);
     }
     take_parts(s, message_start(y, s, from))
 }

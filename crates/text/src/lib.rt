@@ -123,7 +123,7 @@ fn message_end(y: Style, s: &[u8], from: usize) -> usize
 }
 
 // Where the name stands in a line of n bytes whose message ends at `end`, with ` NP:` behind it or nothing.
-fn name_at(end: usize, n: usize) -> Span
+pub fn name_at(end: usize, n: usize) -> Span
     requires { ⌜ end ≤ n ⌝ }
     ensures { λ r. ⌜ r ≡ nameAt end n ⌝ }
 {
@@ -161,7 +161,7 @@ fn only_name(y: Style, s: &[u8], from: usize) -> bool
 }
 
 // How a text begins: where its message does, or with `NP:` and a name alone; or the refusal's number.
-enum Begun {
+pub enum Begun {
     Message(usize),
     Name,
     Refused(u64),
@@ -200,7 +200,7 @@ fn opens_at(s: &[u8], from: usize) -> bool
 }
 
 // The beginning of a text whose bytes are all text bytes.
-fn begin_text(y: Style, s: &[u8], from: usize) -> Begun
+pub fn begin_text(y: Style, s: &[u8], from: usize) -> Begun
     requires { ⌜ from ≤ length (now s) ⌝ }
     ensures { λ r. ⌜ Begins y (now (s .entry)) from r (ofText y from (drop from (now (s .entry)))) ⌝ }
 {

@@ -7,15 +7,15 @@ use Rattle.takeitem.proofs.take_text.Tie as tie
 use Rattle.takeitem.proofs.take_text.Reads as reads
 use Rattle.takeitem.proofs.take_text.Lts as lts
 use Rattle.takeitem.proofs.message_start.Reads as message-start-reads
-use Rattle.takeitem.proofs.read_again.Reads as read-again-reads
+use Rattle.takeitem.proofs.take_varied.Reads as take-varied-reads
 use Rattle.takeitem.proofs.take_parts.Reads as take-parts-reads
 use Rattle.takeitem.proofs.varied.Reads as varied-reads
 
 varied-requires : tie.Need-varied-requires
 varied-requires c κs = search needs
 
-read-again-requires : tie.Need-read-again-requires
-read-again-requires c κs = search needs
+take-varied-requires : tie.Need-take-varied-requires
+take-varied-requires c κs = search needs
 
 returns : tie.Need-returns
 returns c = search needs
@@ -34,7 +34,7 @@ take-text-spec =
     tie.close
     (tie.spec
     varied-requires
-    read-again-requires
+    take-varied-requires
     returns
     message-start-requires
     take-parts-requires
