@@ -47,11 +47,8 @@ static struct lent lend(struct kept *k, struct slice s, const struct asking *a)
 static void lend_call(struct kept *k, const struct asking *a)
 {
     const struct call *c = &a->call;
-    struct request r = {
-        .which = c->which, .sheet = c->sheet, .today = c->today,
-        .date = c->date, .client = c->client, .from = c->from, .to = c->to,
-        .line = c->line, .file = lend(k, c->file, a),
-    };
+    struct request r = request_of_call(c);
+    r.file = lend(k, c->file, a);
     if (c->which == WRITES) {
         r.texts = lend(k, c->texts, a);
         r.name = lend(k, c->name, a);

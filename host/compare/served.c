@@ -1,5 +1,19 @@
 #include "served.h"
 
+struct request request_of_call(const struct call *c)
+{
+    return (struct request){
+        .which = c->which,
+        .sheet = c->sheet,
+        .today = c->today,
+        .date = c->date,
+        .client = c->client,
+        .from = c->from,
+        .to = c->to,
+        .line = c->line,
+    };
+}
+
 static struct slice slice_of(struct lent l, const uint8_t *bytes)
 {
     const uint8_t *at = l.place == NOWHERE ? NULL : bytes + l.place;

@@ -36,6 +36,9 @@ struct slot {
 _Static_assert(sizeof(struct outcome) == 120 && sizeof(struct request) == 248,
                "the layout is another one here");
 
+/* What the call asks, with nothing lent yet. */
+struct request request_of_call(const struct call *c);
+
 /* The call, its slices lying in these bytes of a slot. */
 struct call call_of_request(const struct request *r, const uint8_t *bytes);
 

@@ -14,7 +14,7 @@ static struct slot *slots;
 static struct slot kept; /* what was lent */
 static size_t used;
 
-static void give_up(const char *why)
+static void stop(const char *why)
 {
     printf("failed: %s\n", why);
     fflush(stdout);
@@ -27,7 +27,7 @@ static void start(void)
     size_t count = 0;
     char *server = getenv("SERVER");
     if (server == NULL)
-        give_up("SERVER does not say how to start the server");
+        stop("SERVER does not say how to start the server");
     for (char *word = strtok(server, " "); word != NULL && count < WORDS;
          word = strtok(NULL, " "))
         words[count++] = word;
@@ -38,7 +38,7 @@ static struct lent lend(const uint8_t *bytes, size_t len)
 {
     size_t at = used + GUARD;
     if (at + len + GUARD > SLOT_BYTES)
-        give_up("the call has more bytes than a slot");
+        stop("the call has more bytes than a slot");
     memset(kept.bytes + used, FILL, len + 2 * GUARD);
     if (bytes != NULL)
         memcpy(kept.bytes + at, bytes, len);
@@ -51,25 +51,22 @@ struct outcome call_abo(const struct call *c, uint8_t *out, size_t room)
     if (slots == NULL)
         start();
     used = 0;
-    struct request r = {
-        .which = c->which, .sheet = c->sheet, .today = c->today,
-        .date = c->date, .client = c->client, .from = c->from, .to = c->to,
-        .file = lend(c->file.bytes, c->file.len),
-        .texts = lend(c->texts.bytes, c->texts.len),
-        .name = lend(c->name.bytes, c->name.len),
-        .out = lend(out, room),
-    };
+    struct request r = request_of_call(c);
+    r.file = lend(c->file.bytes, c->file.len);
+    r.texts = lend(c->texts.bytes, c->texts.len);
+    r.name = lend(c->name.bytes, c->name.len);
+    r.out = lend(out, room);
     size_t first = used - GUARD - room;
     slots[0].count = 1;
     slots[0].requests[0] = r;
     memcpy(slots[0].bytes, kept.bytes, used);
     hand_slot(0);
     if (!take_slot(0))
-        give_up("the server ended in the call");
+        stop("the server ended in the call");
     if (memcmp(slots[0].bytes, kept.bytes, first) != 0 ||
         memcmp(slots[0].bytes + first + room, kept.bytes + first + room,
                GUARD) != 0)
-        give_up("bytes around the room or lent to be read have changed");
+        stop("bytes around the room or lent to be read have changed");
     if (out != NULL)
         memcpy(out, slots[0].bytes + first, room);
     return slots[0].requests[0].answer;
