@@ -5,6 +5,7 @@
 # or COUNTER=valgrind chooses. A count is exact and the same in each run; under qemu also on each machine, where valgrind lets
 # the C library take the variants of memchr and memcpy that suit the processor.
 . host/target.sh
+. host/tally.sh
 static=-static
 build_test measure || exit 2
 measure=$build/measure
@@ -50,23 +51,11 @@ kinds_for() { # CALL SHEET KIND ..: KINDS or these; cut texts are on C alone, an
     echo "${KINDS:-$* $cut}"
 }
 
-passed=0
-failed=0
-check() { # WHAT CONDITION-OF-AWK: counts it, and says what failed
-    if awk "BEGIN { exit !($2) }"; then
-        passed=$((passed + 1))
-    else
-        failed=$((failed + 1))
-        echo "failed: $1"
-    fi
+holds() { # CONDITION-OF-AWK
+    awk "BEGIN { exit !($1) }"
 }
 
 refused() { # WHAT: a call that refused, or two that differ
     cat "$build/measure.out" "$build/measure.err"
-    check "$1: not accepted, or not alike" 0
-}
-
-close() {
-    echo "$passed passed, $failed failed"
-    [ "$failed" -eq 0 ]
+    check "$1: not accepted, or not alike" false
 }

@@ -14,7 +14,7 @@ cd "$(dirname "$0")/.."
 . bench/build.sh
 
 alike() { # WHAT A B
-    check "$1: $2 instructions a byte on a smaller file, $3 on a larger" "$3 <= $2 * 1.1 && $2 <= $3 * 1.1"
+    check "$1: $2 instructions a byte on a smaller file, $3 on a larger" holds "$3 <= $2 * 1.1 && $2 <= $3 * 1.1"
 }
 
 grow() { # CALL SHEET KIND
@@ -42,4 +42,4 @@ for call in ${CALLS:-read write}; do
         for kind in $(kinds_for "$call" "$sheet" wages groups); do grow "$call" "$sheet" "$kind"; done
     done
 done
-close
+last_line

@@ -32,7 +32,7 @@ line() { # CALL SHEET KIND
     speed=
     if [ "$times" -gt 0 ]; then speed=$(timed "$1" "$2" "$3") || { refused "$1 $2 $3"; return; }; fi
     printf '%-5s %-9s %10s %9s %9s %7s%s\n' "$2" "$3" "$bytes" "$library" "$peer" "$ratio" "$speed"
-    check "$1 $2 $3: $ratio times the instructions, over ${LIMIT:-}" "$ratio <= ${LIMIT:-$ratio}"
+    check "$1 $2 $3: $ratio times the instructions, over ${LIMIT:-}" holds "$ratio <= ${LIMIT:-$ratio}"
     if [ -n "${BY:-}" ]; then for who in abo peer; do LIB=$lib sh bench/profile.sh "$1" $who "$2" "$3" "$size"; done; fi
 }
 
@@ -44,4 +44,4 @@ for call in ${CALLS:-read write}; do
         for kind in $(kinds_for "$call" "$sheet" wages invoices shortest longest groups files); do line "$call" "$sheet" "$kind"; done
     done
 done
-close
+last_line

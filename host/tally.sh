@@ -1,4 +1,4 @@
-# Read by tests of this folder that are scripts: counts checks, and says the last line.
+# Read by the scripts that test or measure: counts checks, and says the last line.
 
 passed=0
 failed=0
