@@ -11,7 +11,8 @@
 #include <stdio.h>
 #include <string.h>
 
-#include "../../peer/peer.h"
+#include "../call/call_made.h"
+#include "../call/call_peer.h"
 #include "../call/show.h"
 #include "../generate/damage.h"
 #include "../generate/generate.h"
@@ -152,10 +153,7 @@ static void wild_arguments(struct call *c)
 
 static void attack_draft(const char *what, const struct draft *draft)
 {
-    struct call c = {.which = WRITES, .date = draft->date,
-                     .client = draft->client, .from = draft->from,
-                     .to = draft->to, .sheet = draft->sheet,
-                     .today = draft->today};
+    struct call c = call_of_draft(draft);
     lend_draft(&c, draft);
     wild_arguments(&c);
     ask_rooms(what, &c);
@@ -164,9 +162,8 @@ static void attack_draft(const char *what, const struct draft *draft)
 /* Is it only room that is wanting? */
 static bool is_valid(const struct draft *d)
 {
-    return peer_write(d->rows.data, d->rows.len, d->texts.data, d->texts.len,
-                      d->date, d->name, d->name_len, d->client, d->from, d->to,
-                      d->sheet, d->today, NULL, 0).number == 16;
+    struct call c = call_of_draft(d);
+    return call_peer(&c, NULL, 0).number == ABO_NO_ROOM;
 }
 
 /* Draws until one is valid, as some one in four is, but not for ever. */
@@ -233,10 +230,7 @@ static void write_what_was_read(struct call c, const struct outcome *read)
     c.texts = c.file;
     c.name = (struct slice){c.file.bytes + NAME_AT, NAME};
     c.file = lend_part(1, rows.data, rows.len);
-    c.date = read->words[HEADER_WORDS];
-    c.client = read->words[HEADER_WORDS + 1];
-    c.from = read->words[HEADER_WORDS + 2];
-    c.to = read->words[HEADER_WORDS + 3];
+    give_header(&c, read);
     wild_arguments(&c);
     ask_rooms("what was read", &c);
 }
@@ -256,8 +250,7 @@ static void find_lines(const char *what, struct call c, uint64_t refused)
 /* Explained, read and, if it says a batch, written; and lines of it found. */
 static void attack_made(const char *what, const struct made *made, bool wild)
 {
-    struct call c = {.which = EXPLAINS, .sheet = made->sheet,
-                     .today = made->today};
+    struct call c = call_of_made(EXPLAINS, made);
     scene.parts_used = 0;
     c.file = lend_part(0, made->file.data, made->file.len);
     if (wild)

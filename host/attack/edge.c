@@ -1,8 +1,7 @@
 #define _DEFAULT_SOURCE /* for mprotect */
 #include "edge.h"
+#include "../call/show.h"
 
-#include <stdio.h>
-#include <stdlib.h>
 #include <string.h>
 #include <sys/mman.h>
 
@@ -47,10 +46,8 @@ bool edge_kept(const struct edge *e, size_t used)
 
 static void protect(struct edge *e, size_t len, int how)
 {
-    if (len > 0 && mprotect(first_byte(e), len, how) != 0) {
-        perror("pages");
-        exit(2);
-    }
+    if (len > 0 && mprotect(first_byte(e), len, how) != 0)
+        give_up("pages");
 }
 
 void edge_seal(struct edge *e)

@@ -2,10 +2,9 @@
    holds the thread's own data, of which nobody says how much it is. */
 #define _DEFAULT_SOURCE /* for MAP_ANONYMOUS */
 #include "narrow.h"
+#include "../call/show.h"
 
 #include <stdint.h>
-#include <stdio.h>
-#include <stdlib.h>
 #include <string.h>
 #include <sys/mman.h>
 #include <ucontext.h>
@@ -16,12 +15,6 @@ enum { GUARD = 1 << 20, PAINT = 0xd7 };
 
 static uint8_t *stacks[NARROW_STACKS];
 static ucontext_t here, there;
-
-static void give_up(const char *why)
-{
-    perror(why);
-    exit(2);
-}
 
 static uint8_t *make_stack(void)
 {

@@ -13,6 +13,7 @@
 #include <sys/wait.h>
 #include <unistd.h>
 
+#include "../call/call_made.h"
 #include "../call/show.h"
 #include "../generate/corners.h"
 #include "../generate/dice.h"
@@ -53,10 +54,7 @@ static void write_again(const char *what, unsigned place, struct call c,
     c.texts = c.file;
     c.file = lend_part(1, scene.ours.lent, (size_t)read->written);
     c.name = lend_part(2, read->name, sizeof read->name);
-    c.date = read->words[HEADER_WORDS];
-    c.client = read->words[HEADER_WORDS + 1];
-    c.from = read->words[HEADER_WORDS + 2];
-    c.to = read->words[HEADER_WORDS + 3];
+    give_header(&c, read);
     struct outcome w = ask_exact(what, place, &c);
     check(w.number == ABO_ACCEPTED, "what was read is not written again");
 }
@@ -76,8 +74,7 @@ static void find_lines(const char *what, unsigned place, struct call c,
 static uint64_t test_file(const char *what, unsigned place,
                           const struct made *made)
 {
-    struct call c = {.which = EXPLAINS, .sheet = made->sheet,
-                     .today = made->today};
+    struct call c = call_of_made(EXPLAINS, made);
     c.file = lend_part(0, made->file.data, made->file.len);
     ask(what, place, &c, ABO_EXPLAIN_BYTES);
     c.which = READS;

@@ -52,6 +52,20 @@ bool same_outcome(const struct outcome *a, const struct outcome *b)
            memcmp(a->name, b->name, sizeof a->name) == 0;
 }
 
+bool same_header(const struct abo_header *a, const struct abo_header *b)
+{
+    return a->date == b->date && a->client == b->client && a->from == b->from &&
+           a->to == b->to && memcmp(a->name, b->name, sizeof a->name) == 0;
+}
+
+void give_header(struct call *c, const struct outcome *read)
+{
+    c->date = read->words[HEADER_WORDS];
+    c->client = read->words[HEADER_WORDS + 1];
+    c->from = read->words[HEADER_WORDS + 2];
+    c->to = read->words[HEADER_WORDS + 3];
+}
+
 void show_call(const struct call *c, size_t room, bool at_null)
 {
     printf("  abo_%s: sheet %llu today %llu room %zu%s line %llu\n",

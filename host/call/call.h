@@ -46,6 +46,10 @@ struct outcome outcome_of_text(const struct abo_text *t);
 struct outcome outcome_of_found(const struct abo_found *f);
 
 bool same_outcome(const struct outcome *a, const struct outcome *b);
+bool same_header(const struct abo_header *a, const struct abo_header *b);
+
+/* Gives a call of writing the header's numbers that reading gave. */
+void give_header(struct call *c, const struct outcome *read);
 
 void show_call(const struct call *c, size_t room, bool at_null);
 void show_outcome(const char *who, const struct outcome *o);

@@ -1,18 +1,12 @@
 #define _DEFAULT_SOURCE /* for MAP_ANONYMOUS */
 #include "lend.h"
+#include "show.h"
 
-#include <stdio.h>
 #include <stdlib.h>
 #include <string.h>
 #include <sys/mman.h>
 
 enum { GUARD = 64, PAGE = 4096 };
-
-static void give_up(const char *why)
-{
-    perror(why);
-    exit(2);
-}
 
 void lend_room(struct room *r, size_t len, size_t skew, uint8_t fill)
 {
@@ -31,6 +25,14 @@ void lend_room(struct room *r, size_t len, size_t skew, uint8_t fill)
     r->fill = fill;
 }
 
+void lend_both(struct room *ours, struct room *theirs, size_t len)
+{
+    static uint8_t turn;
+    turn = (uint8_t)(turn * 5 + 113);
+    lend_room(ours, len, turn >> 4, turn);
+    lend_room(theirs, len, turn >> 2, turn);
+}
+
 /* Each byte is the fill if the first is and each is like the one before. */
 static bool all_filled(const uint8_t *bytes, size_t len, uint8_t fill)
 {
@@ -44,6 +46,11 @@ bool room_untouched(const struct room *r, size_t used)
     return used <= r->len &&
            all_filled(r->all, (size_t)(r->bytes - r->all), r->fill) &&
            all_filled(behind, (size_t)(end - behind), r->fill);
+}
+
+bool same_bytes(const uint8_t *a, const uint8_t *b, size_t len)
+{
+    return len == 0 || memcmp(a, b, len) == 0;
 }
 
 static void map_pages(struct fence *f, size_t len)

@@ -19,8 +19,15 @@ struct room {
 /* Lends so many bytes, at an address that is `skew` past a multiple of 16. */
 void lend_room(struct room *r, size_t len, size_t skew, uint8_t fill);
 
+/* Lends as many to the library and to the second program, with another fill and
+   other alignments in each call. */
+void lend_both(struct room *ours, struct room *theirs, size_t len);
+
 /* Are all bytes but the first so many of the lent ones as they were? */
 bool room_untouched(const struct room *r, size_t used);
+
+/* Of no bytes there need be no pointers. */
+bool same_bytes(const uint8_t *a, const uint8_t *b, size_t len);
 
 /* Bytes to be read only.  They end, or begin, at a page that nobody may touch,
    which stops code that no sanitizer has seen. */

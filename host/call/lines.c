@@ -1,18 +1,13 @@
 #include "lines.h"
+#include "../generate/memory.h"
 
 #include <stdbool.h>
-#include <stdio.h>
-#include <stdlib.h>
 
 static void add_line(struct lines *l, size_t start, size_t end)
 {
     if (l->count == l->room) {
         l->room = 2 * l->room + 64;
-        l->list = realloc(l->list, l->room * sizeof *l->list);
-        if (l->list == NULL) {
-            fputs("no memory\n", stderr);
-            exit(2);
-        }
+        l->list = resized(l->list, l->room * sizeof *l->list);
     }
     l->list[l->count++] = (struct abo_found){1, start, end - start};
 }

@@ -83,6 +83,12 @@ void catch_crashes(void)
         sigaction(numbers[i], &action, NULL);
 }
 
+void give_up(const char *what)
+{
+    perror(what);
+    exit(2);
+}
+
 int last_line(void)
 {
     printf("%lu passed, %lu failed\n", passed, failed);

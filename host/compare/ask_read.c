@@ -1,5 +1,6 @@
 #include "ask_read.h"
 #include "../call/as_abo.h"
+#include "../call/call.h"
 #include "../call/lend.h"
 #include "../call/show.h"
 #include "../generate/dice.h"
@@ -7,7 +8,6 @@
 #include "../generate/words.h"
 
 #include <stdio.h>
-#include <string.h>
 
 static struct fence fence;
 static struct room ours, theirs;
@@ -26,12 +26,9 @@ struct ask {
 
 static bool same_answer(const struct abo_answer *a, const struct abo_answer *b)
 {
-    const struct abo_header *h = &a->header, *i = &b->header;
     return a->number == b->number && a->line == b->line && a->byte == b->byte &&
            a->rows == b->rows && a->warnings == b->warnings &&
-           a->needed == b->needed && h->date == i->date &&
-           h->client == i->client && h->from == i->from && h->to == i->to &&
-           memcmp(h->name, i->name, sizeof h->name) == 0;
+           a->needed == b->needed && same_header(&a->header, &b->header);
 }
 
 static void show_answer(const char *who, const struct abo_answer *a)
@@ -60,9 +57,9 @@ static const char *fault_of(const struct ask *q, const struct abo_answer *a,
         return "more rows than there is room for";
     if (!room_untouched(&ours, used) || !room_untouched(&theirs, used))
         return "bytes outside the rows were touched";
-    if (used > 0 && memcmp(ours.bytes, theirs.bytes, used) != 0)
+    if (!same_bytes(ours.bytes, theirs.bytes, used))
         return "the rows differ";
-    if (q->len > 0 && memcmp(q->file, q->original, q->len) != 0)
+    if (!same_bytes(q->file, q->original, q->len))
         return "the file was changed";
     return NULL;
 }
@@ -99,11 +96,7 @@ static void show_fault(const struct ask *q, const char *fault,
 
 static struct abo_answer ask_both(const struct ask *q)
 {
-    /* Another fill and alignment in each call. */
-    static uint8_t turn;
-    turn = (uint8_t)(turn * 5 + 113);
-    lend_room(&ours, q->room, turn >> 4, turn);
-    lend_room(&theirs, q->room, turn >> 2, turn);
+    lend_both(&ours, &theirs, q->room);
     in_hand(q->what, q->seed, q->original, q->len);
     struct abo_answer a =
         abo_read(q->file, q->len, q->sheet, q->today,

@@ -6,7 +6,6 @@
 #include "../generate/words.h"
 
 #include <stdio.h>
-#include <string.h>
 
 static struct fence rows_fence, texts_fence, name_fence;
 static struct room ours, theirs;
@@ -45,11 +44,6 @@ static bool same_answer(const struct abo_written *a,
 {
     return a->number == b->number && a->row == b->row && a->field == b->field &&
            a->bytes == b->bytes;
-}
-
-static bool same_bytes(const uint8_t *a, const uint8_t *b, size_t len)
-{
-    return len == 0 || memcmp(a, b, len) == 0;
 }
 
 /* What is wrong, or NULL. */
@@ -137,11 +131,7 @@ static void count_answer(const struct draft *d, const struct abo_written *a)
 
 static struct abo_written ask_both(const struct ask *q)
 {
-    /* Another fill and alignment in each call. */
-    static uint8_t turn;
-    turn = (uint8_t)(turn * 5 + 113);
-    lend_room(&ours, q->room, turn >> 4, turn);
-    lend_room(&theirs, q->room, turn >> 2, turn);
+    lend_both(&ours, &theirs, q->room);
     in_hand(q->what, q->seed, q->draft->rows.data, q->draft->rows.len);
     struct abo_written a = ask_abo(q), p = ask_peer(q);
     const char *fault = fault_of(q, &a, &p);

@@ -149,12 +149,8 @@ static int make(char **argument)
 static int generate_to(char **argument)
 {
     struct made made = {0};
-    FILE *to = fopen(argument[1], "wb");
-    if (to == NULL)
-        return 2;
     generate(&made, strtoull(argument[0], NULL, 10));
-    bool whole = fwrite(made.file.data, 1, made.file.len, to) == made.file.len;
-    whole = fclose(to) == 0 && whole;
+    bool whole = text_save(&made.file, argument[1]);
     printf("%" PRIu64 " %" PRIu64 "\n", made.sheet, made.today);
     text_free(&made.file);
     return whole ? 0 : 2;

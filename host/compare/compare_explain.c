@@ -5,7 +5,6 @@
  *   compare_explain [FILES [SEED [STEP]]]     as seeds.h says
  */
 #include <stdio.h>
-#include <string.h>
 
 #include "../call/as_abo.h"
 #include "../call/lend.h"
@@ -36,9 +35,9 @@ static const char *fault_of(struct abo_text a, struct abo_text p,
         return "the answers differ";
     if (!room_untouched(&ours, used) || !room_untouched(&theirs, used))
         return "bytes outside the output were touched";
-    if (used > 0 && memcmp(ours.bytes, theirs.bytes, used) != 0)
+    if (!same_bytes(ours.bytes, theirs.bytes, used))
         return "the lines differ";
-    if (m->file.len > 0 && memcmp(file, m->file.data, m->file.len) != 0)
+    if (!same_bytes(file, m->file.data, m->file.len))
         return "the file was changed";
     return NULL;
 }
@@ -47,10 +46,7 @@ static struct abo_text ask_both(const char *what, uint64_t seed,
                                 const struct made *m, const uint8_t *file,
                                 size_t room)
 {
-    static uint8_t turn;
-    turn = (uint8_t)(turn * 5 + 113);
-    lend_room(&ours, room, turn >> 4, turn);
-    lend_room(&theirs, room, turn >> 2, turn);
+    lend_both(&ours, &theirs, room);
     in_hand(what, seed, m->file.data, m->file.len);
     struct abo_text a = abo_explain(file, m->file.len, m->sheet, m->today,
                                     room == 0 ? NULL : ours.bytes, room);

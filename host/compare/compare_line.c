@@ -9,7 +9,6 @@
  *   compare_line [FILES [SEED [STEP]]]     as seeds.h says
  */
 #include <stdio.h>
-#include <string.h>
 
 #include "../call/lend.h"
 #include "../call/lines.h"
@@ -113,8 +112,7 @@ static void compare_file(const char *name, uint64_t at, const struct made *m)
     ask(roll_bits(&d));
     ask(UINT64_MAX);
     ask_refusal();
-    check(len == 0 || file == NULL || memcmp(file, m->file.data, len) == 0,
-          "the file was changed");
+    check(same_bytes(file, m->file.data, len), "the file was changed");
 }
 
 /* The file of so many bytes that a number spells in the base of three. */

@@ -8,11 +8,10 @@
 #include <stdio.h>
 #include <string.h>
 
+#include "../call/call_made.h"
 #include "../call/call_peer.h"
 #include "../call/show.h"
 #include "../generate/dice.h"
-#include "../generate/draft.h"
-#include "../generate/generate.h"
 #include "../generate/plan.h"
 #include "../generate/seeds.h"
 #include "ask_remote.h"
@@ -60,13 +59,10 @@ static void ask_files(struct seeds seeds, enum which which)
     for (uint64_t i = 0; i < seeds.count; i++) {
         struct dice lines = {seeds.first + i};
         generate(&made, seeds.first + i);
-        ask(seeds.first + i, &(struct call){
-            .which = which,
-            .line = which == FINDS ? below(&lines, 24) : 0,
-            .file = {made.file.data, made.file.len},
-            .sheet = made.sheet,
-            .today = made.today,
-        });
+        struct call call = call_of_made(which, &made);
+        if (which == FINDS)
+            call.line = below(&lines, 24);
+        ask(seeds.first + i, &call);
     }
     text_free(&made.file);
 }
@@ -76,18 +72,8 @@ static void ask_batches(struct seeds seeds)
     struct draft draft = {0};
     for (uint64_t i = 0; i < seeds.count; i++) {
         draw_draft(&draft, seeds.first + i);
-        ask(seeds.first + i, &(struct call){
-            .which = WRITES,
-            .file = {draft.rows.data, draft.rows.len},
-            .texts = {draft.texts.data, draft.texts.len},
-            .name = {draft.name, draft.name_len},
-            .date = draft.date,
-            .client = draft.client,
-            .from = draft.from,
-            .to = draft.to,
-            .sheet = draft.sheet,
-            .today = draft.today,
-        });
+        struct call call = call_of_draft(&draft);
+        ask(seeds.first + i, &call);
     }
     free_draft(&draft);
 }

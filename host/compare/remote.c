@@ -1,21 +1,15 @@
 #define _GNU_SOURCE /* for memfd_create */
 #include "remote.h"
+#include "../call/show.h"
 
 #include <signal.h>
 #include <stdio.h>
-#include <stdlib.h>
 #include <sys/mman.h>
 #include <sys/wait.h>
 #include <unistd.h>
 
 static pid_t server;
 static int to_server, from_server;
-
-static void give_up(const char *why)
-{
-    perror(why);
-    exit(2);
-}
 
 static void become_server(char **command, int memory, int in, int out)
 {

@@ -1,14 +1,15 @@
 /* Here the library is held against itself: the canonical file says the same
    batch and header, and is its own canonical file. */
 #include "round_trip.h"
+#include "../call/call.h"
 #include "../call/show.h"
 #include "../generate/draft.h"
 #include "../generate/generate.h"
 #include "../generate/limits.h"
+#include "../generate/memory.h"
 #include "../generate/words.h"
 
 #include <stdio.h>
-#include <stdlib.h>
 #include <string.h>
 
 /* A file and what reading it gave; or texts, and rows that were drawn. */
@@ -19,14 +20,6 @@ struct reading {
     uint8_t *rows;
 };
 
-static void *room_of(size_t bytes)
-{
-    void *room = malloc(bytes > 0 ? bytes : 1);
-    if (room == NULL)
-        exit(2);
-    return room;
-}
-
 static struct reading read_all(const uint8_t *file, size_t len, uint64_t sheet,
                                uint64_t today)
 {
@@ -34,7 +27,7 @@ static struct reading read_all(const uint8_t *file, size_t len, uint64_t sheet,
     r.answer = abo_read(file, len, sheet, today, NULL, 0);
     if (r.answer.number == 16) {
         size_t bytes = (size_t)r.answer.needed * ABO_ROW_BYTES;
-        r.rows = room_of(bytes);
+        r.rows = resized(NULL, bytes);
         r.answer = abo_read(file, len, sheet, today, r.rows, bytes);
     }
     return r;
@@ -106,12 +99,6 @@ static bool is_tidy(const struct reading *r)
     return true;
 }
 
-static bool same_header(const struct abo_header *a, const struct abo_header *b)
-{
-    return a->date == b->date && a->client == b->client && a->from == b->from &&
-           a->to == b->to && memcmp(a->name, b->name, sizeof a->name) == 0;
-}
-
 /* A canonical file warns of nothing but C's past days, which are the batch's
    own. */
 static uint64_t due_warnings(const struct reading *r, uint64_t sheet,
@@ -130,7 +117,7 @@ static const char *second_fault(const struct reading *a, uint64_t sheet,
 {
     const char *fault = NULL;
     struct reading b = read_all(out, len, sheet, today);
-    uint8_t *again = room_of(len);
+    uint8_t *again = resized(NULL, len);
     if (b.answer.number != 0)
         fault = "the canonical file is refused";
     else if (sheet != C && !same_header(&a->answer.header, &b.answer.header))
@@ -156,7 +143,7 @@ static const char *round_fault(const struct reading *a, uint64_t sheet,
     const char *fault = NULL;
     *written = w.number == 16;
     if (*written) {
-        uint8_t *out = room_of(len);
+        uint8_t *out = resized(NULL, len);
         if (write_back(a, sheet, today, out, len).number == 0)
             fault = second_fault(a, sheet, today, out, len);
         else

@@ -117,12 +117,8 @@ static void save(const struct text *t, const char *folder, uint64_t seed)
     char path[4096];
     snprintf(path, sizeof path, "%s/made%llu", folder,
              (unsigned long long)seed);
-    FILE *f = fopen(path, "wb");
-    if (f == NULL || fwrite(t->data, 1, t->len, f) != t->len ||
-        fclose(f) != 0) {
-        perror(path);
-        exit(2);
-    }
+    if (!text_save(t, path))
+        give_up(path);
 }
 
 static void make_inputs(const char *folder, uint64_t count, uint64_t seed)

@@ -8,12 +8,6 @@ enum { HEAD = 5, WRITE_HEAD = 17, NAME = ABO_NAME_BYTES, ENOUGH_ROOM = 128, NO_S
    explanation the finding of a line. */
 enum { CHOICES = 3, LINE_BIT = 32 };
 
-static void put_number(struct text *out, uint64_t number, size_t bytes)
-{
-    for (size_t i = 0; i < bytes; i++, number >>= 8)
-        text_byte(out, (uint8_t)number);
-}
-
 static uint64_t take_day(const uint8_t *data)
 {
     uint64_t place = number_at(data, 2);
@@ -25,7 +19,7 @@ static void put_day(struct text *out, uint64_t day)
     size_t place = 0;
     while (place < DAYS && day_at(place) != day)
         place++;
-    put_number(out, place, 2);
+    text_low_bytes(out, place, 2);
 }
 
 /* What writing has behind the first bytes. */
@@ -105,7 +99,7 @@ void put_line_input(struct text *out, const struct made *made, struct dice *d)
     text_clear(out);
     text_byte(out, (uint8_t)(EXPLAINS + CHOICES * (LINE_BIT + below(d, 2))));
     text_byte(out, (uint8_t)made->sheet);
-    put_number(out, below(d, 16), 2);
+    text_low_bytes(out, below(d, 16), 2);
     text_byte(out, one_in(d, 8));
     text_bytes(out, made->file.data, made->file.len);
 }
@@ -117,9 +111,9 @@ void put_draft_input(struct text *out, const struct draft *draft,
     put_head(out, WRITES, draft->sheet, draft->today, d);
     text_byte(out, (uint8_t)texts);
     put_day(out, draft->date);
-    put_number(out, draft->from, 2);
-    put_number(out, draft->to, 2);
-    put_number(out, draft->client, 5);
+    text_low_bytes(out, draft->from, 2);
+    text_low_bytes(out, draft->to, 2);
+    text_low_bytes(out, draft->client, 5);
     text_bytes(out, draft->name, NAME);
     text_bytes(out, draft->texts.data, texts);
     text_bytes(out, draft->rows.data, draft->rows.len);

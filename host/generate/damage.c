@@ -1,7 +1,6 @@
 #include "damage.h"
 #include "plan.h"
 
-#include <stdlib.h>
 #include <string.h>
 
 static bool is_end(uint8_t byte)
@@ -36,13 +35,10 @@ static size_t any_line(const struct text *t, struct dice *d)
 static void copy_line(struct text *t, struct dice *d)
 {
     size_t from = any_line(t, d), to = any_line(t, d);
-    size_t len = line_behind(t, from) - from;
-    uint8_t *line = malloc(len + 1);
-    if (line == NULL)
-        exit(2);
-    memcpy(line, t->data + from, len);
-    text_replace(t, to, 0, line, len);
-    free(line);
+    struct text line = {0};
+    text_bytes(&line, t->data + from, line_behind(t, from) - from);
+    text_replace(t, to, 0, line.data, line.len);
+    text_free(&line);
 }
 
 static void drop_line(struct text *t, struct dice *d)
@@ -55,14 +51,12 @@ static void drop_line(struct text *t, struct dice *d)
 static void swap_lines(struct text *t, struct dice *d)
 {
     size_t from = any_line(t, d), middle = line_behind(t, from);
-    size_t behind = line_behind(t, middle), len = middle - from;
-    uint8_t *line = malloc(len + 1);
-    if (line == NULL)
-        exit(2);
-    memcpy(line, t->data + from, len);
+    size_t behind = line_behind(t, middle);
+    struct text line = {0};
+    text_bytes(&line, t->data + from, middle - from);
     memmove(t->data + from, t->data + middle, behind - middle);
-    memcpy(t->data + from + (behind - middle), line, len);
-    free(line);
+    memcpy(t->data + from + (behind - middle), line.data, line.len);
+    text_free(&line);
 }
 
 static void add_line(struct text *t, struct dice *d)

@@ -1,7 +1,6 @@
 #include "text.h"
+#include "memory.h"
 
-#include <stdio.h>
-#include <stdlib.h>
 #include <string.h>
 
 static void reserve(struct text *t, size_t more)
@@ -9,11 +8,7 @@ static void reserve(struct text *t, size_t more)
     if (t->data != NULL && more <= t->room - t->len)
         return;
     t->room = (t->len + more) * 2 + 64;
-    t->data = realloc(t->data, t->room);
-    if (t->data == NULL) {
-        fputs("no memory\n", stderr);
-        exit(2);
-    }
+    t->data = resized(t->data, t->room);
 }
 
 void text_bytes(struct text *t, const void *bytes, size_t len)
@@ -61,10 +56,15 @@ void text_number(struct text *t, uint64_t value, size_t digits)
         t->data[t->len - i] = (uint8_t)('0' + value % 10);
 }
 
+void text_low_bytes(struct text *t, uint64_t number, size_t count)
+{
+    for (size_t i = 0; i < count; i++, number >>= 8)
+        text_byte(t, (uint8_t)number);
+}
+
 void text_word(struct text *t, uint64_t word)
 {
-    for (int i = 0; i < 8; i++, word >>= 8)
-        text_byte(t, (uint8_t)word);
+    text_low_bytes(t, word, 8);
 }
 
 void text_replace(struct text *t, size_t at, size_t removed, const void *bytes,
@@ -91,6 +91,13 @@ bool text_load(struct text *t, const char *path)
     bool whole = !ferror(f);
     fclose(f);
     return whole;
+}
+
+bool text_save(const struct text *t, const char *path)
+{
+    FILE *f = fopen(path, "wb");
+    bool whole = f != NULL && fwrite(t->data, 1, t->len, f) == t->len;
+    return f != NULL && fclose(f) == 0 && whole;
 }
 
 void text_clear(struct text *t)

@@ -1,0 +1,27 @@
+#include "call_made.h"
+
+struct call call_of_made(enum which which, const struct made *made)
+{
+    return (struct call){
+        .which = which,
+        .file = {made->file.data, made->file.len},
+        .sheet = made->sheet,
+        .today = made->today,
+    };
+}
+
+struct call call_of_draft(const struct draft *draft)
+{
+    return (struct call){
+        .which = WRITES,
+        .file = {draft->rows.data, draft->rows.len},
+        .texts = {draft->texts.data, draft->texts.len},
+        .name = {draft->name, draft->name_len},
+        .date = draft->date,
+        .client = draft->client,
+        .from = draft->from,
+        .to = draft->to,
+        .sheet = draft->sheet,
+        .today = draft->today,
+    };
+}

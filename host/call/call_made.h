@@ -1,0 +1,15 @@
+/* Calls of what the generators make. */
+#ifndef HOST_CALL_MADE_H
+#define HOST_CALL_MADE_H
+
+#include "../generate/draft.h"
+#include "../generate/generate.h"
+#include "call.h"
+
+/* A file to be read or explained, or to find a line in. */
+struct call call_of_made(enum which which, const struct made *made);
+
+/* A batch to be written. */
+struct call call_of_draft(const struct draft *draft);
+
+#endif
