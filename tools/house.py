@@ -7,7 +7,10 @@
   - a function has at most 40 lines without its contract, and at most one loop
   - a file of definitions or proofs has at most 400 lines
   - what an edit of must-fail/ or more-edits/ takes out stands in its file exactly once
-  - what a page links to is there
+  - what a page links to is there, and so is each path that a page, script or C file names
+  - each header, program and script of host/ and bench/ says in its first lines what it holds; a source beside its header need not
+  - docs/TESTING.md names each folder of host/ and each test of host/run.sh, and what it says a test is made of is there
+  - no two programs have one name, as build/NAME is made of the NAME.c of any folder
   - no proof names a line of the source by its number, as the next edit moves it
 """
 import pathlib
@@ -114,14 +117,60 @@ def edits():
                 check(count == 1, f"{path.relative_to(ROOT)}: what it takes out stands {count} times there: {line[5:].strip()}")
 
 
+def pages():
+    return [ROOT / "README.md", *sorted((ROOT / "docs").glob("*.md"))]
+
+
+def c_side():
+    files = (path for folder in ("host", "bench") for path in (ROOT / folder).rglob("*"))
+    return sorted(path for path in files if path.suffix in (".c", ".h", ".sh"))
+
+
 def links():
-    pages = [ROOT / "README.md", *sorted((ROOT / "docs").glob("*.md"))]
-    for page in pages:
+    for page in pages():
         for target in re.findall(r"\]\(([^)#:]+)(?:#[^)]*)?\)", page.read_text()):
             check((page.parent / target).exists(), f"{page.relative_to(ROOT)} links to {target}, which is not there")
 
 
-for look in (the_list, the_drawing, first_lines, functions, files, edits, links):
+def paths():
+    named = re.compile(r"(?<![\w/.$}-])((?:host|bench|tools|peer|include|docs)/[\w./-]*\w)")
+    scripts = [ROOT / "Makefile", ROOT / ".ci/run", *sorted(p for p in (ROOT / "tools").iterdir() if p.is_file())]
+    for path in [*pages(), *c_side(), *scripts]:
+        for target in sorted(set(named.findall(path.read_text()))):
+            check((ROOT / target).exists(), f"{path.relative_to(ROOT)} names {target}, which is not there")
+
+
+def c_files():
+    programs = {}
+    for path in c_side():
+        text, place = path.read_text(), path.relative_to(ROOT)
+        says = re.match(r"(#!.*\n)?# \S" if path.suffix == ".sh" else r"/\*(\n \*)? \S", text)
+        beside = path.suffix == ".c" and path.with_suffix(".h").exists()
+        check(says or beside, f"{place} does not say in its first lines what it holds")
+        if re.search(r"^int main\(", text, re.M):
+            other = programs.setdefault(path.name, place)
+            check(other == place, f"{place} and {other} are programs of one name")
+
+
+def the_tests():
+    page = (ROOT / "docs/TESTING.md").read_text()
+    rows = [[cell.strip() for cell in line.split("|")[1:-1]] for line in page.splitlines() if line.startswith("| `")]
+    every = re.search(r"^all='(.*)'$", (ROOT / "host/run.sh").read_text(), re.M).group(1).split()
+    made_of = {row[0].strip("`"): row[2] for row in rows if len(row) == 3 and row[2].startswith("`host/")}
+    for name in sorted(set(every) | set(made_of)):
+        check(name in made_of, f"docs/TESTING.md does not say what the test {name} is made of")
+        check(name in every, f"docs/TESTING.md names the test {name}, which host/run.sh does not run")
+    for folder in sorted(p.name for p in (ROOT / "host").iterdir() if p.is_dir()):
+        check(any(f"`{folder}/`" in row[0] for row in rows), f"docs/TESTING.md does not say what host/{folder} holds")
+    for name, files in made_of.items():
+        folder = None  # of the path before, where a name alone stands
+        for file in re.findall(r"`([\w./]+)`", files):
+            path = ROOT / file if "/" in file else folder / file
+            folder = path.parent
+            check(path.exists(), f"docs/TESTING.md: {name} is made of {path.relative_to(ROOT)}, which is not there")
+
+
+for look in (the_list, the_drawing, first_lines, functions, files, edits, links, paths, c_files, the_tests):
     look()
 for sentence in faults:
     print(f"failed: {sentence}")

@@ -1,7 +1,7 @@
 #!/bin/sh
-# The public header: it compiles without a warning as C99, C11 and C++11, its layout is that of docs/ROWS.md, and its own assertions
-# refuse another layout. The last line is 'N passed, M failed', and the exit status is 0 only if nothing failed. host/target.sh names
-# the variables.
+# The public header: it compiles without a warning as C99, C11, C17, C++11 and C++17, its layout is that of docs/ROWS.md, and its own
+# assertions refuse another layout. The last line is 'N passed, M failed', and the exit status is 0 only if nothing failed.
+# host/target.sh names the variables.
 set -u
 cd "$(dirname "$0")/../.." || exit 2
 . host/target.sh
