@@ -1,29 +1,27 @@
 -- The line that begins an account file: its kind and its number stand at their places. Assumes nothing.
-use mathlib.Core.Path.{_≡_, refl, sym, ap, _∙_}
-use mathlib.Core.Bool.{Bool, true, false}
-use mathlib.Core.List.{List, [], _∷_}
-use Prim.Native.Nat.{ℕ, _*_, _+_, _≤_, _<_}
+use mathlib.Core.Path.{_≡_, refl, sym, _∙_}
+use mathlib.Core.Bool.{true}
+use mathlib.Core.List.{List, []}
+use Prim.Native.Nat.{ℕ, _*_, _+_, _≤_}
 use native.Mathlib.Omega.{arith}
 use mir.Val.{Fits}
 use mir.Syntax.{w64}
 use lib.ListN.{length, take, drop}
-use Rattle.base.specs.Seek.{seek}
 use Rattle.sheet.specs.declared.Sheet.{Sheet}
 use Rattle.sheet.specs.Sheets.{kindAllowed}
 use Rattle.paper.specs.Read.{value}
-use Rattle.paper.specs.Bytes.{space, fieldOf}
+use Rattle.paper.specs.Bytes.{fieldOf}
 use Rattle.paper.specs.Numerals.{digits}
 use Rattle.paper.specs.Entries.{file, Said, got, field, gap, lineEnd}
 use Rattle.paper.specs.FileLine.{readKind, readNumber, readCode, readFile}
 use Rattle.numeral.proofs.Sound.{same, digits-sound}
 use Rattle.field.specs.At.{found, fieldAt}
-use Rattle.field.proofs.Steps.{found-field}
 use Rattle.placed.specs.Placed.{Placed}
 use Rattle.placed.proofs.Placed.{placed-part, placed-front, placed-join, field-placed}
 use Rattle.taking.specs.Known.{There}
 use Rattle.taking.proofs.Parts.{some-value, at-value}
 use Rattle.takeitem.specs.Said.{isSaid}
-use Rattle.takeitem.proofs.Goes.{said-as, field-value, next-inside, next-goes, next-there}
+use Rattle.takeitem.proofs.Goes.{said-as, next-goes, next-there}
 use Rattle.takehead.specs.Taken.{anyNumber}
 use Rattle.takehead.proofs.Parts.{tested, known-long, known-digits, last-is}
 

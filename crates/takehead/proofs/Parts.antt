@@ -1,11 +1,9 @@
 -- Parts of a line that says something: a field of a known length, a test behind its digits, and the line's end. Assumes nothing.
 use mathlib.Core.Path.{_≡_, refl, sym, ap, _∙_}
-use mathlib.Core.Bool.{Bool, true, false}
+use mathlib.Core.Bool.{Bool, true}
 use mathlib.Core.List.{List, [], _∷_}
-use Prim.Native.Nat.{ℕ, _*_, _+_, _≤_, _<_}
+use Prim.Native.Nat.{ℕ, _+_}
 use native.Mathlib.Omega.{arith}
-use mir.Val.{Fits}
-use mir.Syntax.{w64}
 use lib.ListN.{length, take, drop, length-drop}
 use lib.Seq.{take-all}
 use Rattle.base.specs.Pick.{pick}
@@ -15,8 +13,8 @@ use Rattle.paper.specs.Read.{Field, value, fault, given}
 use Rattle.paper.specs.Bytes.{space, fieldOf}
 use Rattle.paper.specs.Numerals.{digits}
 use Rattle.paper.specs.Entries.{Said, no, field, lineEnd}
-use Rattle.numeral.proofs.Sound.{digits-least, digits-most, digits-sound}
-use Rattle.given.proofs.Given.{value-fault, value-same, given-value}
+use Rattle.numeral.proofs.Sound.{digits-least, digits-most}
+use Rattle.given.proofs.Given.{value-fault, given-value}
 use Rattle.field.proofs.Front.{field-long}
 use Rattle.field.proofs.Steps.{found-field}
 use Rattle.taking.proofs.Parts.{some-value, at-value}

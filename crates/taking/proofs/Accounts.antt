@@ -1,41 +1,34 @@
--- The account that stands at a place: what its digits give. Assumes nothing.
+-- Accounts and payers: their numbers are those that their field spells. Assumes nothing.
 use mathlib.Core.Path.{_≡_, refl, sym, ap, _∙_}
 use mathlib.Core.Bool.{Bool, true, false}
-use mathlib.Core.List.{List, [], _∷_, _++_, append-assoc}
-use Prim.Native.Nat.{ℕ, suc, _+_, _-_, _/_, _%_, _≤_, _<_}
+use mathlib.Core.List.{List, [], _∷_}
+use Prim.Native.Nat.{ℕ, _+_, _-_, _/_, _%_, _≤_, _<_}
 use native.Mathlib.Omega.{arith}
-use mir.Val.{Fits}
-use mir.Syntax.{w64}
-use lib.Dec.{ltb}
-use lib.ListN.{length, getD, take, drop, length-append, take-append-drop}
-use borrow.Author.Tests.{ltb-true, lt-ltb, le-ltb}
+use lib.Dec.{eqb, ltb}
+use lib.ListN.{length, take, drop, length-append, take-append-drop}
+use borrow.Author.Tests.{eqb-true, lt-ltb, le-ltb}
 use Rattle.base.specs.Pick.{pick}
 use Rattle.base.specs.Seek.{all, seek, before}
-use Rattle.base.proofs.Cases.{by-test, by-lt, pick-true, pick-false}
-use Rattle.base.proofs.Seek.{all-append}
-use Rattle.paper.specs.Read.{Field, value, fault, given}
-use Rattle.paper.specs.Bytes.{isDigit, dash, space, fieldOf}
-use Rattle.paper.specs.Numerals.{digits}
-use Rattle.paper.specs.Accounts.{Account, account, accountOk, ruled, twoParts, onePart, readAccount}
-use Rattle.numeral.proofs.Sound.{digits-plain, digits-most, digits-least, digits-sound, digits-reads}
+use Rattle.base.proofs.Cases.{by-test, by-lt, pick-true, pick-false, pick-not, pick-both}
+use Rattle.base.proofs.Seek.{never, all-head, all-tail, all-append}
+use Rattle.paper.specs.Read.{Field, value, given}
+use Rattle.paper.specs.Bytes.{isDigit, dash, fieldOf, null}
+use Rattle.paper.specs.Numerals.{digitsOn, digits}
+use Rattle.paper.specs.Accounts.{Account, account, nobody, accountOk, ruled, twoParts, onePart, readAccount, zeros, onlyZeros, readPayer}
+use Rattle.paper.specs.ItemLine.{isValue}
+use Rattle.numeral.proofs.Sound.{digits-plain, digits-most, digits-sound, digits-reads}
 use Rattle.given.proofs.Given.{value-fault, value-same, given-value}
-use Rattle.field.specs.At.{At, found, fieldAt}
-use Rattle.field.specs.declared.Run.{Run}
+use Rattle.field.specs.At.{At, fieldAt}
 use Rattle.field_account.specs.Parts.{undashed}
 use Rattle.field_account.proofs.Digits.{recount, undashed-is}
-use Rattle.taking.specs.Known.{There, Stops, Ran}
-use Rattle.taking.proofs.Parts.{split-byte, some-value, at-value, one-stops, one-value, one-byte, one-whole, two-stops, two-first, two-byte, two-next, two-second, two-whole}
+use Rattle.taking.specs.Known.{There}
+use Rattle.taking.specs.Numbers.{prefixAndBase}
+use Rattle.taking.proofs.Parts.{some-value}
 
 -- the rule leaves an account as it is
 ruled-same : (p b : ℕ) (a : Account) → ruled p b ≡ value a → a ≡ account p b
 unfolding ruled pick
 ruled-same p b a e = by-test (accountOk p b) (λ t. sym (value-same _ _ (simp t at e))) (λ t. value-fault a 5 (sym (simp t at e)))
-
--- ---- the two shapes of a field w that is an account
-
-pub data Shape (least : ℕ) (w : List ℕ) (a : Account) : Type 0 where
-  two : (p b : List ℕ) (u v : ℕ) → w ≡ p ++ (45 ∷ b) → digits 1 6 p ≡ value u → digits least 10 b ≡ value v → a ≡ account u v → Shape least w a
-  one : (v : ℕ) → digits 0 16 w ≡ value v → a ≡ account (v / 10000000000) (v % 10000000000) → Shape least w a
 
 both : (least : ℕ) (p b : List ℕ) (a : Account) → twoParts least p b ≡ value a
     → (u : ℕ) × (v : ℕ) × (digits 1 6 p ≡ value u) × (digits least 10 b ≡ value v) × (a ≡ account u v)
@@ -62,113 +55,129 @@ undashed-same joined least n v a small e =
     let y : v % 10000000000 ≡ v = omega arith in
     rw (x, y) (ruled-same 0 v a (simp (le-ltb 10 n l, t) at e))))
 
+-- ---- an account's numbers are those that its field spells
+
 module _ (joined : Bool) (least : ℕ) (w : List ℕ) (a : Account) (e : readAccount joined least w ≡ value a) where
   -- with no dash they are digits alone,
-  alone : all isDigit w ≡ true → length w ≤ 16 → Shape least w a
-  alone d l =
-      let x = digits-reads 0 16 w d (omega arith) l in
-      one (x .0) (x .1)
-      (undashed-same joined least (length w) (x .0) a
-      (λ k. digits-sound 0 10 w (x .0) (recount 0 16 0 10 w (x .0) (x .1) (omega arith) k))
-      (undashed-is w (x .0) (x .1) joined least ∙ e))
+  module _ (t : ltb (seek dash w) (length w) ≡ false) where
+    alone : all isDigit w ≡ true → length w ≤ 16 → prefixAndBase w ≡ value a
+    unfolding prefixAndBase given
+    alone d l =
+        let x = digits-reads 0 16 w d (omega arith) l in
+        let i =
+        undashed-same joined least (length w) (x .0) a
+        (λ k. digits-sound 0 10 w (x .0) (recount 0 16 0 10 w (x .0) (x .1) (omega arith) k))
+        (undashed-is w (x .0) (x .1) joined least ∙ e) in
+        pick-false _ _ t ∙ rw (recount 0 16 0 17 w (x .0) (x .1) (omega arith) (omega arith)) (ap (λ (b : Account). value b) (sym i))
 
-  abbrev front : List ℕ
-  front = take (length w - 10) w
+    abbrev front : List ℕ
+    front = take (length w - 10) w
 
-  abbrev back : List ℕ
-  back = drop (length w - 10) w
+    abbrev back : List ℕ
+    back = drop (length w - 10) w
 
-  joined-alone : twoParts 10 front back ≡ value a → Shape least w a
-  joined-alone f =
-      let x = both 10 front back a f in
-      alone
-      (rw (take-append-drop (length w - 10) w) at (all-append isDigit front back (digits-plain 1 6 front (x .0) (x .2)) (digits-plain 10 10 back (x .1) (x .3))))
-      (omega (arith, digits-most 1 6 front (x .0) (x .2), digits-most 10 10 back (x .1) (x .3), ap length (take-append-drop (length w - 10) w), length-append front back))
+    joined-alone : twoParts 10 front back ≡ value a → prefixAndBase w ≡ value a
+    joined-alone f =
+        let x = both 10 front back a f in
+        alone
+        (rw (take-append-drop (length w - 10) w) at (all-append isDigit front back (digits-plain 1 6 front (x .0) (x .2)) (digits-plain 10 10 back (x .1) (x .3))))
+        (omega (arith, digits-most 1 6 front (x .0) (x .2), digits-most 10 10 back (x .1) (x .3), ap length (take-append-drop (length w - 10) w), length-append front back))
 
-  base-alone : onePart least w ≡ value a → Shape least w a
-  unfolding onePart
-  base-alone f =
-      let x = given-value (λ base. ruled 0 base) (digits least 10 w) a f in
-      alone (digits-plain least 10 w (x .0) (x .1)) (omega (arith, digits-most least 10 w (x .0) (x .1)))
+    base-alone : onePart least w ≡ value a → prefixAndBase w ≡ value a
+    unfolding onePart
+    base-alone f =
+        let x = given-value (λ base. ruled 0 base) (digits least 10 w) a f in
+        alone (digits-plain least 10 w (x .0) (x .1)) (omega (arith, digits-most least 10 w (x .0) (x .1)))
 
   -- with one they are a prefix and a base
-  with-dash : (l : seek dash w < length w) → twoParts least (before dash w) (drop (seek dash w + 1) w) ≡ value a → Shape least w a
-  with-dash l f = let x = both least _ _ a f in two (before dash w) (drop (seek dash w + 1) w) (x .0) (x .1) (split-byte 45 w l) (x .2) (x .3) (x .4)
+  with-dash : ltb (seek dash w) (length w) ≡ true → twoParts least (before dash w) (drop (seek dash w + 1) w) ≡ value a → prefixAndBase w ≡ value a
+  unfolding prefixAndBase given
+  with-dash t f =
+      let x = both least _ _ a f in
+      pick-true _ _ t ∙ rw (x .2, recount least 10 0 10 _ (x .1) (x .3) (omega arith) (digits-most least 10 _ (x .1) (x .3))) (ap (λ (b : Account). value b) (sym (x .4)))
 
-  pub account-shape : Shape least w a
+  pub account-numbers : prefixAndBase w ≡ value a
   unfolding readAccount pick
-  account-shape =
+  account-numbers =
       by-test (ltb (seek dash w) (length w))
-      (λ t. with-dash (ltb-true _ _ t) (simp t at e))
+      (λ t. with-dash t (simp t at e))
       (λ t. by-test (pick joined (ltb 10 (length w)) false)
-      (λ u. joined-alone (simp (t, u) at e))
-      (λ u. base-alone (simp (t, u) at e)))
+      (λ u. joined-alone t (simp (t, u) at e))
+      (λ u. base-alone t (simp (t, u) at e)))
 
--- ---- at its place in the line
+-- ---- and so are a payer's
 
-module _ (joined : Bool) (least : ℕ) (s : List ℕ) (at : ℕ) (h : There (readAccount joined least) s at) where
+zeros-on : (s : List ℕ) → all (λ x. eqb x 48) s ≡ true → digitsOn 0 s ≡ value 0
+unfolding digitsOn isDigit pick
+zeros-on [] h = refl
+zeros-on (x ∷ s) h = let e : x ≡ 48 = eqb-true x 48 (all-head (λ x. eqb x 48) x s h) in rw e (zeros-on s (all-tail (λ x. eqb x 48) x s h))
+
+-- up to so many zeros are the number 0
+zeros-number : (most : ℕ) (s : List ℕ) → zeros most s ≡ true → digits 1 most s ≡ value 0
+unfolding zeros digits
+zeros-number most s h =
+    let x = pick-not (ltb (length s) 1) _ h in
+    let y = pick-not (ltb most (length s)) _ (x .1) in
+    pick-false _ _ (x .0) ∙ (pick-false _ _ (y .0) ∙ zeros-on s (y .1))
+
+zeros-numbers : (w : List ℕ) → onlyZeros w ≡ true → prefixAndBase w ≡ value nobody
+unfolding onlyZeros prefixAndBase given pick
+zeros-numbers w h =
+    by-test (ltb (seek dash w) (length w))
+    (λ t.
+    let x = pick-both (zeros 6 (before dash w)) _ (simp t at h) in
+    let y = zeros-number 10 (drop (seek dash w + 1) w) (x .1) in
+    simp (t, zeros-number 6 (before dash w) (x .0), recount 1 10 0 10 _ 0 y (omega arith) (digits-most 1 10 _ 0 y)))
+    (λ t.
+    let y = zeros-number 17 w (simp t at h) in
+    simp (t, recount 1 17 0 17 w 0 y (omega arith) (digits-most 1 17 w 0 y)))
+
+empty-numbers : (w : List ℕ) → null w ≡ true → prefixAndBase w ≡ value nobody
+unfolding null prefixAndBase given pick seek digits digitsOn
+empty-numbers [] h = refl
+empty-numbers (x ∷ w) h = never (sym h)
+
+payer-numbers : (empty allzero joined : Bool) (least : ℕ) (w : List ℕ) (a : Account) → readPayer empty allzero joined least w ≡ value a → prefixAndBase w ≡ value a
+unfolding readPayer pick
+payer-numbers empty allzero joined least w a e =
+    by-test (pick empty (null w) false)
+    (λ t. empty-numbers w (pick-both empty (null w) t .1) ∙ simp t at e)
+    (λ t. by-test (pick allzero (onlyZeros w) false)
+    (λ u. zeros-numbers w (pick-both allzero (onlyZeros w) u .1) ∙ simp (t, u) at e)
+    (λ u. account-numbers joined least w a (simp (t, u) at e)))
+
+-- ---- at a place
+
+module _ (read : List ℕ → Field Account) (n : (w : List ℕ) (a : Account) → read w ≡ value a → prefixAndBase w ≡ value a) (s : List ℕ) (at : ℕ) (h : There read s at) where
   abbrev w : List ℕ
   w = fieldOf (drop at s)
 
-  abbrev Is : Account → Type 0
-  Is a = (readAccount joined least w ≡ value a) × Shape least w a
+  there : (a : Account) × (read w ≡ value a)
+  there = some-value (read w) (h .says)
 
-  -- the account that stands there
-  there : (a : Account) × Is a
-  there = let x = some-value (readAccount joined least w) (h .says) in (x .0, (x .1, account-shape joined least w (x .0) (x .1)))
+  spelled : prefixAndBase w ≡ value (there .0)
+  spelled = n w (there .0) (there .1)
 
-  stops : (a : Account) → Is a → Stops s at
-  unfolding isDigit pick
-  stops a (e, two p b u v f x y i) = two-stops (readAccount joined least) s at h 45 (omega arith) refl p b f 1 6 u x (omega arith)
-  stops a (e, one v x i) = one-stops (readAccount joined least) s at h 0 16 v x (omega arith)
+  stands : There prefixAndBase s at
+  unfolding isValue
+  stands = record { says = rw spelled; on = h .on }
 
-  pub account-stops : Stops s at
-  account-stops = stops (there .0) (there .1)
+  told-as : (r : At Account) → r ≡ fieldAt prefixAndBase s at → r ≡ fieldAt read s at
+  unfolding fieldAt
+  told-as r e = e ∙ rw (spelled, there .1)
 
-  module _ (r : Run) (g : Ran s at r) where
-    pub account-byte : r .end < length s
-    account-byte = omega (arith, g .end, account-stops .inside)
+module _ (joined : Bool) (least : ℕ) (s : List ℕ) (at : ℕ) (h : There (readAccount joined least) s at) where
+  pub account-there : There prefixAndBase s at
+  account-there = stands (readAccount joined least) (account-numbers joined least) s at h
 
-    pub account-room : length s < 18446744073709551616 → Fits w64 (r .end + 1)
-    account-room l = omega (arith, account-byte)
+  pub account-told : (r : At Account) → r ≡ fieldAt prefixAndBase s at → r ≡ fieldAt (readAccount joined least) s at
+  account-told = told-as (readAccount joined least) (account-numbers joined least) s at h
 
-    module _ (d : getD s (r .end) 0 ≡ 45) where
-      next : (a : Account) → Is a → Stops s (r .end + 1)
-      unfolding isDigit pick
-      next a (e, two p b u v f x y i) = two-next (readAccount joined least) s at h 45 (omega arith) refl p b f 1 6 u x (omega arith) r g least 10 v y (omega arith)
-      next a (e, one v x i) = absurd (omega (arith, d, one-byte (readAccount joined least) s at h 0 16 v x (omega arith) r g))
+module _ (empty allzero joined : Bool) (least : ℕ) (s : List ℕ) (at : ℕ) (h : There (readPayer empty allzero joined least) s at) where
+  pub payer-there : There prefixAndBase s at
+  payer-there = stands (readPayer empty allzero joined least) (payer-numbers empty allzero joined least) s at h
 
-      pub account-next : Stops s (r .end + 1)
-      account-next = next (there .0) (there .1)
+  pub payer-told : (r : At Account) → r ≡ fieldAt prefixAndBase s at → r ≡ fieldAt (readPayer empty allzero joined least) s at
+  payer-told = told-as (readPayer empty allzero joined least) (payer-numbers empty allzero joined least) s at h
 
-      module _ (q : Run) (k : Ran s (r .end + 1) q) where
-        both-are : (a : Account) → Is a → found (account (r .value) (q .value)) (q .end) ≡ fieldAt (readAccount joined least) s at
-        unfolding isDigit pick
-        both-are a (e, two p b u v f x y i) =
-            let m = two-first (readAccount joined least) s at h 45 (omega arith) refl p b f 1 6 u x (omega arith) r g in
-            let n = two-second (readAccount joined least) s at h 45 (omega arith) refl p b f 1 6 u x (omega arith) r g least 10 v y (omega arith) q k in
-            at-value (readAccount joined least) s at a _ (q .end) e (rw (m, n) (sym i))
-            (two-whole (readAccount joined least) s at h 45 (omega arith) refl p b f 1 6 u x (omega arith) r g least 10 v y (omega arith) q k)
-        both-are a (e, one v x i) = absurd (omega (arith, d, one-byte (readAccount joined least) s at h 0 16 v x (omega arith) r g))
-
-        pub account-two : found (account (r .value) (q .value)) (q .end) ≡ fieldAt (readAccount joined least) s at
-        account-two = both-are (there .0) (there .1)
-
-    module _ (d : getD s (r .end) 0 ≡ 45 → ⊥) where
-      alone-is : (a : Account) → Is a → found (account (r .value / 10000000000) (r .value % 10000000000)) (r .end) ≡ fieldAt (readAccount joined least) s at
-      unfolding isDigit pick
-      alone-is a (e, two p b u v f x y i) = absurd (d (two-byte (readAccount joined least) s at h 45 (omega arith) refl p b f 1 6 u x (omega arith) r g))
-      alone-is a (e, one v x i) =
-          let m = one-value (readAccount joined least) s at h 0 16 v x (omega arith) r g in
-          at-value (readAccount joined least) s at a _ (r .end) e (rw m (sym i)) (one-whole (readAccount joined least) s at h 0 16 v x (omega arith) r g)
-
-      pub account-large : found (account (r .value / 10000000000) (r .value % 10000000000)) (r .end) ≡ fieldAt (readAccount joined least) s at
-      account-large = alone-is (there .0) (there .1)
-
-      pub account-small : r .value < 10000000000 → found (account 0 (r .value)) (r .end) ≡ fieldAt (readAccount joined least) s at
-      account-small l =
-          let x : r .value / 10000000000 ≡ 0 = omega arith in
-          let y : r .value % 10000000000 ≡ r .value = omega arith in
-          rw (x, y) at account-large
-
-pub ruleset accounts = (account-stops, account-byte, account-room, account-next, account-two, account-large, account-small)
+pub ruleset accounts = (account-there, account-told, payer-there, payer-told)

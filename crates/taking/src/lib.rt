@@ -6,7 +6,7 @@ ghost use Prim.Native.Nat.{ℕ, _+_, _/_, _%_, _≤_};
 ghost use lib.ListN.{length, drop};
 ghost use Rattle.base.specs.Seek.{seek};
 ghost use Rattle.paper.specs.Read.{value};
-ghost use Rattle.paper.specs.Accounts.{account, readAccount};
+ghost use Rattle.paper.specs.Accounts.{readAccount, readPayer};
 ghost use Rattle.paper.specs.Amounts.{readItemAmount};
 ghost use Rattle.paper.specs.BankField.{readBank};
 ghost use Rattle.paper.specs.Bytes.{space, fieldOf};
@@ -14,6 +14,7 @@ ghost use Rattle.paper.specs.Numerals.{digits};
 ghost use Rattle.paper.specs.ItemLine.{isValue, readSymbol};
 ghost use Rattle.field.specs.At.{found, fieldAt};
 ghost use Rattle.taking.specs.Known.{Stops, Ran, There};
+ghost use Rattle.taking.specs.Numbers.{prefixAndBase};
 ghost use Rattle.taking.specs.Told.{toldAccount, toldNumber, toldBank};
 
 // An account's prefix and base, and where its field ends.
@@ -49,10 +50,10 @@ pub fn take_run(s: &[u8], at: usize) -> Run
     }
 }
 
-// The account at `at`. What the sheet allows, `joined` and `least`, was judged; eleven digits or more can only be a prefix and its base.
-pub fn take_account(s: &[u8], at: usize, joined: bool, least: usize) -> Account
-    requires { ⌜ There (readAccount joined least) (now s) at ⌝ }
-    ensures { λ r. ⌜ toldAccount r ≡ fieldAt (readAccount joined least) (now (s .entry)) at ⌝ }
+// The prefix and base at `at`, whatever rule they break. Eleven digits or more with no dash can only be a prefix and its base.
+fn take_numbers(s: &[u8], at: usize) -> Account
+    requires { ⌜ There prefixAndBase (now s) at ⌝ }
+    ensures { λ r. ⌜ toldAccount r ≡ fieldAt prefixAndBase (now (s .entry)) at ⌝ }
 {
     let first = take_run(s, at);
     let end = first.end;
@@ -77,6 +78,29 @@ pub fn take_account(s: &[u8], at: usize, joined: bool, least: usize) -> Account
         base: v % 10000000000,
         end,
     }
+}
+
+// The account at `at`. What the sheet allows, `joined` and `least`, was judged.
+pub fn take_account(s: &[u8], at: usize, joined: bool, least: usize) -> Account
+    requires { ⌜ There (readAccount joined least) (now s) at ⌝ }
+    ensures { λ r. ⌜ toldAccount r ≡ fieldAt (readAccount joined least) (now (s .entry)) at ⌝ }
+{
+    take_numbers(s, at)
+}
+
+// A group's payer at `at`. An empty field and one with only zeros have the numbers of nobody.
+pub fn take_payer(
+    s: &[u8],
+    at: usize,
+    empty: bool,
+    allzero: bool,
+    joined: bool,
+    least: usize,
+) -> Account
+    requires { ⌜ There (readPayer empty allzero joined least) (now s) at ⌝ }
+    ensures { λ r. ⌜ toldAccount r ≡ fieldAt (readPayer empty allzero joined least) (now (s .entry)) at ⌝ }
+{
+    take_numbers(s, at)
 }
 
 // An item's amount at `at`: two digits may follow a comma. What the sheet allows was judged.
