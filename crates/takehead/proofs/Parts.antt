@@ -14,19 +14,22 @@ use Rattle.paper.specs.Bytes.{space, fieldOf}
 use Rattle.paper.specs.Numerals.{digits}
 use Rattle.paper.specs.Entries.{Said, no, field, lineEnd}
 use Rattle.numeral.proofs.Sound.{digits-least, digits-most}
-use Rattle.given.proofs.Given.{value-fault, given-value}
+use Rattle.given.proofs.Given.{value-fault, value-same, given-value}
 use Rattle.field.proofs.Front.{field-long}
 use Rattle.field.proofs.Steps.{found-field}
 use Rattle.taking.proofs.Parts.{some-value, at-value}
 use Rattle.takeitem.specs.Said.{isSaid}
 use Rattle.takeitem.proofs.Goes.{not-said, said-as, field-value}
 
--- a test leaves the number of the digits as it is
-pub tested : (t : ℕ → Bool) (c : ℕ) (x : Field ℕ) (v : ℕ) → given x (λ n. pick (t n) (value n) (fault c)) ≡ value v → x ≡ value v
+-- a test leaves a value as it is
+pub kept : (t : Bool) (c n v : ℕ) → pick t (value n) (fault c) ≡ value v → v ≡ n
 unfolding pick
+kept t c n v h = by-test t (λ e. sym (value-same n v (simp e at h))) (λ e. value-fault v c (sym (simp e at h)))
+
+pub tested : (t : ℕ → Bool) (c : ℕ) (x : Field ℕ) (v : ℕ) → given x (λ n. pick (t n) (value n) (fault c)) ≡ value v → x ≡ value v
 tested t c x v h =
     let y = given-value (λ n. pick (t n) (value n) (fault c)) x v h in
-    by-test (t (y .0)) (λ e. y .1 ∙ simp e at (y .2)) (λ e. value-fault v c (sym (simp e at (y .2))))
+    y .1 ∙ ap (λ (n : ℕ). value n) (sym (kept (t (y .0)) c (y .0) v (y .2)))
 
 -- a field of n digits has n bytes
 module _ (n : ℕ) (s : List ℕ) (v : ℕ) (h : digits n n (fieldOf s) ≡ value v) where

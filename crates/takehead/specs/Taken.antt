@@ -1,7 +1,19 @@
--- What is known of a line that was judged before. Document 01, "Lines". Assumes nothing.
+-- What is taken of a line that was judged before. Document 01, "Lines". Assumes nothing.
 use Prim.Native.Nat.{ℕ}
+use mathlib.Core.Path.{_≡_}
 use mathlib.Core.Bool.{Bool, true}
+use mathlib.Core.List.{List}
+use Rattle.paper.specs.Accounts.{account}
+use Rattle.paper.specs.Entries.{group, Said, got}
+use Rattle.takehead.specs.declared.Group.{Group}
 
 -- which numbers account files may have was judged before: any may come
 abbrev pub anyNumber : ℕ → Bool
 anyNumber n = true
+
+-- the line says a group with this payer and date; its total and warnings are not taken
+pub record Opens (r : Said) (g : Group) : Type 0 where
+  pub total : ℕ
+  pub warnings : ℕ
+  pub spots : List ℕ
+  pub says : r ≡ got (group (account (g .prefix) (g .base)) total (g .date)) warnings spots
