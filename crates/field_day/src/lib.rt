@@ -3,13 +3,50 @@ use field::NumAt;
 use numeral::Num;
 ghost use mathlib.Core.Path.{_≡_};
 ghost use mathlib.Core.Bool.{true};
-ghost use Prim.Native.Nat.{_≤_};
-ghost use lib.ListN.{length};
+ghost use Prim.Native.Nat.{_+_, _≤_};
+ghost use lib.ListN.{length, getD, drop};
 ghost use Rattle.base.specs.Pick.{pick};
 ghost use Rattle.paper.specs.Read.{value, fault};
 ghost use Rattle.paper.specs.Days.{realDay, dueAllowed, readDue};
 ghost use Rattle.field.specs.At.{ending, fieldAt};
 ghost use Rattle.field.specs.Told.{told};
+ghost use Rattle.field_day.specs.Spelled.{Two, Spelled};
+
+// The number of the two digits at `at`, 100 where one of the bytes is no digit.
+fn two_digits(s: &[u8], at: usize) -> u64
+    requires { ⌜ at + 2 ≤ length (now s) ⌝ }
+    ensures { λ r. ⌜ Two (getD (now (s .entry)) at 0) (getD (now (s .entry)) (at + 1) 0) r ⌝ }
+{
+    let a = field::worth(s[at]);
+    if 9 < a {
+        return 100;
+    }
+    let b = field::worth(s[at + 1]);
+    if 9 < b {
+        return 100;
+    }
+    a * 10 + b
+}
+
+// The day that the line's last six bytes, from `at` on, spell as DDMMRR, 0 where one of them is no digit.
+fn last_day(s: &[u8], at: usize) -> u64
+    requires { ⌜ length (now s) ≡ at + 6 ⌝ }
+    ensures { λ r. ⌜ Spelled (drop at (now (s .entry))) r ⌝ }
+{
+    let day = two_digits(s, at);
+    if 99 < day {
+        return 0;
+    }
+    let month = two_digits(s, at + 2);
+    if 99 < month {
+        return 0;
+    }
+    let year = two_digits(s, at + 4);
+    if 99 < year {
+        return 0;
+    }
+    20000000 + year * 10000 + month * 100 + day
+}
 
 // The day d as a due date, 11 where it is not real or no payment may be due on it.
 fn if_due(d: u64, early: bool, ahead: u64, today: u64, end: usize) -> NumAt
@@ -38,16 +75,19 @@ fn whole_due(s: &[u8], at: usize, long: bool, early: bool, ahead: u64, today: u6
     }
 }
 
-// A due date at `at`: a day on which a payment may be due. Nearly all are DDMMRR; any other, RRRRMMDD too, is left to the reader of
-// whole fields.
+// A due date at `at`: a day on which a payment may be due. Nearly all are DDMMRR and end the line; any other field is left to the reader
+// of whole fields.
 pub fn due_at(s: &[u8], at: usize, long: bool, early: bool, ahead: u64, today: u64) -> NumAt
     requires { ⌜ at ≤ length (now s) ⌝ }
     requires { ⌜ realDay today ≡ true ⌝ }
     ensures { λ r. ⌜ told r ≡ fieldAt (readDue long early ahead today) (now (s .entry)) at ⌝ }
 {
-    let NumAt::Value(n, end) = field::number_at(s, at, 6, 6) else {
-        return whole_due(s, at, long, early, ahead, today);
-    };
-    let d = (2000 + n % 100) * 10000 + n / 100 % 100 * 100 + n / 10000;
-    if_due(d, early, ahead, today, end)
+    let end = s.len();
+    if end - at == 6 {
+        let d = last_day(s, at);
+        if 0 < d {
+            return if_due(d, early, ahead, today, end);
+        }
+    }
+    whole_due(s, at, long, early, ahead, today)
 }
