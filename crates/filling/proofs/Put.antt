@@ -7,8 +7,8 @@ use native.Mathlib.Omega.{arith}
 use lib.ListN.{length}
 use Rattle.base.specs.Put.{Wrote}
 use Rattle.sheet.specs.declared.Sheet.{Sheet}
-use Rattle.paper.specs.Accounts.{account, isNobody}
-use Rattle.paper.specs.Entries.{file, group, item, Said, got, no, kindOf}
+use Rattle.paper.specs.Accounts.{Account, account, isNobody}
+use Rattle.paper.specs.Entries.{file, group, item, Said, got, kindOf}
 use Rattle.paper.specs.FileLine.{readFile}
 use Rattle.paper.specs.GroupLine.{readGroup}
 use Rattle.paper.specs.ItemLine.{places, readItem}
@@ -20,22 +20,18 @@ use Rattle.span.specs.Held.{textsAt, Held}
 use Rattle.kind.specs.declared.LineKind.{LineKind}
 use Rattle.kind.specs.declared.LineKind.the-variants as kind
 use Rattle.kind.specs.Told as kinds
-use Rattle.fileline.specs.declared.FileRead.{FileRead}
-use Rattle.fileline.specs.declared.FileRead.the-variants as files
-use Rattle.fileline.specs.Told as file-told
-use Rattle.fileline.specs.Free.{numberFree}
-use Rattle.groupline.specs.declared.GroupRead.{GroupRead}
-use Rattle.groupline.specs.declared.GroupRead.the-variants as groups
-use Rattle.groupline.specs.Told as group-told
 use Rattle.itemline.specs.declared.Fields.{Fields}
 use Rattle.itemline.specs.declared.ItemRead.the-variants as items
 use Rattle.itemline.specs.Told as item-told
+use Rattle.takehead.specs.declared.File.{File}
+use Rattle.takehead.specs.declared.Group.{Group}
+use Rattle.takehead.specs.Taken.{anyNumber, Opens}
 use Rattle.takeitem.specs.Said.{isSaid}
 use Rattle.itemrow.specs.Place.{Reached}
 use Rattle.itemrow.proofs.Texts.{item-length, reached}
 use Rattle.filling.specs.declared.Step.{Step}
-use Rattle.filling.specs.Stepped.{anyNumber, Stepped}
-use Rattle.filling.proofs.Said.{Quiet, quiet-no, said-file, said-group, said-item, head-quiet, group-end-quiet, file-end-quiet}
+use Rattle.filling.specs.Stepped.{Stepped}
+use Rattle.filling.proofs.Said.{Quiet, said-file, said-group, said-item, head-quiet, group-end-quiet, file-end-quiet}
 
 abbrev step : ℕ → Bool → Step
 step n b = record { next = n; single = b }
@@ -67,45 +63,42 @@ module _ (sh : Sheet) (today : ℕ) (single : Bool) (s : List ℕ) (k : LineKind
   pub step-file-end : k ≡ kind.FileEnd → Stepped o next single at (readLine sh today (forItem single) s) o (step next single)
   step-file-end e = quiet-step o next at single _ (omega arith) (file-end-quiet at single sh today s k g e)
 
-  module _ (e : k ≡ kind.File) (any : Sheet) (a : any ≡ anyNumber sh) (words : List ℕ) (r : FileRead)
-      (f : file-told.told r ≡ readFile any (numberFree (any .interval) 0 0 words) s) where
-    says-file : file-told.told r ≡ readLine sh today (forItem single) s
-    says-file = (rw a at f) ∙ sym (said-file sh today single s k g e 0 0 words)
+  module _ (e : k ≡ kind.File) where
+    pub judged-file : isSaid (readLine sh today (forItem single) s) ≡ true → isSaid (readFile sh anyNumber s) ≡ true
+    judged-file h = rw (said-file sh today single s k g e) at h
 
-    pub step-file-no : (n off : ℕ) → r ≡ files.Refused n off → Stepped o next single at (readLine sh today (forItem single) s) o (step next single)
-    step-file-no n off q = rw (← says-file, q) (quiet-step o next at single (no n off) (omega arith) (quiet-no at single n off))
-
-    module _ (kd nb : ℕ) (q : r ≡ files.File kd nb) where
-      file-says : readLine sh today (forItem single) s ≡ got (file kd nb) 0 []
-      file-says = sym says-file ∙ ap file-told.told q
+    module _ (x : File) (f : got (file (x .kind) (x .number)) 0 [] ≡ readFile sh anyNumber s) where
+      file-says : readLine sh today (forItem single) s ≡ got (file (x .kind) (x .number)) 0 []
+      file-says = said-file sh today single s k g e ∙ sym f
 
       pub room-file : next + 192 ≤ length o
       unfolding lineRow entryRow fileRow blanks
-      room-file = row-room (fileRow kd nb) next (length o) refl (rw file-says at room)
+      room-file = row-room (fileRow (x .kind) (x .number)) next (length o) refl (rw file-says at room)
 
-      pub step-file : (o1 : List ℕ) (p : ℕ) → Wrote o next (wordsBytes (fileRow kd nb)) o1 p → Stepped o next single at (readLine sh today (forItem single) s) o1 (step p single)
+      pub step-file : (o1 : List ℕ) (p : ℕ) → Wrote o next (wordsBytes (fileRow (x .kind) (x .number))) o1 p
+          → Stepped o next single at (readLine sh today (forItem single) s) o1 (step p single)
       unfolding lineRow entryRow singleBehind singleAfter
-      step-file o1 p w = rw file-says (record { wrote = one-row o o1 next p (fileRow kd nb) w; after = refl })
+      step-file o1 p w = rw file-says (record { wrote = one-row o o1 next p (fileRow (x .kind) (x .number)) w; after = refl })
 
-  module _ (e : k ≡ kind.Group) (r : GroupRead) (f : group-told.told r ≡ readGroup sh today s) where
-    says-group : group-told.told r ≡ readLine sh today (forItem single) s
-    says-group = f ∙ sym (said-group sh today single s k g e)
+  module _ (e : k ≡ kind.Group) where
+    pub judged-group : isSaid (readLine sh today (forItem single) s) ≡ true → isSaid (readGroup sh today s) ≡ true
+    judged-group h = rw (said-group sh today single s k g e) at h
 
-    pub step-group-no : (n off : ℕ) → r ≡ groups.Refused n off → Stepped o next single at (readLine sh today (forItem single) s) o (step next single)
-    step-group-no n off q = rw (← says-group, q) (quiet-step o next at single (no n off) (omega arith) (quiet-no at single n off))
+    module _ (x : Group) (f : Opens (readGroup sh today s) x) where
+      abbrev payer : Account
+      payer = account (x .prefix) (x .base)
 
-    module _ (prefix base total date warnings spot : ℕ) (q : r ≡ groups.Group prefix base total date warnings spot) where
-      group-says : readLine sh today (forItem single) s ≡ got (group (account prefix base) total date) warnings (spot ∷ [])
-      group-says = sym says-group ∙ ap group-told.told q
+      group-says : readLine sh today (forItem single) s ≡ got (group payer (f .total) (x .date)) (f .warnings) (f .spots)
+      group-says = said-group sh today single s k g e ∙ f .says
 
       pub room-group : next + 192 ≤ length o
       unfolding lineRow entryRow groupRow blanks
-      room-group = row-room (groupRow date (account prefix base)) next (length o) refl (rw group-says at room)
+      room-group = row-room (groupRow (x .date) payer) next (length o) refl (rw group-says at room)
 
-      pub step-group : (o1 : List ℕ) (p : ℕ) (b : Bool) → Wrote o next (wordsBytes (groupRow date (account prefix base))) o1 p → b ≡ isNobody (account prefix base)
-          → Stepped o next single at (readLine sh today (forItem single) s) o1 (step p b)
+      pub step-group : (o1 : List ℕ) (p : ℕ) (b : Bool) → Wrote o next (wordsBytes (groupRow (x .date) (account (x .prefix) (x .base)))) o1 p
+          → b ≡ isNobody (account (x .prefix) (x .base)) → Stepped o next single at (readLine sh today (forItem single) s) o1 (step p b)
       unfolding lineRow entryRow singleBehind singleAfter
-      step-group o1 p b w n = rw group-says (record { wrote = one-row o o1 next p (groupRow date (account prefix base)) w; after = n })
+      step-group o1 p b w n = rw group-says (record { wrote = one-row o o1 next p (groupRow (x .date) payer) w; after = n })
 
   module _ (e : k ≡ kind.Item) where
     pub judged-item : isSaid (readLine sh today (forItem single) s) ≡ true → isSaid (readItem sh single s) ≡ true

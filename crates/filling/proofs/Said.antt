@@ -1,40 +1,29 @@
 -- What a line says, by the reader of its kind; and the lines that have no row. Assumes nothing.
-use mathlib.Core.Path.{_≡_, refl, sym, ap, _∙_}
-use mathlib.Core.Bool.{Bool, false}
+use mathlib.Core.Path.{_≡_, refl}
+use mathlib.Core.Bool.{Bool}
 use mathlib.Core.List.{List, [], _∷_}
-use Prim.Native.Nat.{ℕ, _≤_}
-use lib.ListN.{length}
-use Rattle.base.specs.Pick.{pick}
+use Prim.Native.Nat.{ℕ}
 use Rattle.base.proofs.Cases.{either}
 use Rattle.sheet.specs.declared.Sheet.{Sheet}
-use Rattle.sheet.specs.Sheets.{kindAllowed, bankAllowed}
 use Rattle.paper.specs.Read.{Field, value, fault}
-use Rattle.paper.specs.Entries.{Entry, closeGroup, closeFile, Said, got, no, fileLine, groupLine, kindOf, onField, place, lineEnd}
+use Rattle.paper.specs.Entries.{Entry, closeGroup, closeFile, Said, got, no, kindOf, onField, place, lineEnd}
 use Rattle.paper.specs.FirstLine.{readFirst}
-use Rattle.paper.specs.FileLine.{readKind, readCode, readFile}
+use Rattle.paper.specs.FileLine.{readFile}
 use Rattle.paper.specs.GroupLine.{readGroup}
 use Rattle.paper.specs.ItemLine.{readItem}
 use Rattle.paper.specs.ClosingLine.{plusAt, readClose}
 use Rattle.paper.specs.Spells.{forItem, allowedIn, singleIn, readAs, readLine}
 use Rattle.paper.specs.Rows.{entryRow, lineRow, singleAfter, singleBehind}
-use Rattle.paper.proofs.Starts.{kind-long}
 use Rattle.kind.specs.declared.LineKind.{LineKind}
 use Rattle.kind.specs.declared.LineKind.the-variants as kind
 use Rattle.kind.specs.Told as kinds
-use Rattle.fileline.specs.Free.{numberFree}
-use Rattle.filling.specs.Stepped.{anyNumber}
+use Rattle.takehead.specs.Taken.{anyNumber}
 
 -- the line is of the kind that was told, and the reader of this kind is asked
 module _ (sh : Sheet) (today : ℕ) (single : Bool) (s : List ℕ) (k : LineKind) (g : kinds.told k ≡ kindOf s) where
-  pub file-long : k ≡ kind.File → 2 ≤ length s
-  file-long e = kind-long s fileLine (sym g ∙ ap kinds.told e)
-
-  pub group-long : k ≡ kind.Group → 2 ≤ length s
-  group-long e = kind-long s groupLine (sym g ∙ ap kinds.told e)
-
-  pub said-file : k ≡ kind.File → (from to : ℕ) (words : List ℕ) → readLine sh today (forItem single) s ≡ readFile (anyNumber sh) (numberFree false from to words) s
-  unfolding readLine readAs allowedIn readFile readKind readCode kindAllowed bankAllowed numberFree pick
-  said-file e from to words = rw (← g, e)
+  pub said-file : k ≡ kind.File → readLine sh today (forItem single) s ≡ readFile sh anyNumber s
+  unfolding readLine readAs allowedIn
+  said-file e = rw (← g, e)
 
   pub said-group : k ≡ kind.Group → readLine sh today (forItem single) s ≡ readGroup sh today s
   unfolding readLine readAs

@@ -1,45 +1,12 @@
 -- What one line leaves of the second pass. Document 01, "What the library handles"; docs/ROWS.md. Assumes nothing.
 use Prim.Native.Nat.{ℕ}
 use mathlib.Core.Path.{_≡_}
-use mathlib.Core.Bool.{Bool, false}
+use mathlib.Core.Bool.{Bool}
 use mathlib.Core.List.{List}
 use Rattle.base.specs.Put.{Wrote}
-use Rattle.sheet.specs.declared.Sheet.{Sheet}
 use Rattle.paper.specs.Entries.{Said}
 use Rattle.paper.specs.Rows.{lineRow, singleBehind, rowsBytes}
 use Rattle.filling.specs.declared.Step.{Step}
-
--- the sheet with any number allowed to an account file
-abbrev pub anyNumber : Sheet → Sheet
-anyNumber sh =
-    record {
-      number = sh .number;
-      letter = sh .letter;
-      bank = sh .bank;
-      anybank = sh .anybank;
-      lastkind = sh .lastkind;
-      header = sh .header;
-      short = sh .short;
-      interval = false;
-      joined = sh .joined;
-      basemin = sh .basemin;
-      emptypayer = sh .emptypayer;
-      zeropayer = sh .zeropayer;
-      longdate = sh .longdate;
-      ahead = sh .ahead;
-      early = sh .early;
-      warnpast = sh .warnpast;
-      near = sh .near;
-      itemdigits = sh .itemdigits;
-      itemmax = sh .itemmax;
-      comma = sh .comma;
-      priority = sh .priority;
-      fixedtail = sh .fixedtail;
-      bare = sh .bare;
-      text = sh .text;
-      strict = sh .strict;
-      fileitems = sh .fileitems;
-    }
 
 -- The line starts at `at` and was read as r. Its row, if it has one, is put at `next`, and the items that follow it are read as those of
 -- the group that it begins, or else as before.

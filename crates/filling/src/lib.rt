@@ -1,8 +1,5 @@
 // The second pass of reading: the rows of a file's lines, put into lent bytes.
-use fileline::FileRead;
-use groupline::GroupRead;
 use kind::LineKind;
-use seen::Seen;
 use sheet::Sheet;
 ghost use mathlib.Core.Path.{_≡_};
 ghost use mathlib.Core.Bool.{true, false};
@@ -15,7 +12,7 @@ ghost use Rattle.paper.specs.Lines.{linesOf};
 ghost use Rattle.paper.specs.Spells.{forItem, readLine};
 ghost use Rattle.paper.specs.Rows.{lineRow, linesRows, rowsBytes};
 ghost use Rattle.takeitem.specs.Said.{isSaid};
-ghost use Rattle.filling.specs.Stepped.{anyNumber, Stepped};
+ghost use Rattle.filling.specs.Stepped.{Stepped};
 ghost use Rattle.filling.specs.Judged.{AllSaid};
 
 // What a line leaves: where the next row goes, and whether the items that follow are those of a single group.
@@ -24,17 +21,8 @@ pub struct Step {
     pub single: bool,
 }
 
-// The sheet with any number allowed to an account file. Which numbers may come is judged before rows are put.
-fn any_number(sh: Sheet) -> Sheet
-    ensures { λ r. ⌜ r ≡ anyNumber sh ⌝ }
-{
-    let mut any = sh;
-    any.interval = false;
-    any
-}
-
 // Puts the row of the line s, which starts at `at` of the file, at `next`, if the line has one. The line was judged and is not refused, so
-// an item's fields are only taken.
+// its fields are only taken.
 fn fill_line(
     s: &[u8],
     at: usize,
@@ -44,7 +32,6 @@ fn fill_line(
     rows: &mut [u8],
     next: usize,
 ) -> Step
-    requires { ⌜ realDay today ≡ true ⌝ }
     requires { ⌜ (sh .text .most ≤ 4) × (sh .itemdigits ≤ 19) × (sh .itemmax ≤ most14) ⌝ }
     requires { ⌜ isSaid (readLine sh today (forItem single) (now s)) ≡ true ⌝ }
     requires { ⌜ at + length (now s) < 18446744073709551616 ⌝ }
@@ -56,25 +43,20 @@ fn fill_line(
             next: itemrow::put_item_row(rows, next, takeitem::take_item(s, sh, single), at),
             single,
         },
-        LineKind::Group => match groupline::group_line(s, sh, today) {
-            GroupRead::Group {
-                prefix,
-                base,
-                date,
-                ..
-            } => Step {
-                next: row::put_group_row(rows, next, date, prefix, base),
-                single: account::is_nobody(prefix, base),
-            },
-            GroupRead::Refused(_, _) => Step { next, single },
-        },
-        LineKind::File => match fileline::file_line(s, any_number(sh), 0, 0, Seen::none()) {
-            FileRead::File { kind, number } => Step {
-                next: row::put_file_row(rows, next, kind, number),
+        LineKind::Group => {
+            let g = takehead::take_group(s, sh, today);
+            Step {
+                next: row::put_group_row(rows, next, g.date, g.prefix, g.base),
+                single: account::is_nobody(g.prefix, g.base),
+            }
+        }
+        LineKind::File => {
+            let a = takehead::take_file(s, sh);
+            Step {
+                next: row::put_file_row(rows, next, a.kind, a.number),
                 single,
-            },
-            FileRead::Refused(_, _) => Step { next, single },
-        },
+            }
+        }
         LineKind::Head => Step { next, single },
         LineKind::GroupEnd => Step { next, single },
         LineKind::FileEnd => Step { next, single },

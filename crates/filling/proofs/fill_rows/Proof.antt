@@ -35,7 +35,7 @@ part-fill-line-end : tie.Need-part-fill-line-end Inv-loop μ-loop
 part-fill-line-end c = search needs
 
 fill-line-requires : tie.Need-fill-line-requires Inv-loop μ-loop
-fill-line-requires c κs = (search needs, (search needs, (search lines-turn, (search (cut-inside, needs), search going-room))))
+fill-line-requires c κs = (search needs, (search lines-turn, (search (cut-inside, needs), search going-room)))
 
 loop-less : tie.Need-loop-less Inv-loop μ-loop
 loop-less c = omega arith
