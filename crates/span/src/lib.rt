@@ -3,7 +3,7 @@ use find::find_byte;
 ghost use mathlib.Core.Path.{_≡_};
 ghost use Prim.Native.Nat.{_+_, _≤_};
 ghost use lib.ListN.{length};
-ghost use Rattle.span.specs.Places.{partAt, ended, placed, longer, cutsOf, foundAt, oneAt, fourFrom};
+ghost use Rattle.span.specs.Places.{partAt, ended, placed, longer, cutsOf, foundAt, oneAt};
 
 // A place in the line and a length.
 pub struct Span {
@@ -115,18 +115,6 @@ pub fn gather(a: Part, b: Part, c: Part, d: Part, at: usize, len: usize) -> Span
         name,
         warnings,
     }
-}
-
-// The four parts of m from `from` on, and a name at its place.
-pub fn four_from(m: &[u8], from: usize, at: usize, len: usize) -> Spans
-    requires { ⌜ from ≤ length (now m) ⌝ }
-    ensures { λ r. ⌜ r ≡ fourFrom (now (m .entry)) from at len ⌝ }
-{
-    let a = part_at(m, from);
-    let b = part_at(m, a.next);
-    let c = part_at(m, b.next);
-    let d = part_at(m, c.next);
-    gather(a, b, c, d, at, len)
 }
 
 // One part and no other, and a name at its place.

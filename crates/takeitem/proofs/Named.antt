@@ -1,4 +1,4 @@
--- The texts of a line that may have a name, by their places: what was judged is found again. Assumes nothing.
+-- Parts one after another, and the texts of a line that may have a name, by their places: what was judged is found again. Assumes nothing.
 use mathlib.Core.Path.{_≡_, refl, sym, ap, _∙_}
 use mathlib.Core.Bool.{true, false}
 use mathlib.Core.List.{List}
@@ -39,6 +39,35 @@ use Rattle.division.proofs.Marks.{unnamed-long}
 use Rattle.division.proofs.Turns.{last-next, next-within, follow-same, follow-within, follow-part}
 use Rattle.takeitem.specs.Named.{nameOf, withName}
 use Rattle.takeitem.proofs.Texts.{past-yes, value-as, message-is, parts-held}
+
+-- ---- take_parts: a is what part_at answered
+
+module _ (s : List ℕ) (from : ℕ) (h : from ≤ length s) (a : Part) (g : a ≡ partAt s from) where
+  part-starts : a .at ≡ from
+  unfolding partTo
+  part-starts = ap (λ (x : Part). x .at) g
+
+  part-long : a .len ≡ from + seek bar (drop from s) - from
+  unfolding partTo
+  part-long = ap (λ (x : Part). x .len) g
+
+  pub part-room : length s < 18446744073709551616 → Fits w64 (from + a .len)
+  part-room b = omega (arith, part-long, seek-within bar s from h)
+
+  pub part-within : a .at ≤ length s
+  part-within = omega (arith, part-starts)
+
+  pub part-is : a ≡ partAt s (a .at)
+  part-is = g ∙ ap (partAt s) (sym part-starts)
+
+  pub part-alone : from + a .len ≡ length s → (r : Spans) → r ≡ oneAt from (a .len) 0 0 → r ≡ fourFrom s from 0 0
+  part-alone e r k =
+      one-found s from 0 0 r (from + seek bar (drop from s)) refl h (omega (arith, part-long)) (k ∙ ap (λ (n : ℕ). oneAt from n 0 0) part-long)
+
+  pub part-more : (r : Spans) → r ≡ fourFrom s (a .at) 0 0 → r ≡ fourFrom s from 0 0
+  part-more r e = e ∙ ap (λ (k : ℕ). fourFrom s k 0 0) part-starts
+
+pub ruleset all-parts = (part-room, part-within, part-is, part-alone, part-more)
 
 -- ---- take_others: four parts, one after another
 

@@ -1,7 +1,6 @@
 // An item's line that was judged before: its fields are taken one after the other, and its texts found by their places.
 use division::first_part;
 use division::next_part;
-use find::find_byte;
 use itemline::Fields;
 use itemline::Front;
 use itemline::Paid;
@@ -10,9 +9,9 @@ use sheet::Style;
 use span::Part;
 use span::Span;
 use span::Spans;
-use span::four_from;
 use span::gather;
 use span::one_part;
+use span::part_at;
 use taking::Account;
 use text::Begun;
 use text::begin_text;
@@ -86,16 +85,28 @@ fn message_start(y: Style, s: &[u8], from: usize) -> usize
     from
 }
 
-// The parts of a message with no name. Nearly every message has one part, and no more than that is looked for where it ends the line.
+// The parts of a message with no name, from a, the first, on.
+fn take_more(s: &[u8], a: Part) -> Spans
+    requires { ⌜ a .at ≤ length (now s) ⌝ }
+    requires { ⌜ a ≡ partAt (now s) (a .at) ⌝ }
+    ensures { λ r. ⌜ r ≡ fourFrom (now (s .entry)) (a .at) 0 0 ⌝ }
+{
+    let b = part_at(s, a.next);
+    let c = part_at(s, b.next);
+    let d = part_at(s, c.next);
+    gather(a, b, c, d, 0, 0)
+}
+
+// All of them. Most messages have one part, and no more than that is looked for where it ends the line.
 fn take_parts(s: &[u8], from: usize) -> Spans
     requires { ⌜ from ≤ length (now s) ⌝ }
     ensures { λ r. ⌜ r ≡ fourFrom (now (s .entry)) from 0 0 ⌝ }
 {
-    let end = find_byte(s, from, 124);
-    if end < s.len() {
-        return four_from(s, from, 0, 0);
+    let a = part_at(s, from);
+    if from + a.len == s.len() {
+        return one_part(from, a.len, 0, 0);
     }
-    one_part(from, end - from, 0, 0)
+    take_more(s, a)
 }
 
 // The parts of a message from a, the first, on, and the name behind them.
