@@ -11,10 +11,8 @@ static void draw_name(struct drafting *p)
     static const size_t lengths[] = {0, 1, 19, 21, NAME_ROOM};
     struct draft *draft = p->draft;
     draft->name_len = ABO_NAME_BYTES;
-    for (size_t i = 0; i < NAME_ROOM; i++) {
-        uint8_t byte = (uint8_t)between(&p->dice, 32, 255);
-        draft->name[i] = byte == 127 ? ' ' : byte;
-    }
+    for (size_t i = 0; i < NAME_ROOM; i++)
+        draft->name[i] = draw_name_byte(&p->dice);
     if (spoils(p, AT_NAME_MADE)) {
         size_t at = below(&p->dice, ABO_NAME_BYTES);
         if (one_in(&p->dice, 2))

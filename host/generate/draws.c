@@ -82,6 +82,12 @@ void draw_interval(struct dice *d, unsigned sheet, unsigned files,
     }
 }
 
+uint8_t draw_name_byte(struct dice *d)
+{
+    uint8_t byte = (uint8_t)between(d, 32, 255);
+    return byte == 127 ? ' ' : byte;
+}
+
 size_t draw_today(struct dice *d)
 {
     /* Both ends of the century, leap days, turns of years. */

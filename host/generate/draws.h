@@ -24,6 +24,9 @@ uint64_t draw_amounts(struct dice *d, unsigned sheet, uint64_t *amounts,
 void draw_interval(struct dice *d, unsigned sheet, unsigned files,
                    unsigned *from, unsigned *to);
 
+/* Any byte that a name may have. */
+uint8_t draw_name_byte(struct dice *d);
+
 /* A place in the list of days. */
 size_t draw_today(struct dice *d);
 

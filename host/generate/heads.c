@@ -1,5 +1,6 @@
 #include "heads.h"
 #include "days.h"
+#include "draws.h"
 #include "field_account.h"
 #include "fields.h"
 
@@ -19,10 +20,8 @@ static void put_any_text(struct plan *p, enum part part, size_t len)
 {
     static const uint8_t wrong[] = {0, 9, 31, 127, '\n', '\r'};
     size_t start = p->out->len;
-    for (size_t i = 0; i < len; i++) {
-        uint8_t byte = (uint8_t)between(&p->dice, 32, 255);
-        text_byte(p->out, byte == 127 ? ' ' : byte);
-    }
+    for (size_t i = 0; i < len; i++)
+        text_byte(p->out, draw_name_byte(&p->dice));
     if (len > 0 && spoils(p, part)) {
         size_t at = start + below(&p->dice, len);
         p->out->data[at] = PICK(&p->dice, wrong);
