@@ -2,29 +2,29 @@
 #ifndef BENCH_CALLS_H
 #define BENCH_CALLS_H
 
-#include "../peer/peer.h"
+#include "../host/call/call.h"
 #include "files.h"
 
-enum call { READ, WRITE, EXPLAIN };
 enum who { NONE, ABO, PEER };
 
-/* What a call is given, and the room that is lent to it: rows for as many as
-   the file has, output for as many bytes. */
+/* What a call is given, and the room that is lent to it: in reading for as many
+   rows as the file has, else for as many bytes. */
 struct lent {
     struct bench_file file;
-    unsigned sheet;
-    uint8_t *rows, *out;
-    size_t rows_len, out_len;
-    struct peer_header header;
+    uint8_t *rows;       /* of the file, if they are to be written .. */
+    struct outcome read; /* .. and what the second program read with them */
+    struct call call;
+    uint8_t *out;
+    size_t out_len, left; /* the bytes of it that the last call has written */
 };
 
-/* Gives back false if there is no such file, or no memory. */
-bool lend_for(struct lent *l, enum call call, unsigned sheet, const char *kind,
-              size_t bytes);
+/* Gives back false if there is no such file. */
+bool lend_for(struct lent *l, enum which which, unsigned sheet,
+              const char *kind, size_t bytes);
 void give_back(struct lent *l);
 
 /* Gives back the bytes read, explained or written, or 0 if the file was not
    accepted as what it was made.  NONE does nothing, and well. */
-size_t call_once(struct lent *l, enum call call, enum who who);
+size_t call_once(struct lent *l, enum who who);
 
 #endif

@@ -17,6 +17,7 @@
 #include <string.h>
 #include <time.h>
 
+#include "../host/generate/memory.h"
 #include "calls.h"
 
 enum { MOST_TIMES = 99 };
@@ -50,42 +51,31 @@ static double now(void)
     return (double)t.tv_sec * 1e9 + (double)t.tv_nsec;
 }
 
-static int count(struct lent *l, enum call call, enum who who)
+static int count(struct lent *l, enum who who)
 {
-    size_t bytes = call_once(l, call, who);
+    size_t bytes = call_once(l, who);
     printf("bytes %zu items %zu\n", bytes, l->file.items);
     return bytes == 0;
 }
 
-/* What a call leaves: rows, or output. */
-static const uint8_t *left_by(const struct lent *l, enum call call,
-                              size_t bytes, size_t *len)
-{
-    *len = call == READ ? l->rows_len : call == WRITE ? bytes : 0;
-    return call == READ ? l->rows : l->out;
-}
-
 /* Runs both once, which also makes their memory be there before it is timed. */
-static bool same_left(struct lent *l, enum call call)
+static bool same_left(struct lent *l)
 {
-    size_t mine, other;
-    size_t bytes = call_once(l, call, ABO);
-    const uint8_t *left = left_by(l, call, bytes, &mine);
-    uint8_t *copy = malloc(mine + 1);
-    if (copy == NULL || bytes == 0)
+    if (call_once(l, ABO) == 0)
         return false;
-    memcpy(copy, left, mine);
-    bytes = call_once(l, call, PEER);
-    left = left_by(l, call, bytes, &other);
-    bool same = bytes != 0 && mine == other && memcmp(copy, left, mine) == 0;
+    size_t len = l->left;
+    uint8_t *copy = resized(NULL, len);
+    memcpy(copy, l->out, len);
+    bool same = call_once(l, PEER) != 0 && l->left == len &&
+                memcmp(copy, l->out, len) == 0;
     free(copy);
     return same;
 }
 
-static int take_time(struct lent *l, enum call call, int times)
+static int take_time(struct lent *l, int times)
 {
     double took[2][MOST_TIMES];
-    if (!same_left(l, call)) {
+    if (!same_left(l)) {
         puts("the library and the second program differ");
         return 1;
     }
@@ -93,7 +83,7 @@ static int take_time(struct lent *l, enum call call, int times)
     for (int i = 0; i < times; i++)
         for (int who = ABO; who <= PEER; who++) {
             double began = now();
-            bytes = call_once(l, call, (enum who)who);
+            bytes = call_once(l, (enum who)who);
             took[who - ABO][i] = now() - began;
         }
     for (int i = 0; i < 2; i++)
@@ -105,21 +95,20 @@ static int take_time(struct lent *l, enum call call, int times)
 
 int main(int argc, char **argv)
 {
-    static const char *const calls[] = {"read", "write", "explain"};
     static const char *const whos[] = {"none", "abo", "peer"};
     static const char *const sheets[] = {"K", "S", "C", "E"};
     struct lent l;
     if (argc != 6)
         return usage();
-    int call = place_of(argv[1], calls, 3), who = place_of(argv[2], whos, 3);
+    int call = place_of(argv[1], call_names, FINDS);
+    int who = place_of(argv[2], whos, 3);
     int times = atoi(argv[2]), sheet = place_of(argv[3], sheets, 4) + 1;
     if (call < 0 || sheet < 1 || (who < 0 && (times < 1 || times > MOST_TIMES)))
         return usage();
-    if (!lend_for(&l, (enum call)call, (unsigned)sheet, argv[4],
+    if (!lend_for(&l, (enum which)call, (unsigned)sheet, argv[4],
                   strtoul(argv[5], NULL, 10)))
         return usage();
-    int status = who >= 0 ? count(&l, (enum call)call, (enum who)who)
-                          : take_time(&l, (enum call)call, times);
+    int status = who >= 0 ? count(&l, (enum who)who) : take_time(&l, times);
     give_back(&l);
     return status;
 }
