@@ -9,7 +9,7 @@ use Rattle.sheet.specs.declared.Sheet.{Sheet}
 use Rattle.paper.specs.Accounts.{readAccount}
 use Rattle.paper.specs.BankField.{readBank}
 use Rattle.paper.specs.Entries.{Said, no, gap}
-use Rattle.paper.specs.ItemLine.{readItem}
+use Rattle.paper.specs.ItemLine.{readSymbol, readItem}
 use Rattle.base.proofs.Cases.{pick-true}
 use Rattle.base.proofs.Lists.{drop-none}
 use Rattle.field.specs.At.{fieldAt}
@@ -28,7 +28,7 @@ use Rattle.judgeitem.specs.declared.PayeeFrom.{PayeeFrom}
 use Rattle.judgeitem.specs.declared.PayeeFrom.the-variants as before
 use Rattle.judgeitem.specs.Brief.{kept, brief}
 use Rattle.judgeitem.specs.Told.{toldFrom, InsideFrom}
-use Rattle.judgeitem.specs.Stages.{withTail, fromBank, fromAmount, fromPayee, payerFirst, byPieces}
+use Rattle.judgeitem.specs.Stages.{withTail, fromBank, fromVariable, fromAmount, fromPayee, payerFirst, byPieces}
 use Rattle.judgeitem.proofs.Brief.{line-brief}
 
 -- no text gives no warning
@@ -45,6 +45,17 @@ module _ (sh : Sheet) (amount : ℕ) (s : List ℕ) (at : ℕ) (n : NumAt) (g : 
   pub step-no-bank : (c : ℕ) → n ≡ Refused c → r ≡ no c at → r ≡ fromBank sh amount at (drop at s)
   unfolding fromBank
   step-no-bank c f q = q ∙ sym (missed-kept warningsOf (readBank (sh .priority)) s at c (rw f at g) _)
+
+-- ---- the variable symbol: n is what its judge answered
+
+module _ (sh : Sheet) (amount : ℕ) (s : List ℕ) (at : ℕ) (n : Passed) (g : passed n ≡ keeping nothing (fieldAt readSymbol s at)) (r : Said) where
+  pub step-variable : (e : ℕ) → n ≡ pass.At e → r ≡ gap e (drop e s) (λ a t. fromBank sh amount a t) → r ≡ fromVariable sh amount at (drop at s)
+  unfolding fromVariable
+  step-variable e f q = q ∙ sym (passed-field readSymbol s at n g e f (λ a t. gap a t (λ b u. fromBank sh amount b u)))
+
+  pub step-no-variable : (c : ℕ) → n ≡ pass.Refused c → r ≡ no c at → r ≡ fromVariable sh amount at (drop at s)
+  unfolding fromVariable
+  step-no-variable c f q = q ∙ sym (refused-field readSymbol s at n g c f _)
 
 -- ---- accounts: n is what their judge answered
 
@@ -92,6 +103,6 @@ payer-within s t i at f = rw f at i
 pub by-pieces : (sh : Sheet) (single : Bool) (s : List ℕ) (r : Said) → r ≡ byPieces sh single s → r ≡ brief (readItem sh single s)
 by-pieces sh single s r q = q ∙ sym (line-brief sh single s)
 
-pub ruleset items = (step-payee, step-no-payee, step-first, step-no-first, step-bank, step-no-bank, step-texts, step-no-texts, onward, kept-plain, step-payer, step-no-payer, no-payer, by-pieces, steps)
+pub ruleset items = (step-payee, step-no-payee, step-first, step-no-first, step-variable, step-no-variable, step-bank, step-no-bank, step-texts, step-no-texts, onward, kept-plain, step-payer, step-no-payer, no-payer, by-pieces, steps)
 
 pub ruleset bounds = (passed-within, number-within, bank-within, text-within, payer-within, bank-low, texts-few)

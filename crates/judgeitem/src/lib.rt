@@ -83,9 +83,9 @@ fn from_variable(s: &[u8], at: usize, sh: Sheet, amount: u64) -> Judged
     requires { ⌜ at ≤ length (now s) ⌝ }
     ensures { λ r. ⌜ told r ≡ fromVariable sh amount at (drop at (now (s .entry))) ⌝ }
 {
-    match field::number_at(s, at, 1, 10) {
-        NumAt::Refused(n) => Judged::Refused(n, at),
-        NumAt::Value(variable, end) => {
+    match judging::pass_symbol(s, at, 1) {
+        Passed::Refused(n) => Judged::Refused(n, at),
+        Passed::At(end) => {
             if s.len() <= end {
                 return Judged::Refused(4, end);
             }

@@ -6,7 +6,6 @@ use Prim.Native.Nat.{ℕ, _+_, _-_, _≤_, _<_}
 use native.Mathlib.Omega.{arith}
 use lib.ListN.{length, drop}
 use borrow.Author.Tests.{lt-ltb, le-ltb}
-use Rattle.base.specs.Pick.{pick}
 use Rattle.base.proofs.Cases.{pick-true, pick-false}
 use Rattle.paper.specs.Read.{value, fault}
 use Rattle.paper.specs.Bytes.{fieldOf, null}

@@ -1,3 +1,4 @@
+pub mod Digits
 pub mod Plain
 pub mod Steps
 pub mod Accounts

@@ -1,19 +1,19 @@
 -- What the plain bank field says, and how its bytes are tested. Assumes nothing.
-use mathlib.Core.Path.{_≡_, refl, sym, ap, _∙_}
+use mathlib.Core.Path.{_≡_, refl, sym, _∙_}
 use mathlib.Core.Bool.{Bool, true, false}
-use mathlib.Core.List.{List, [], _∷_, _++_}
-use Prim.Native.Nat.{ℕ, suc, _+_, _-_, _*_, _/_, _%_, _^_, _≤_, _<_}
+use mathlib.Core.List.{List, [], _∷_}
+use Prim.Native.Nat.{ℕ, _+_, _-_, _*_, _/_, _%_, _≤_, _<_}
 use native.Mathlib.Numerals.{add-one}
 use native.Mathlib.Omega.{arith}
-use lib.Dec.{eqb, ltb}
+use lib.Dec.{eqb}
 use lib.ListN.{length, getD, take, drop, take-append-drop, length-take, length-drop}
 use lib.Seq.{drop-cons, drop-drop, take-take}
-use borrow.Author.Tests.{eq-eqb, ne-eqb, eqb-true, le-ltb, le-leb}
+use borrow.Author.Tests.{eq-eqb, ne-eqb, le-ltb}
 use Rattle.base.specs.Pick.{pick}
 use Rattle.base.specs.Seek.{all, seek}
-use Rattle.base.proofs.Cases.{by-test, pick-true, pick-false}
+use Rattle.base.proofs.Cases.{by-test, pick-false}
 use Rattle.base.proofs.Seek.{never, all-cons, all-take, all-drop, seek-over}
-use Rattle.paper.specs.Read.{Field, value, fault, given}
+use Rattle.paper.specs.Read.{value, given}
 use Rattle.paper.specs.Bytes.{isDigit, space, fieldOf, null}
 use Rattle.paper.specs.Numerals.{digitsOn, digits}
 use Rattle.paper.specs.BankField.{Bank, ninth, readBank}
@@ -21,10 +21,8 @@ use Rattle.numeral.proofs.Digits.{in-range}
 use Rattle.numeral.proofs.Plain.{digit-range}
 use Rattle.numeral.proofs.Sound.{same, on-head, on-tail, read-on, digits-sound, digits-reads}
 use Rattle.numeral.proofs.Split.{digits-split}
-use Rattle.block.proofs.Turns.{Passes}
 use Rattle.account.specs.Bytes.{isZero}
 use Rattle.field.specs.At.{At, found, missed, ending, fieldAt}
-use Rattle.field.specs.Digits.{Worth}
 use Rattle.field.proofs.Front.{field-ends}
 use Rattle.field_bank.specs.declared.BankAt.{BankAt}
 use Rattle.field_bank.specs.declared.BankAt.the-variants as answer
@@ -33,14 +31,6 @@ use Rattle.judging.specs.Kept.{keeping, warningsOf}
 use Rattle.judging.specs.Plain.{PlainBank}
 
 -- ---- its bytes
-
--- d is what the byte b is worth
-pub is-digit : (b d : ℕ) → Worth b d → d ≤ 9 → isDigit b ≡ true
-unfolding isDigit pick
-is-digit b d w h = let g = w .digit h in simp (le-ltb b 48 (g .0), le-leb b 57 (g .1))
-
-pub eight-end : (s : List ℕ) (at j : ℕ) (t : Bool) → j ≤ 8 → 8 ≤ j → Passes isDigit s at j t → Passes isDigit s at 8 t
-eight-end s at j t m n h = let e : j ≡ 8 = omega arith in rw e at h
 
 -- four bytes at `at`
 module _ (s : List ℕ) (at : ℕ) (l : at + 4 ≤ length s) where
@@ -141,8 +131,8 @@ not-plain s at e = never (sym e)
 
 -- z, t and u are what was asked of the first four bytes, of the field's end and of all eight bytes
 module _ (s : List ℕ) (at : ℕ) (l : at ≤ length s) (m : 8 ≤ length s - at) (z t u : Bool) where
-  pub is-plain : z ≡ all isZero (take 4 (drop at s)) → z ≡ false → t ≡ null (fieldOf (drop (at + 8) s)) → t ≡ true → (u ≡ true → all isDigit (take 8 (drop at s)) ≡ true) → u ≡ true → PlainBank s at
-  is-plain a b c d f e = record { long = omega arith; plain = f e; some = sym a ∙ b; ends = sym c ∙ d }
+  pub is-plain : z ≡ all isZero (take 4 (drop at s)) → z ≡ false → t ≡ null (fieldOf (drop (at + 8) s)) → t ≡ true → u ≡ all isDigit (take 8 (drop at s)) → u ≡ true → PlainBank s at
+  is-plain a b c d f e = record { long = omega arith; plain = sym f ∙ e; some = sym a ∙ b; ends = sym c ∙ d }
 
 module _ (s : List ℕ) (at : ℕ) (t : Bool) (h : t ≡ true → PlainBank s at) (y : t ≡ true) where
   pub plain-room : at + 8 ≤ length s

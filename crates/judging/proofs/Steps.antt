@@ -1,12 +1,12 @@
 -- A field of the line s that is judged, for whoever reads on: n is what the judge answered, f what is kept of the value. Assumes nothing.
-use mathlib.Core.Path.{_≡_, refl, sym, ap, _∙_}
+use mathlib.Core.Path.{_≡_, sym, ap, _∙_}
 use mathlib.Core.Bool.{Bool}
 use mathlib.Core.List.{List}
 use Prim.Native.Nat.{ℕ, _≤_}
 use native.Mathlib.Omega.{arith}
 use lib.ListN.{length, drop}
 use Rattle.paper.specs.Read.{Field}
-use Rattle.paper.specs.BankField.{Bank, readBank}
+use Rattle.paper.specs.BankField.{readBank}
 use Rattle.paper.specs.Entries.{Said, no, field}
 use Rattle.bank.proofs.Sound.{bank-warnings}
 use Rattle.field.specs.At.{At, found, missed, fieldAt}

@@ -8,21 +8,29 @@ ghost use Prim.Native.Nat.{ℕ, _+_, _≤_, _<_};
 ghost use lib.ListN.{length, take, drop};
 ghost use Rattle.base.specs.Seek.{all};
 ghost use Rattle.paper.specs.Bytes.{isDigit};
+ghost use Rattle.paper.specs.Numerals.{digits};
 ghost use Rattle.paper.specs.Accounts.{ruled, readAccount};
 ghost use Rattle.paper.specs.BankField.{readBank};
 ghost use Rattle.account.specs.Bytes.{isZero};
 ghost use Rattle.account.specs.Doubled.{doubled};
 ghost use Rattle.field.specs.At.{ending, fieldAt};
+ghost use Rattle.field.specs.Digits.{run};
 ghost use Rattle.field.specs.Told.{told};
 ghost use Rattle.field_account.specs.Parts.{withBase};
 ghost use Rattle.judging.specs.Kept.{keeping, nothing, warningsOf};
 ghost use Rattle.judging.specs.Plain.{PlainBank};
 ghost use Rattle.judging.specs.Told.{passed};
 
+// What is known of a field of which nothing is kept: where it ends, or the refusal's number.
+pub enum Passed {
+    At(usize),
+    Refused(u64),
+}
+
 // Are the eight bytes at `at` digits? The loop has no early exit, so that the compiler compares all of them at once.
 fn eight_digits(s: &[u8], at: usize) -> bool
     requires { ⌜ at + 8 ≤ length (now s) ⌝ }
-    ensures { λ r. ⌜ (r ≡ true → all isDigit (take 8 (drop at (now (s .entry)))) ≡ true) ⌝ }
+    ensures { λ r. ⌜ r ≡ all isDigit (take 8 (drop at (now (s .entry)))) ⌝ }
 {
     let mut digits = true;
     let mut j: usize = 0;
@@ -33,6 +41,52 @@ fn eight_digits(s: &[u8], at: usize) -> bool
         j += 1;
     }
     digits
+}
+
+// Where the digits from `at` on end, `most` of them at most, which the line has room for. Callers name a small number, so that the
+// compiler unrolls the loop.
+fn few_end(s: &[u8], at: usize, most: usize) -> usize
+    requires { ⌜ at + most ≤ length (now s) ⌝ }
+    ensures { λ r. ⌜ r ≡ at + length (run most (drop at (now (s .entry)))) ⌝ }
+{
+    let mut j: usize = 0;
+    while j < most {
+        if 9 < field::worth(s[at + j]) {
+            return at + j;
+        }
+        j += 1;
+    }
+    at + most
+}
+
+// Where the digits from `at` on end, ten of them at most. Eight are passed at once.
+fn ten_end(s: &[u8], at: usize) -> usize
+    requires { ⌜ at ≤ length (now s) ⌝ }
+    ensures { λ r. ⌜ r ≡ at + length (run 10 (drop at (now (s .entry)))) ⌝ }
+{
+    if s.len() - at < 10 {
+        let got = field::digit_run(s, at, 10);
+        return got.end;
+    }
+    if eight_digits(s, at) {
+        return few_end(s, at + 8, 2);
+    }
+    few_end(s, at, 7)
+}
+
+// A symbol at `at`: `least` to 10 digits.
+pub fn pass_symbol(s: &[u8], at: usize, least: usize) -> Passed
+    requires { ⌜ at ≤ length (now s) ⌝ }
+    ensures { λ r. ⌜ passed r ≡ keeping nothing (fieldAt (digits least 10) (now (s .entry)) at) ⌝ }
+{
+    let end = ten_end(s, at);
+    if field::ends(s, end) {
+        if end - at < least {
+            return Passed::Refused(4);
+        }
+        return Passed::At(end);
+    }
+    Passed::Refused(4)
 }
 
 // Are the four bytes at `at` zeros?
@@ -87,12 +141,6 @@ pub fn judge_bank(s: &[u8], at: usize, ranked: bool) -> NumAt
             end,
         } => NumAt::Value(warnings, end),
     }
-}
-
-// What is known of a field of which nothing is kept: where it ends, or the refusal's number.
-pub enum Passed {
-    At(usize),
-    Refused(u64),
 }
 
 // An account by the sums of a prefix and a base, 5 where they break the rule.

@@ -1,25 +1,23 @@
 -- `from_variable`: the variable symbol, and what follows it. Assumes nothing.
 use borrow.Author.Needs.{needs}
-use Rattle.judgeitem.specs.Stages.{fromVariable}
 use Rattle.judgeitem.proofs.Steps.{items, bounds}
 use Rattle.judgeitem.proofs.from_variable.Statement.{statement}
 use Rattle.judgeitem.proofs.from_variable.Tie as tie
 use Rattle.judgeitem.proofs.from_variable.Reads as reads
 use Rattle.judgeitem.proofs.from_variable.Lts as lts
-use Rattle.field.proofs.number_at.Reads as number-at-reads
+use Rattle.judging.proofs.pass_symbol.Reads as pass-symbol-reads
 use Rattle.judgeitem.proofs.from_bank.Reads as from-bank-reads
 
-number-at-requires : tie.Need-number-at-requires
-number-at-requires c κs = search needs
+pass-symbol-requires : tie.Need-pass-symbol-requires
+pass-symbol-requires c κs = search needs
 
 enum-known-n : tie.Need-enum-known-n
 enum-known-n c = search needs
 
-enum-known-variable : tie.Need-enum-known-variable
-enum-known-variable c = search needs
+enum-known-end : tie.Need-enum-known-end
+enum-known-end c = search needs
 
 returns : tie.Need-returns
-unfolding fromVariable
 returns c = search items depth 12
 
 add-from-bank : tie.Need-add-from-bank
@@ -29,20 +27,18 @@ from-bank-requires : tie.Need-from-bank-requires
 from-bank-requires c κs = search needs
 
 returns-2 : tie.Need-returns-2
-unfolding fromVariable
 returns-2 c = search items depth 12
 
 returns-3 : tie.Need-returns-3
-unfolding fromVariable
 returns-3 c = search items depth 12
 
 pub from-variable-spec : {M : Type 1} → statement M
 from-variable-spec =
     tie.close
     (tie.spec
-    number-at-requires
+    pass-symbol-requires
     enum-known-n
-    enum-known-variable
+    enum-known-end
     returns
     add-from-bank
     from-bank-requires

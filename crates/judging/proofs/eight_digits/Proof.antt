@@ -1,12 +1,12 @@
 -- `eight_digits` meets its contract: while the answer is true, every byte passed is a digit. Assumes nothing.
-use mathlib.Core.Path.{refl}
+use mathlib.Core.Path.{_≡_, refl}
 use mathlib.Core.Logic.{⊎-elim}
 use Prim.Native.Nat.{_+_, _-_, _≤_}
 use native.Mathlib.Omega.{arith}
+use lib.ListN.{take, drop}
 use Rattle.base.specs.Seek.{all}
 use Rattle.paper.specs.Bytes.{isDigit}
-use Rattle.block.proofs.Turns.{Passes, pass-not, pass-more}
-use Rattle.judging.proofs.Plain.{is-digit, eight-end}
+use Rattle.judging.proofs.Digits.{eight-other, eight-digit, eight-end}
 use borrow.Author.Needs.{needs}
 use Rattle.judging.proofs.eight_digits.Statement.{statement}
 use Rattle.judging.proofs.eight_digits.Tie as tie
@@ -15,14 +15,14 @@ use Rattle.judging.proofs.eight_digits.Lts as lts
 use Rattle.field.proofs.worth.Reads as worth-reads
 
 abbrev Inv-loop : tie.InvT-loop
-Inv-loop s at digits₀ j₀ digits j = (j ≤ 8) × Passes isDigit s at j digits
+Inv-loop s at digits₀ j₀ digits j = (j ≤ 8) × (digits ≡ all isDigit (take j (drop at s)))
 
 abbrev μ-loop : tie.MeasureT-loop
 μ-loop s at digits₀ j₀ digits j = 8 - j
 
 loop-holds : tie.Need-loop-holds Inv-loop μ-loop
 unfolding all
-loop-holds c = (omega arith, λ e. refl)
+loop-holds c = (omega arith, refl)
 
 add-worth : tie.Need-add-worth Inv-loop μ-loop
 add-worth c = search needs
@@ -43,10 +43,12 @@ loop-again : tie.Need-loop-again Inv-loop μ-loop
 loop-again c =
     let s = c .before .before .before .before .before .before .args .s .now in
     let at = c .before .before .before .before .before .before .args .at in
-    let j = c .before .before .before .before .loop .j in (
+    let j = c .before .before .before .before .loop .j in
+    let inv = c .before .before .before .before .loop .inv .1 in
+    let w = c .before .worth .ensures in (
       omega arith,
-      ⊎-elim (λ w. pass-not isDigit s at (j + 1) _ (w .1))
-          (λ w. pass-more isDigit s at j _ _ (w .1) (omega arith) (c .before .before .before .before .loop .inv .1) (is-digit _ _ (c .before .worth .ensures) (w .0 .left)))
+      ⊎-elim (λ v. eight-other s at j _ _ (omega arith) inv _ w (v .0 .taken) (v .1))
+          (λ v. eight-digit s at j _ _ (omega arith) inv _ w (v .0 .left) (v .1))
           (c .if1 .came),
     )
 
