@@ -19,8 +19,8 @@ use Rattle.paper.specs.Writing.{drafted, writtenIn, outputAfter}
 use Rattle.paper.specs.Explaining.{explanation}
 use Rattle.tally.specs.Tally.{No, Yes, tally}
 use Rattle.reading.specs.declared.Head.{Head}
-use Rattle.reading.specs.declared.Judged.{Judged}
-use Rattle.reading.specs.declared.Judged.the-variants as judged
+use Rattle.reading.specs.declared.FileJudged.{FileJudged}
+use Rattle.reading.specs.declared.FileJudged.the-variants as judged
 use Rattle.reading.specs.Answer as reading
 use Rattle.explain.specs.declared.Verdict.{Verdict}
 use Rattle.explain.specs.Told.{textAnswer}
@@ -39,7 +39,7 @@ module _ (sh : Sheet) (today : ℕ) (f : List ℕ) where
     no-day e = sym (no-day-verdict sh today f (sym g ∙ e))
 
   -- j is what the file was judged to be
-  module _ (j : Judged) (g : reading.told f j ≡ tally sh today f) (real : realDay today ≡ true) where
+  module _ (j : FileJudged) (g : reading.told f j ≡ tally sh today f) (real : realDay today ≡ true) where
     pub refused : (n l p : ℕ) → j ≡ judged.Refused n l p → inBrief (No n l p) ≡ verdictOf (readWith (known.Sheet sh) today f (length f))
     refused n l p e = sym (day-verdict sh today f real ∙ ap inBrief (sym g ∙ ap (reading.told f) e))
 

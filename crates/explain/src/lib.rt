@@ -1,5 +1,5 @@
 // A judged file in a line of text. Which answer it is (`Verdict`) is known apart from how it is worded (`line_len`, `put_line`).
-use reading::Judged;
+use reading::FileJudged;
 use sheet::Known;
 use sheet::Sheet;
 ghost use mathlib.Core.Path.{_≡_};
@@ -42,14 +42,14 @@ fn verdict_on(file: &[u8], sh: Sheet, today: u64) -> Verdict
 {
     if calendar::real_day(today) {
         match reading::judge_file(file, sh, today) {
-            Judged::Refused(n, line, byte) => Verdict {
+            FileJudged::Refused(n, line, byte) => Verdict {
                 number: n,
                 line,
                 byte,
                 rows: 0,
                 warnings: 0,
             },
-            Judged::Accepted {
+            FileJudged::Accepted {
                 head: _,
                 rows,
                 warnings,

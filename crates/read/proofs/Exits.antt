@@ -17,8 +17,8 @@ use Rattle.paper.specs.Rows.{rowSize, linesRows, rowsBytes}
 use Rattle.paper.specs.Reading.{ReadAnswer, refusedAt, needs, acceptedAs, readWith, rowsWith, readAnswer, rowsAfter}
 use Rattle.tally.specs.Tally.{Yes, tally}
 use Rattle.reading.specs.declared.Head.{Head}
-use Rattle.reading.specs.declared.Judged.{Judged}
-use Rattle.reading.specs.declared.Judged.the-variants as judged
+use Rattle.reading.specs.declared.FileJudged.{FileJudged}
+use Rattle.reading.specs.declared.FileJudged.the-variants as judged
 use Rattle.reading.specs.Answer.{headOf, told, Sound, Kept}
 use Rattle.filling.specs.Judged.{AllSaid}
 use Rattle.read.proofs.Laws as laws
@@ -62,7 +62,7 @@ module _ (sh : Sheet) (today : ℕ) (f lent : List ℕ) (a : ReadAnswer) (room :
     no-day-rows e = laws.no-day-rows sh today f lent (sym g ∙ e)
 
   -- j is what the file was judged to be
-  module _ (j : Judged) (g : told f j ≡ tally sh today f) where
+  module _ (j : FileJudged) (g : told f j ≡ tally sh today f) where
     pub refused : (n l p : ℕ) → j ≡ judged.Refused n l p → realDay today ≡ true → a ≡ refusedAt n l p → a ≡ readWith (known.Sheet sh) today f room
     refused n l p e real h = h ∙ laws.refused-answer sh today f lent real n l p (sym g ∙ ap (told f) e) room
 
@@ -72,7 +72,7 @@ module _ (sh : Sheet) (today : ℕ) (f lent : List ℕ) (a : ReadAnswer) (room :
     pub accepted : (h : Head) (n w : ℕ) → j ≡ judged.Accepted h n w → tally sh today f ≡ Yes (headOf f h) n w
     accepted h n w e = sym g ∙ ap (told f) e
 
-pub accepted-sound : (f : List ℕ) (j : Judged) → Kept f j → (h : Head) (n w : ℕ) → j ≡ judged.Accepted h n w → Sound f h n w
+pub accepted-sound : (f : List ℕ) (j : FileJudged) → Kept f j → (h : Head) (n w : ℕ) → j ≡ judged.Accepted h n w → Sound f h n w
 accepted-sound f j k h n w e = subst (Kept f) e k
 
 pub ruleset judging = (real-known, no-day, no-day-rows, refused, refused-rows, accepted, accepted-sound)

@@ -1,7 +1,7 @@
 // Reading a whole file into lent rows, with the whole answer in one struct. The file is judged first; rows are put only if it is accepted and
 // they have room.
+use reading::FileJudged;
 use reading::Head;
-use reading::Judged;
 use sheet::Known;
 use sheet::Sheet;
 ghost use mathlib.Core.Path.{_≡_};
@@ -162,8 +162,8 @@ fn read_on(file: &[u8], sh: Sheet, today: u64, rows: &mut [u8]) -> AboAnswer
 {
     if calendar::real_day(today) {
         match reading::judge_file(file, sh, today) {
-            Judged::Refused(n, line, byte) => refusal(n, line, byte),
-            Judged::Accepted {
+            FileJudged::Refused(n, line, byte) => refusal(n, line, byte),
+            FileJudged::Accepted {
                 head,
                 rows: found,
                 warnings: warned,

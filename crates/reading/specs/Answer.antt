@@ -12,8 +12,8 @@ use Rattle.tally.specs.Tally.{Brief, No, Yes, tFile, newBook, run}
 use Rattle.accountfile.specs.declared.Left.{Left}
 use Rattle.accountfile.specs.Resume.{Good, toGo, Same}
 use Rattle.reading.specs.declared.Head.{Head}
-use Rattle.reading.specs.declared.Judged.{Judged}
-use Rattle.reading.specs.declared.Judged.the-variants as judged
+use Rattle.reading.specs.declared.FileJudged.{FileJudged}
+use Rattle.reading.specs.declared.FileJudged.the-variants as judged
 
 -- ---- the answer
 
@@ -23,7 +23,7 @@ headOf f h =
     record { date = h .date; name = pick (h .named) (take 20 (drop 10 f)) spaces20; client = h .client; from = h .from; to = h .to }
 
 -- a refusal's number, line and byte; or the header and the counts of rows and warnings
-abbrev pub told : List ℕ → Judged → Brief
+abbrev pub told : List ℕ → FileJudged → Brief
 told f (judged.Refused n k byte) = No n k byte
 told f (judged.Accepted h rows warnings) = Yes (headOf f h) rows warnings
 
@@ -33,7 +33,7 @@ pub record Sound (f : List ℕ) (h : Head) (rows warnings : ℕ) : Type 0 where
   pub rows-low : rows ≤ 199999001
   pub warnings-low : warnings ≤ 799992001
 
-abbrev pub Kept : List ℕ → Judged → Type 0
+abbrev pub Kept : List ℕ → FileJudged → Type 0
 Kept f (judged.Refused n k byte) = Unit {0}
 Kept f (judged.Accepted h rows warnings) = Sound f h rows warnings
 

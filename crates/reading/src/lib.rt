@@ -28,7 +28,7 @@ pub struct Head {
 }
 
 // What a file comes to: a refusal's number, line and byte; or the header and the counts of rows and warnings.
-pub enum Judged {
+pub enum FileJudged {
     Refused(u64, u64, u64),
     Accepted {
         head: Head,
@@ -144,7 +144,7 @@ fn groups(
 // ---- the file
 
 // Everything behind the first line, from `at` on.
-fn behind_first(f: &[u8], sh: Sheet, today: u64, at: usize, head: Head) -> Judged
+fn behind_first(f: &[u8], sh: Sheet, today: u64, at: usize, head: Head) -> FileJudged
     requires { ⌜ Sane sh × (realDay today ≡ true) ⌝ }
     requires { ⌜ (2 ≤ at) × (at ≤ length (now f)) ⌝ }
     requires { ⌜ (head .named ≡ true → 30 ≤ length (now f)) ⌝ }
@@ -168,10 +168,10 @@ fn behind_first(f: &[u8], sh: Sheet, today: u64, at: usize, head: Head) -> Judge
                 left = groups(f, terms, at, line, counts, shelf, &mut seen, 16);
             }
             Left::Refused(n, line, byte) => {
-                return Judged::Refused(n, line, byte);
+                return FileJudged::Refused(n, line, byte);
             }
             Left::Accepted(rows, warnings) => {
-                return Judged::Accepted {
+                return FileJudged::Accepted {
                     head,
                     rows,
                     warnings,
@@ -182,7 +182,7 @@ fn behind_first(f: &[u8], sh: Sheet, today: u64, at: usize, head: Head) -> Judge
 }
 
 // The first line, which is known as one, and everything behind it.
-fn from_first(f: &[u8], sh: Sheet, today: u64, cut: Cut) -> Judged
+fn from_first(f: &[u8], sh: Sheet, today: u64, cut: Cut) -> FileJudged
     requires { ⌜ Sane sh × (realDay today ≡ true) ⌝ }
     requires { ⌜ Cuts (now f) 0 cut ⌝ }
     requires { ⌜ kindOf (take (cut .stop - 0) (drop 0 (now f))) ≡ headLine ⌝ }
@@ -210,27 +210,27 @@ fn from_first(f: &[u8], sh: Sheet, today: u64, cut: Cut) -> Judged
             },
         ),
         FirstRead::Plain => behind_first(f, sh, today, cut.next, PLAIN),
-        FirstRead::Refused(n, off) => Judged::Refused(n, 1, off as u64),
+        FirstRead::Refused(n, off) => FileJudged::Refused(n, 1, off as u64),
     }
 }
 
 // The answer of a whole file on the sheet sh.
-pub fn judge_file(f: &[u8], sh: Sheet, today: u64) -> Judged
+pub fn judge_file(f: &[u8], sh: Sheet, today: u64) -> FileJudged
     requires { ⌜ Sane sh × (realDay today ≡ true) ⌝ }
     ensures { λ r. ⌜ told (now (f .entry)) r ≡ tally sh today (now (f .entry)) ⌝ }
     ensures { λ r. ⌜ Kept (now (f .entry)) r ⌝ }
 {
     if f.len() == 0 {
-        return Judged::Refused(3, 1, 0);
+        return FileJudged::Refused(3, 1, 0);
     }
     let cut = line::next_line(f, 0);
     let stop = cut.stop;
     match kind::kind_of(&f[0..stop]) {
         LineKind::Head => from_first(f, sh, today, cut),
-        LineKind::File => Judged::Refused(3, 1, 0),
-        LineKind::Group => Judged::Refused(3, 1, 0),
-        LineKind::Item => Judged::Refused(3, 1, 0),
-        LineKind::GroupEnd => Judged::Refused(3, 1, 0),
-        LineKind::FileEnd => Judged::Refused(3, 1, 0),
+        LineKind::File => FileJudged::Refused(3, 1, 0),
+        LineKind::Group => FileJudged::Refused(3, 1, 0),
+        LineKind::Item => FileJudged::Refused(3, 1, 0),
+        LineKind::GroupEnd => FileJudged::Refused(3, 1, 0),
+        LineKind::FileEnd => FileJudged::Refused(3, 1, 0),
     }
 }

@@ -26,8 +26,8 @@ use Rattle.rowread.specs.After.{after}
 use Rattle.survey.specs.declared.Surveyed.{Surveyed}
 use Rattle.survey.specs.declared.Surveyed.the-variants.{Improper, Unfit, Fits}
 use Rattle.survey.specs.Told.{told as surveyedAs, judged as surveyed, Small}
-use Rattle.write.specs.declared.Judged.{Judged}
-use Rattle.write.specs.declared.Judged.the-variants.{Refused, Bytes}
+use Rattle.write.specs.declared.BatchJudged.{BatchJudged}
+use Rattle.write.specs.declared.BatchJudged.the-variants.{Refused, Bytes}
 use Rattle.write.specs.Told.{refusedAt, countedAs, Named, before, brief, rowsDraft}
 use Rattle.write.proofs.Laws as laws
 
@@ -65,11 +65,11 @@ module _ (c : Check) (v : Verdict) (g : after 0 c fine ≡ v) where
   passed : c ≡ Fine → fine ≡ v
   passed e = sym (ap (λ (x : Check). after 0 x fine) e) ∙ g
 
-  pub next-is : (n : ℕ) (d : Draft) (next : Judged) → c ≡ Fine → next ≡ brief d → next ≡ brief (onVerdict n v d)
+  pub next-is : (n : ℕ) (d : Draft) (next : BatchJudged) → c ≡ Fine → next ≡ brief d → next ≡ brief (onVerdict n v d)
   unfolding onVerdict
   next-is n d next e h = h ∙ rw (← passed e)
 
-module _ (sh : Sheet) (from to : ℕ) (next : Judged) (c : Check) (g : (h : Header) → h .from ≡ from → h .to ≡ to → after 0 c fine ≡ pick (sh .header) (headerCarried (sh .interval) h) fine) where
+module _ (sh : Sheet) (from to : ℕ) (next : BatchJudged) (c : Check) (g : (h : Header) → h .from ≡ from → h .to ≡ to → after 0 c fine ≡ pick (sh .header) (headerCarried (sh .interval) h) fine) where
   pub carry-found : (field : ℕ) → c ≡ Wrong field → (h : Header) (d : Draft) → h .from ≡ from → h .to ≡ to → next ≡ brief d
       → Refused 21 0 field ≡ brief (onVerdict 21 (pick (sh .header) (headerCarried (sh .interval) h) fine) d)
   carry-found field e h d f t n = found c _ (g h f t) 21 field d e
@@ -84,21 +84,21 @@ pub ruleset carrying = (carry-found, carry-next)
 
 module _ (sh : Sheet) (today from to : ℕ) (ts : List Thing) (s : Surveyed) (g : (h : Header) → h .from ≡ from → h .to ≡ to → surveyedAs s ≡ surveyed sh today h ts) where
   -- what all headers with this interval are judged to be
-  abbrev pub Judges : Judged → Type 0
+  abbrev pub Judges : BatchJudged → Type 0
   Judges r = (h : Header) → h .from ≡ from → h .to ≡ to → Named sh h → r ≡ brief (rowsDraft sh today h ts)
 
   -- and what is said of them where 21 of the header may come before
-  abbrev pub Before : Judged → Judged → Type 0
+  abbrev pub Before : BatchJudged → BatchJudged → Type 0
   Before next r =
       (h : Header) (d : Draft) → h .from ≡ from → h .to ≡ to → next ≡ brief d → r ≡ brief (onVerdict 21 (pick (sh .header) (headerCarried (sh .interval) h) fine) d)
 
   pub row-improper : (row field : ℕ) → s ≡ Improper row field → Judges (Refused 20 row field)
   row-improper row field e h f t _ = laws.rows-improper sh today h ts row field (sym (ap surveyedAs e) ∙ g h f t)
 
-  pub row-unfit : (row field : ℕ) → s ≡ Unfit row field → (r : Judged) → Before (Refused 21 row field) r → Judges r
+  pub row-unfit : (row field : ℕ) → s ≡ Unfit row field → (r : BatchJudged) → Before (Refused 21 row field) r → Judges r
   row-unfit row field e r k h f t _ = laws.rows-unfit sh today h ts row field (sym (ap surveyedAs e) ∙ g h f t) r (λ d. k h d f t)
 
-  pub rows-fit : (c : ℕ) → s ≡ Fits c → (n : ℕ) → ((h : Header) → Named sh h → n ≡ length (spellFirst sh h) + 2 + c) → (r : Judged) → Before (Bytes n) r → Judges r
+  pub rows-fit : (c : ℕ) → s ≡ Fits c → (n : ℕ) → ((h : Header) → Named sh h → n ≡ length (spellFirst sh h) + 2 + c) → (r : BatchJudged) → Before (Bytes n) r → Judges r
   rows-fit c e n l r k h f t named = laws.rows-fit sh today h ts n c (l h named) (sym (ap surveyedAs e) ∙ g h f t) r (λ d. k h d f t)
 
 -- the first line, and what stands behind it
@@ -119,7 +119,7 @@ module _ (sh : Sheet) (today : ℕ) (h : Header) (ts : List Thing) (c : Check) (
   unfolding draftOf
   head-wrong field e = found c _ g 20 field _ e
 
-  pub head-fine : c ≡ Fine → (r : Judged)
+  pub head-fine : c ≡ Fine → (r : BatchJudged)
       → ((k : Header) → k .from ≡ h .from → k .to ≡ h .to → Named sh k → r ≡ brief (rowsDraft sh today k ts)) → r ≡ brief (draftOf sh today h ts)
   unfolding draftOf rowsDraft
   head-fine e r f = next-is c _ g 20 _ r e (f h refl refl (laws.named sh h (passed c _ g e)))
@@ -189,7 +189,7 @@ module _ (sh : Sheet) (today : ℕ) (h : Header) (ts : List Thing) (a : WriteAns
     no-day-output e = rw (← g, e)
 
   -- j is what the batch was judged to be
-  module _ (j : Judged) (g : j ≡ brief (draftOf sh today h ts)) where
+  module _ (j : BatchJudged) (g : j ≡ brief (draftOf sh today h ts)) where
     pub refused : (n row field : ℕ) → j ≡ Refused n row field → a ≡ refusedAt n row field → a ≡ writtenIn room (draftOf sh today h ts)
     refused n row field e k = k ∙ laws.refused-answer n row field _ (sym e ∙ g) room
 
@@ -197,7 +197,7 @@ module _ (sh : Sheet) (today : ℕ) (h : Header) (ts : List Thing) (a : WriteAns
     refused-output n row field e = laws.refused-output n row field _ (sym e ∙ g) o
 
 -- a draft of n bytes
-pub sized : (d : Draft) (j : Judged) → j ≡ brief d → (n : ℕ) → j ≡ Bytes n → Bytes n ≡ brief d
+pub sized : (d : Draft) (j : BatchJudged) → j ≡ brief d → (n : ℕ) → j ≡ Bytes n → Bytes n ≡ brief d
 sized d j g n e = sym e ∙ g
 
 pub ruleset days = (real-known, day-answer, day-output, no-day, no-day-output, sized, refused, refused-output)

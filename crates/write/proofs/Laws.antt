@@ -23,8 +23,8 @@ use Rattle.flat.proofs.Canon.{canon-flat}
 use Rattle.flat.proofs.Lengths.{canon-length}
 use Rattle.surveying.specs.Stands.{improper, unfit, fits, surveyOf}
 use Rattle.survey.specs.Told.{judged as surveyed}
-use Rattle.write.specs.declared.Judged.{Judged}
-use Rattle.write.specs.declared.Judged.the-variants as judged
+use Rattle.write.specs.declared.BatchJudged.{BatchJudged}
+use Rattle.write.specs.declared.BatchJudged.the-variants as judged
 use Rattle.write.specs.Told.{refusedAt, countedAs, Named, before, brief, rowsDraft}
 
 -- ---- what the rows are judged to be, turned round
@@ -86,18 +86,18 @@ module _ (sh : Sheet) (today : ℕ) (h : Header) (ts : List Thing) where
   rows-improper row field e = rw (improper-rows (batchProper ts) (batchCarried sh today h ts) _ row field e)
 
   -- what judging says of the header's 21, whatever comes behind it
-  abbrev pub Carries : Judged → Judged → Type 0
+  abbrev pub Carries : BatchJudged → BatchJudged → Type 0
   Carries next r = (d : Draft) → next ≡ brief d → r ≡ brief (onVerdict 21 (pick (sh .header) (headerCarried (sh .interval) h) fine) d)
 
   -- behind 21 of the header comes that of a row
-  pub rows-unfit : (row field : ℕ) → unfit row field ≡ surveyed sh today h ts → (r : Judged) → Carries (judged.Refused 21 row field) r → r ≡ brief (rowsDraft sh today h ts)
+  pub rows-unfit : (row field : ℕ) → unfit row field ≡ surveyed sh today h ts → (r : BatchJudged) → Carries (judged.Refused 21 row field) r → r ≡ brief (rowsDraft sh today h ts)
   unfolding surveyed rowsDraft onVerdict brief
   rows-unfit row field e r f =
       let (p, q) = unfit-rows (batchProper ts) (batchCarried sh today h ts) _ row field e in
       f (onVerdict 21 (batchCarried sh today h ts) (drafted (canon sh h (batchOf ts)))) (rw q) ∙ rw p
 
   -- or nothing, and the file has the first line's bytes, CR LF, and those of the rows
-  pub rows-fit : (n c : ℕ) → n ≡ length (spellFirst sh h) + 2 + c → fits c ≡ surveyed sh today h ts → (r : Judged) → Carries (judged.Bytes n) r → r ≡ brief (rowsDraft sh today h ts)
+  pub rows-fit : (n c : ℕ) → n ≡ length (spellFirst sh h) + 2 + c → fits c ≡ surveyed sh today h ts → (r : BatchJudged) → Carries (judged.Bytes n) r → r ≡ brief (rowsDraft sh today h ts)
   unfolding surveyed rowsDraft onVerdict brief
   rows-fit n c g e r f =
       let (p, q, k) = fit-rows (batchProper ts) (batchCarried sh today h ts) _ c e in

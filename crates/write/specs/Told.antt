@@ -12,8 +12,8 @@ use Rattle.paper.specs.Carried.{headerCarried, batchCarried}
 use Rattle.paper.specs.Canonical.{canon}
 use Rattle.paper.specs.Writing.{Draft, drafted, refusal, onVerdict, WriteAnswer}
 use Rattle.write.specs.declared.AboWritten.{AboWritten}
-use Rattle.write.specs.declared.Judged.{Judged}
-use Rattle.write.specs.declared.Judged.the-variants as judged
+use Rattle.write.specs.declared.BatchJudged.{BatchJudged}
+use Rattle.write.specs.declared.BatchJudged.the-variants as judged
 
 -- "The batch": the header of these numbers and this name
 abbrev pub headerOf : ℕ → List ℕ → ℕ → ℕ → ℕ → Header
@@ -40,7 +40,7 @@ abbrev pub before : List ℕ → List ℕ → List ℕ
 before s old = s ++ drop (length s) old
 
 -- a draft, of which only the file's length is kept
-unfoldable pub brief : Draft → Judged
+unfoldable pub brief : Draft → BatchJudged
 brief (drafted s) = judged.Bytes (length s)
 brief (refusal number row field) = judged.Refused number row field
 

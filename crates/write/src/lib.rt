@@ -20,7 +20,7 @@ ghost use Rattle.paper.specs.Canonical.{canon};
 ghost use Rattle.paper.specs.Writing.{Draft, onVerdict, draftOf, draftWith, draft, writtenIn, outputAfter};
 ghost use Rattle.rowread.specs.After.{after};
 ghost use Rattle.write.specs.Told.{headerOf, told, refusedAt, countedAs, brief, rowsDraft, Named, before};
-ghost use Rattle.write.specs.declared.Judged.the-variants.{Bytes};
+ghost use Rattle.write.specs.declared.BatchJudged.the-variants.{Bytes};
 
 // The whole answer of writing: the number, its row and field; the bytes written or, where there is no room, needed.
 #[repr(C)]
@@ -31,8 +31,8 @@ pub struct AboWritten {
     pub bytes: u64,
 }
 
-// What judging ends in: a refusal with its row and field, or the bytes of the whole file.
-pub enum Judged {
+// What judging a batch ends in: a refusal with its row and field, or the bytes of the whole file.
+pub enum BatchJudged {
     Refused(u64, u64, u64),
     Bytes(u64),
 }
@@ -87,11 +87,11 @@ fn header_carried(sh: Sheet, from: u64, to: u64) -> Check
 }
 
 // What the sheet cannot carry of the header comes before `next`, which is what the rows are judged to be.
-fn carry(sh: Sheet, from: u64, to: u64, next: Judged) -> Judged
+fn carry(sh: Sheet, from: u64, to: u64, next: BatchJudged) -> BatchJudged
     ensures { λ r. ⌜ ((h : Header) (d : Draft) → h .from ≡ from → h .to ≡ to → next ≡ brief d → r ≡ brief (onVerdict 21 (pick (sh .header) (headerCarried (sh .interval) h) fine) d)) ⌝ }
 {
     match header_carried(sh, from, to) {
-        Check::Wrong(field) => Judged::Refused(21, 0, field),
+        Check::Wrong(field) => BatchJudged::Refused(21, 0, field),
         Check::Fine => next,
     }
 }
@@ -105,14 +105,14 @@ fn file_len(sh: Sheet, rest: u64) -> u64
 }
 
 // The rows, behind a header that is as "The batch" says; 20 of the rows comes before 21 of the header.
-fn judge_rows(rows: &[u8], texts: &[u8], sh: Sheet, today: u64, from: u64, to: u64) -> Judged
+fn judge_rows(rows: &[u8], texts: &[u8], sh: Sheet, today: u64, from: u64, to: u64) -> BatchJudged
     requires { ⌜ realDay today ≡ true ⌝ }
     ensures { λ r. ⌜ ((h : Header) → h .from ≡ from → h .to ≡ to → Named sh h → r ≡ brief (rowsDraft sh today h (thingsIn (now (texts .entry)) (rowsIn (now (rows .entry)))))) ⌝ }
 {
     match survey::survey(rows, texts, sh, today, from, to) {
-        Surveyed::Improper(row, field) => Judged::Refused(20, row, field),
-        Surveyed::Unfit(row, field) => carry(sh, from, to, Judged::Refused(21, row, field)),
-        Surveyed::Fits(rest) => carry(sh, from, to, Judged::Bytes(file_len(sh, rest))),
+        Surveyed::Improper(row, field) => BatchJudged::Refused(20, row, field),
+        Surveyed::Unfit(row, field) => carry(sh, from, to, BatchJudged::Refused(21, row, field)),
+        Surveyed::Fits(rest) => carry(sh, from, to, BatchJudged::Bytes(file_len(sh, rest))),
     }
 }
 
@@ -127,12 +127,12 @@ fn judge(
     to: u64,
     sh: Sheet,
     today: u64,
-) -> Judged
+) -> BatchJudged
     requires { ⌜ realDay today ≡ true ⌝ }
     ensures { λ r. ⌜ r ≡ brief (draftOf sh today (headerOf date (now (name .entry)) client from to) (thingsIn (now (texts .entry)) (rowsIn (now (rows .entry))))) ⌝ }
 {
     match header_proper(sh, date, name, client, from, to) {
-        Check::Wrong(field) => Judged::Refused(20, 0, field),
+        Check::Wrong(field) => BatchJudged::Refused(20, 0, field),
         Check::Fine => judge_rows(rows, texts, sh, today, from, to),
     }
 }
@@ -200,8 +200,8 @@ fn write_on(
 {
     if calendar::real_day(today) {
         match judge(rows, texts, date, name, client, from, to, sh, today) {
-            Judged::Refused(number, row, field) => refusal(number, row, field),
-            Judged::Bytes(bytes) => accept(
+            BatchJudged::Refused(number, row, field) => refusal(number, row, field),
+            BatchJudged::Bytes(bytes) => accept(
                 rows,
                 texts,
                 date,
