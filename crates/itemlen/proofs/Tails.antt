@@ -17,7 +17,7 @@ use Rattle.paper.specs.Texts.{spellText, noText}
 use Rattle.paper.specs.ItemLine.{spellTail, spellItem}
 use Rattle.span.specs.declared.Span.{Span}
 use Rattle.rowread.specs.declared.ItemRow.{ItemRow}
-use Rattle.rowread.specs.Sized.{Within}
+use Rattle.span.specs.Held.{Within}
 use Rattle.rowread.specs.Told.{itemOf}
 use Rattle.rowread.proofs.Laws.{cut-is}
 use Rattle.itemlen.specs.Front.{front}

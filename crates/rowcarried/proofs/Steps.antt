@@ -17,7 +17,7 @@ use Rattle.span.specs.declared.Span.{Span}
 use Rattle.fileline.specs.Free.{numberFree}
 use Rattle.fileline.proofs.Set.{free-allowed}
 use Rattle.rowread.specs.Told.{textOfSpan}
-use Rattle.rowread.specs.Sized.{Within}
+use Rattle.span.specs.Held.{Within}
 use Rattle.rowread.proofs.Laws.{text-within, cut-is}
 use Rattle.rowread.proofs.Fields.{passes, fails}
 

@@ -18,7 +18,8 @@ ghost use Rattle.paper.specs.Proper.{Verdict, check};
 ghost use Rattle.paper.specs.Carried.{partsCarriedFrom, itemCarried};
 ghost use Rattle.seen.specs.Bits.{Holds};
 ghost use Rattle.rowread.specs.Told.{textOfSpan, itemOf};
-ghost use Rattle.rowread.specs.Sized.{Within, Inside, Sized};
+ghost use Rattle.span.specs.Held.{Within};
+ghost use Rattle.rowread.specs.Sized.{Inside, Sized};
 ghost use Rattle.rowread.specs.After.{after};
 
 // An account file: its kind is one of the sheet's, and its number is free.

@@ -22,7 +22,8 @@ use Rattle.rowread.specs.declared.Check.{Check}
 use Rattle.rowread.specs.declared.Check.the-variants.{Fine}
 use Rattle.rowread.specs.declared.ItemRow.{ItemRow}
 use Rattle.rowread.specs.Told.{textOfSpan, itemOf}
-use Rattle.rowread.specs.Sized.{Within, Sized}
+use Rattle.span.specs.Held.{Within}
+use Rattle.rowread.specs.Sized.{Sized}
 use Rattle.rowread.specs.After.{after}
 use Rattle.rowread.proofs.Laws.{text-within}
 

@@ -10,7 +10,7 @@ use borrow.Author.Tests.{le-leb, lt-leb, leb-true}
 use Rattle.base.proofs.Cases.{pick-true, by-lt}
 use Rattle.span.specs.declared.Span.{Span}
 use Rattle.rowread.specs.Told.{textOfSpan}
-use Rattle.rowread.specs.Sized.{Within}
+use Rattle.span.specs.Held.{Within}
 
 module _ (t : List ℕ) (p : Span) where
   pub text-in : leb (p .at + p .len) (length t) ≡ true → textOfSpan t p ≡ take (p .len) (drop (p .at) t)

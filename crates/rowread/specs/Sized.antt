@@ -1,16 +1,11 @@
 -- An item's row that is proper, as its writers need it: its texts lie inside what was lent, and nothing is too large. Assumes nothing.
-use Prim.Native.Nat.{ℕ, _+_, _≤_}
+use Prim.Native.Nat.{ℕ, _≤_}
 use mathlib.Core.List.{List}
-use lib.ListN.{length}
 use Rattle.paper.specs.Batch.{most14}
-use Rattle.span.specs.declared.Span.{Span}
+use Rattle.span.specs.Held.{Within}
 use Rattle.rowread.specs.declared.ItemRow.{ItemRow}
 
--- place and length lie within the bytes
-abbrev pub Within : List ℕ → Span → Type 0
-Within t p = p .at + p .len ≤ length t
-
--- all five texts do
+-- all five texts lie within the bytes
 pub record Inside (t : List ℕ) (x : ItemRow) : Type 0 where
   pub first : Within t (x .part1)
   pub second : Within t (x .part2)
