@@ -1,4 +1,4 @@
--- What the first line says fits: a header in its ranges, or C's. Assumes nothing.
+-- What the first line says fits: a header in its ranges, or C's, whose line is always the same. Assumes nothing.
 use mathlib.Core.Path.{_≡_, refl, sym, _∙_}
 use mathlib.Core.Bool.{Bool, true, false}
 use mathlib.Core.List.{List}
@@ -19,7 +19,7 @@ use Rattle.paper.specs.Batch.{Header}
 use Rattle.paper.specs.Proper.{fine, headerProper}
 use Rattle.paper.specs.Carried.{headerCarried}
 use Rattle.paper.specs.Entries.{Entry, head}
-use Rattle.paper.specs.FirstLine.{textField, readTo, readRest, readFirst}
+use Rattle.paper.specs.FirstLine.{textField, readTo, readRest, readFirst, spellFirst}
 use Rattle.paper.proofs.Verdicts.{check-on}
 use Rattle.numeral.proofs.Sound.{digits-sound}
 use Rattle.given.proofs.Given.{given-value}
@@ -93,3 +93,8 @@ module _ (sh : Sheet) (P : Entry → ℕ → Type 0) (told : (h : Header) → He
         is-none = λ not. never (sym yes ∙ not);
       }))
       (λ not. fits (told _ (record { is-proper = λ yes. never (sym yes ∙ not); is-carried = λ yes. never (sym yes ∙ not); is-none = λ _. refl })))
+
+-- C's first line is the same with any header
+pub headless : (sh : Sheet) (h g : Header) → sh .header ≡ false → spellFirst sh h ≡ spellFirst sh g
+unfolding spellFirst pick
+headless sh h g e = rw e

@@ -13,6 +13,7 @@ use Rattle.paper.specs.FirstLine.{spellFirst}
 use Rattle.paper.specs.Carried.{rowsCarried, batchCarried}
 use Rattle.paper.specs.Spells.{Due, itemDues, groupDues, fileDues, dues}
 use Rattle.paper.specs.Canonical.{spell, textOf, canon}
+use Rattle.linesound.proofs.FirstLine.{headless}
 use Rattle.lineback.proofs.Main.{number-any}
 use Rattle.whole.specs.Carries.{Passes, headRead}
 
@@ -38,13 +39,9 @@ module _ (sh : Sheet) where
     text-files seen [] = refl
     text-files seen (f ∷ fs) = ap (line (spell sh _)) (text-groups (f .groups) _ _ (text-files (series (f .number) ∷ seen) fs))
 
-    first-same : sh .header ≡ false → spellFirst sh h ≡ spellFirst sh h′
-    unfolding spellFirst
-    first-same off = pick-false _ _ off ∙ sym (pick-false _ _ off)
-
     pub canon-same : sh .header ≡ false → (b : Batch) → canon sh h b ≡ canon sh h′ b
     unfolding canon dues textOf spell
-    canon-same off b = rw (first-same off) (ap (line (spellFirst sh h′)) (text-files [] b))
+    canon-same off b = rw (headless sh h h′ off) (ap (line (spellFirst sh h′)) (text-files [] b))
 
   -- ---- the tests
 

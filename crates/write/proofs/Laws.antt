@@ -18,6 +18,7 @@ use Rattle.paper.specs.FirstLine.{spellFirst}
 use Rattle.paper.specs.Canonical.{canon}
 use Rattle.paper.specs.Writing.{Draft, drafted, refusal, onVerdict, draftOf, writtenIn, outputAfter}
 use Rattle.paper.proofs.Verdicts.{headed}
+use Rattle.linesound.proofs.FirstLine.{headless}
 use Rattle.flat.specs.Flat.{lineOf, flat}
 use Rattle.flat.proofs.Canon.{canon-flat}
 use Rattle.flat.proofs.Lengths.{canon-length}
@@ -64,11 +65,7 @@ module _ (sh : Sheet) (h : Header) where
   pub named : fine ≡ pick (sh .header) (headerProper h) fine → Named sh h
   named e = fine-named (sh .header) h e
 
--- on C the first line has no field, so that its length is that of any header's
-headless : (sh : Sheet) (h g : Header) → sh .header ≡ false → spellFirst sh h ≡ spellFirst sh g
-unfolding spellFirst pick
-headless sh h g e = rw e
-
+-- on C the first line's length is that of any header's
 first-by : (sh : Sheet) (t : Bool) → sh .header ≡ t → (r : ℕ) → ((h : Header) → length (h .name) ≡ 20 → r ≡ length (spellFirst sh h))
     → (h : Header) → Named sh h → r ≡ length (spellFirst sh h)
 first-by sh true e r f h n = f h (n e)
