@@ -1,23 +1,21 @@
 -- The line of an account file, and the file's end: where reading stands behind it. Assumes nothing.
 use mathlib.Core.Path.{_≡_, refl, sym, ap, _∙_}
-use mathlib.Core.Bool.{Bool, true, false}
+use mathlib.Core.Bool.{Bool, false}
 use mathlib.Core.List.{List, [], _∷_}
 use Prim.Native.Nat.{ℕ, _+_, _/_, _≤_, _<_}
 use native.Mathlib.Omega.{arith}
 use lib.Dec.{eqb}
-use lib.ListN.{length, drop}
+use lib.ListN.{length}
 use Rattle.base.specs.Pick.{pick}
 use Rattle.base.proofs.Cases.{by-test}
 use Rattle.sheet.specs.declared.Sheet.{Sheet}
-use Rattle.paper.specs.Read.{Field, value, fault}
-use Rattle.paper.specs.Numerals.{digits}
 use Rattle.paper.specs.Batch.{Header}
 use Rattle.paper.specs.Lines.{linesFrom}
-use Rattle.paper.specs.Entries.{file, Said, got, no, Kind, headLine, fileLine, groupLine, itemLine, groupEnd, fileEnd, kindOf, onField, field, gap, lineEnd}
-use Rattle.paper.specs.FileLine.{series, numberAllowed, readKind, readNumber, readCode, readFile}
+use Rattle.paper.specs.Entries.{file, got, no, Kind, headLine, fileLine, groupLine, itemLine, groupEnd, fileEnd, kindOf}
+use Rattle.paper.specs.FileLine.{series, numberAllowed, readNumber, readFile}
+use Rattle.paper.proofs.LineSays.{LineSays, a-file, file-says, refusal-in}
 use Rattle.paper.proofs.Starts.{kind-long}
-use Rattle.numeral.proofs.Sound.{digits-sound}
-use Rattle.given.proofs.Given.{given-value, value-same, value-fault}
+use Rattle.given.proofs.Sound.{tested}
 use Rattle.line.specs.declared.Cut.{Cut}
 use Rattle.line.specs.Cutting.{Cuts}
 use Rattle.line.proofs.Lines.{at-end}
@@ -34,7 +32,6 @@ use Rattle.tally.specs.Tally.{No, tFile, tStop, isDue, endOf, step, run}
 use Rattle.tally.proofs.Small.{file-limits}
 use Rattle.group.specs.declared.Counts.{Counts}
 use Rattle.group.specs.Stands.{bookOf, lineIn}
-use Rattle.group.proofs.Inside.{file-inside, inside-off}
 use Rattle.group.proofs.Turns.{cut as cut-of, within}
 use Rattle.group.proofs.Going.{run-stop, run-on}
 use Rattle.accountfile.specs.declared.Left.{Left}
@@ -44,60 +41,16 @@ use Rattle.accountfile.proofs.Steps.{file-other, file-full, file-got, f
 
 -- ---- a number has six digits
 
-passed : (t : Bool) (a v n : ℕ) → pick t (value a) (fault n) ≡ value v → a ≡ v
-unfolding pick
-passed true a v n e = value-same a v e
-passed false a v n e = value-fault v n (sym e)
-
-number-low : (allowed : ℕ → Bool) (s : List ℕ) (v : ℕ) → readNumber allowed s ≡ value v → v < 1000000
+low-of : {sh : Sheet} {today : ℕ} {allowed : ℕ → Bool} {single : Bool} {w : List ℕ} {kind : Kind} {k n v : ℕ} {p : List ℕ}
+    → LineSays sh today allowed single w kind (got (file k n) v p) → n < 1000000
 unfolding readNumber
-number-low allowed s v e =
-    let g = given-value _ (digits 6 6 s) v e in
-    let m : g .0 ≡ v = passed (allowed (g .0)) (g .0) v 9 (g .2) in
-    omega (arith, digits-sound 6 6 s (g .0) (g .1))
-
-data Low : Said → Type 0 where
-  low : {kind number v : ℕ} {p : List ℕ} → number < 1000000 → Low (got (file kind number) v p)
-  none : {n off : ℕ} → Low (no n off)
-
-on-low : (at : ℕ) (x : Field ℕ) {k : ℕ → Said} → ((v : ℕ) → x ≡ value v → Low (k v)) → Low (onField at x k)
-unfolding onField
-on-low at (value v) f = f v refl
-on-low at (fault n) f = none
-
-field-low : (read : List ℕ → Field ℕ) (at : ℕ) (s : List ℕ) {k : ℕ → ℕ → List ℕ → Said}
-    → ((v a : ℕ) (r f : List ℕ) → read f ≡ value v → Low (k v a r)) → Low (field read at s k)
-unfolding field
-field-low read at s f = on-low at _ (λ v e. f v _ _ _ e)
-
-gap-low : (at : ℕ) (s : List ℕ) {k : ℕ → List ℕ → Said} → ((a : ℕ) (r : List ℕ) → Low (k a r)) → Low (gap at s k)
-unfolding gap
-gap-low at [] f = none
-gap-low at (x ∷ s) f = f _ _
-
-end-low : (at : ℕ) (s : List ℕ) {r : Said} → Low r → Low (lineEnd at s r)
-unfolding lineEnd
-end-low at [] l = l
-end-low at (x ∷ s) l = none
-
-line-low : (sh : Sheet) (allowed : ℕ → Bool) (s : List ℕ) → Low (readFile sh allowed s)
-unfolding readFile
-line-low sh allowed s =
-    field-low (readKind sh) 2 (drop 2 s) λ kind a1 s1 f1 e1.
-    gap-low a1 s1 λ a2 s2.
-    field-low (readNumber allowed) a2 s2 λ number a3 s3 f2 e2.
-    gap-low a3 s3 λ a4 s4.
-    field-low (readCode sh) a4 s4 λ bank a5 s5 f3 e3.
-    end-low a5 s5 (low (number-low allowed f2 number e2))
-
-low-of : {kind number v : ℕ} {p : List ℕ} → Low (got (file kind number) v p) → number < 1000000
-low-of (low h) = h
+low-of {allowed = allowed} (a-file {number = n} _ g _ _) = tested 6 6 9 allowed (g .0) n (g .1) .0
 
 -- the first three digits of a number that was read
 pub series-low : (sh : Sheet) (allowed : ℕ → Bool) (s : List ℕ) (r : FileRead) → files.told r ≡ readFile sh allowed s → (kind number : ℕ) → r ≡ reads.File kind number → number / 1000 < 1000
 series-low sh allowed s r t kind number e =
     let u : got (file kind number) 0 [] ≡ readFile sh allowed s = rw e at t in
-    omega (arith, low-of (rw (← u) at (line-low sh allowed s)))
+    omega (arith, low-of (rw (← u) at (file-says sh 0 allowed false s)))
 
 pub file-within : (sh : Sheet) (allowed : ℕ → Bool) (f : List ℕ) (at : ℕ) (cut : Cut) → Cuts f at cut → kindOf (cut-of f at (cut .stop)) ≡ fileLine
     → (r : FileRead) → files.told r ≡ readFile sh allowed (cut-of f at (cut .stop)) → (n off : ℕ) → r ≡ reads.Refused n off → at + off ≤ cut .stop
@@ -105,7 +58,7 @@ file-within sh allowed f at cut cuts e r t n off q =
     let s = cut-of f at (cut .stop) in
     let u : no n off ≡ readFile sh allowed s = rw q at t in
     within f at (cut .stop) off (cuts .from) (omega (arith, cuts .to, cuts .inside))
-    (inside-off (rw (← u) at (file-inside sh allowed s (kind-long s fileLine e))))
+    (refusal-in (rw (← u) at (file-says sh 0 allowed false s)) (kind-long s fileLine e))
 
 -- the line has its first bytes
 pub file-long : (f : List ℕ) (at stop : ℕ) → kindOf (cut-of f at stop) ≡ fileLine → 2 ≤ length (cut-of f at stop)

@@ -13,6 +13,7 @@ use Rattle.paper.specs.Lines.{linesFrom}
 use Rattle.paper.specs.Entries.{Entry, group, closeFile, got, no, Kind, headLine, fileLine, groupLine, itemLine, groupEnd, fileEnd, kindOf}
 use Rattle.paper.specs.GroupLine.{readGroup}
 use Rattle.paper.specs.ClosingLine.{readClose}
+use Rattle.paper.proofs.LineSays.{group-says, file-end-says, refusal-in, total-in}
 use Rattle.paper.proofs.Starts.{kind-long}
 use Rattle.line.specs.declared.Cut.{Cut}
 use Rattle.line.specs.Cutting.{Cuts}
@@ -33,7 +34,6 @@ use Rattle.group.specs.declared.Open.{Open}
 use Rattle.group.specs.declared.GroupEnd.{GroupEnd}
 use Rattle.group.specs.declared.GroupEnd.the-variants as end
 use Rattle.group.specs.Stands.{bookOf, shelfOf, inGroup, inFile, lineIn, resumeGroup, Begun, Ended}
-use Rattle.group.proofs.Inside.{a-file-end, group-inside, close-inside, inside-off, inside-total}
 use Rattle.group.proofs.Turns.{cut as cut-of, within}
 use Rattle.group.proofs.Going.{run-stop, run-on}
 use Rattle.accountfile.specs.declared.Left.{Left}
@@ -63,18 +63,19 @@ module _ (f : List ℕ) (at : ℕ) (cut : Cut) (cuts : Cuts f at cut) where
     pub group-within : (n off : ℕ) → r ≡ reads.Refused n off → at + off ≤ cut .stop
     group-within n off q =
         let u : no n off ≡ readGroup sh today (cut-of f at (cut .stop)) = rw q at t in
-        in-file off (inside-off (rw (← u) at (group-inside sh today (cut-of f at (cut .stop)) (kind-long (cut-of f at (cut .stop)) groupLine e))))
+        in-file off (refusal-in (rw (← u) at (group-says sh today (λ _. false) false (cut-of f at (cut .stop)))) (kind-long (cut-of f at (cut .stop)) groupLine e))
 
     pub total-within : (prefix base total date warnings spot : ℕ) → r ≡ reads.Group prefix base total date warnings spot → at + spot ≤ cut .stop
     total-within prefix base total date warnings spot q =
         let u : got (group (account prefix base) total date) warnings (spot ∷ []) ≡ readGroup sh today (cut-of f at (cut .stop)) = rw q at t in
-        in-file spot (inside-total (rw (← u) at (group-inside sh today (cut-of f at (cut .stop)) (kind-long (cut-of f at (cut .stop)) groupLine e))))
+        in-file spot (total-in (rw (← u) at (group-says sh today (λ _. false) false (cut-of f at (cut .stop)))) (kind-long (cut-of f at (cut .stop)) groupLine e))
 
-  pub end-within : (near : Bool) → kindOf (cut-of f at (cut .stop)) ≡ fileEnd → (r : CloseRead)
-      → ((x : Entry) → closes.told x r ≡ readClose near x (cut-of f at (cut .stop))) → (n off : ℕ) → r ≡ closing.Refused n off → at + off ≤ cut .stop
-  end-within near e r t n off q =
-      let u : no n off ≡ readClose near closeFile (cut-of f at (cut .stop)) = rw q at (t closeFile) in
-      in-file off (inside-off (rw (← u) at (close-inside near closeFile (cut-of f at (cut .stop)) (kind-long (cut-of f at (cut .stop)) fileEnd e) a-file-end)))
+  pub end-within : (sh : Sheet) → kindOf (cut-of f at (cut .stop)) ≡ fileEnd → (r : CloseRead)
+      → ((x : Entry) → closes.told x r ≡ readClose (sh .near) x (cut-of f at (cut .stop))) → (n off : ℕ) → r ≡ closing.Refused n off → at + off ≤ cut .stop
+  end-within sh e r t n off q =
+      let s = cut-of f at (cut .stop) in
+      let u : no n off ≡ readClose (sh .near) closeFile s = rw q at (t closeFile) in
+      in-file off (refusal-in (rw (← u) at (file-end-says sh 0 (λ _. false) false s)) (kind-long s fileEnd e))
 
 -- ---- behind a group
 

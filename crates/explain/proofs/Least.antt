@@ -1,34 +1,26 @@
--- A line that says an account file, a group or an item has 8 bytes or more. Assumes nothing.
+-- A line that says an account file, a group or an item, and so makes a row, has 8 bytes or more. Assumes nothing.
 use mathlib.Core.Path.{_≡_, sym, _∙_}
 use mathlib.Core.Bool.{Bool, false}
-use mathlib.Core.List.{List, [], _∷_}
-use Prim.Native.Nat.{ℕ, _+_, _≤_}
+use mathlib.Core.List.{List}
+use Prim.Native.Nat.{ℕ, _*_, _≤_}
 use native.Mathlib.Omega.{arith}
 use lib.Dec.{eqb}
-use lib.ListN.{length, drop, length-take, length-drop}
+use lib.ListN.{length, length-drop}
 use Rattle.base.specs.Pick.{pick}
-use Rattle.base.specs.Seek.{seek}
-use Rattle.base.proofs.Cases.{either, by-test, pick-true, pick-false}
+use Rattle.base.proofs.Cases.{by-test, pick-true, pick-false}
 use Rattle.sheet.specs.declared.Sheet.{Sheet}
-use Rattle.paper.specs.Read.{Field, value}
-use Rattle.paper.specs.Bytes.{space, fieldOf, restOf}
+use Rattle.paper.specs.Read.{value}
 use Rattle.paper.specs.Numerals.{digits}
 use Rattle.paper.specs.Days.{readDue, readDay, shortDay, longDay}
-use Rattle.paper.specs.Accounts.{Account, nobody, readPayer, readAccount}
-use Rattle.paper.specs.Amounts.{readTotal, readItemAmount}
 use Rattle.paper.specs.BankField.{Bank, readBank}
-use Rattle.paper.specs.Entries.{Entry, Said, got, no, field, gap}
-use Rattle.paper.specs.FileLine.{readKind, readNumber, readFile}
-use Rattle.paper.specs.GroupLine.{totalAndDate, readGroup}
-use Rattle.paper.specs.ItemLine.{readSymbol, fromPayee, readItem}
+use Rattle.paper.specs.Entries.{Said, Kind}
+use Rattle.paper.specs.FileLine.{readKind, readNumber}
+use Rattle.paper.specs.Rows.{entryRow, lineRow}
+use Rattle.paper.proofs.LineSays.{LineSays, no-header, a-header, a-file, a-group, an-item, a-group-end, a-file-end, refused}
 use Rattle.numeral.proofs.Sound.{digits-least}
 use Rattle.given.proofs.Given.{given-value}
-use Rattle.linesound.proofs.Fine.{Fine, fits, none, fine-got, on-fine}
 
 -- ---- how long fields are
-
-field-split : (s : List ℕ) → length (fieldOf s) + length (restOf s) ≡ length s
-field-split s = omega (arith, length-take (seek space s) s, length-drop (seek space s) s)
 
 kind-four : (sh : Sheet) (s : List ℕ) (v : ℕ) → readKind sh s ≡ value v → 4 ≤ length s
 unfolding readKind
@@ -53,95 +45,19 @@ bank-eight : (ranked : Bool) (s : List ℕ) (v : Bank) → readBank ranked s ≡
 unfolding readBank
 bank-eight ranked s v e = let g = given-value _ (digits 8 10 s) v e in digits-least 8 10 s (g .0) (g .1)
 
--- ---- m bytes, n of which are read before s: if they say something, they are l or more
+-- ---- and so lines
 
-module _ (l m : ℕ) where
-  abbrev AtLeast : Entry → ℕ → Type 0
-  AtLeast e w = l ≤ m
-
-  -- so many were read, whatever the rest says
-  enough : l ≤ m → (r : Said) → Fine AtLeast r
-  enough h (got e w spots) = fits h
-  enough h (no n off) = none
-
-  gap-long : (at : ℕ) (s : List ℕ) (n : ℕ) → n + length s ≤ m → {k : ℕ → List ℕ → Said}
-      → ((a : ℕ) (r : List ℕ) → n + 1 + length r ≤ m → Fine AtLeast (k a r)) → Fine AtLeast (gap at s k)
-  unfolding gap
-  gap-long at [] n h p = none
-  gap-long at (x ∷ s) n h p = p (at + 1) s (omega arith)
-
-  field-long : {A : Type 0} (read : List ℕ → Field A) (at : ℕ) (s : List ℕ) (n : ℕ) → n + length s ≤ m → {k : A → ℕ → List ℕ → Said}
-      → ((v : A) (a : ℕ) (r f : List ℕ) → read f ≡ value v → n + length f + length r ≤ m → Fine AtLeast (k v a r))
-      → Fine AtLeast (field read at s k)
-  unfolding field
-  field-long read at s n h p =
-      on-fine AtLeast at (read (fieldOf s)) (λ v e. p v (at + seek space s) (restOf s) (fieldOf s) e (omega (arith, field-split s)))
-
--- ---- the three lines
-
-module _ (sh : Sheet) where
-  -- KIND and NUMBER
-  file-long : (allowed : ℕ → Bool) (s : List ℕ) → Fine (AtLeast 8 (length (drop 2 s))) (readFile sh allowed s)
-  unfolding readFile
-  file-long allowed s =
-      let m = length (drop 2 s) in
-      field-long 8 m (readKind sh) 2 (drop 2 s) 0 (omega arith) λ kind a1 s1 f1 e1 h1.
-      gap-long 8 m a1 s1 _ h1 λ a2 s2 h2.
-      field-long 8 m (readNumber allowed) a2 s2 _ h2 λ number a3 s3 f3 e3 h3.
-      enough 8 m (omega (arith, kind-four sh f1 kind e1, number-six allowed f3 number e3)) _
-
-  -- the space before DATE, and DATE
-  total-long : (m today : ℕ) (payer : Account) (at : ℕ) (t : List ℕ) → length t ≤ m → Fine (AtLeast 7 m) (totalAndDate sh today payer at t)
-  unfolding totalAndDate
-  total-long m today payer at t h =
-      field-long 7 m (readTotal (sh .comma)) at t 0 (omega arith) λ total a1 s1 f1 e1 h1.
-      gap-long 7 m a1 s1 _ h1 λ a2 s2 h2.
-      field-long 7 m (readDue (sh .longdate) (sh .early) (sh .ahead) today) a2 s2 _ h2 λ date a3 s3 f3 e3 h3.
-      enough 7 m (omega (arith, due-six (sh .longdate) (sh .early) (sh .ahead) today f3 date e3)) _
-
-  group-long : (today : ℕ) (s : List ℕ) → Fine (AtLeast 7 (length (drop 2 s))) (readGroup sh today s)
-  unfolding readGroup
-  group-long today s =
-      let m = length (drop 2 s) in
-      either (Fine (AtLeast 7 m)) _
-      (λ _.
-      field-long 7 m (readPayer (sh .emptypayer) (sh .zeropayer) (sh .joined) (sh .basemin)) 2 (drop 2 s) 0 (omega arith) λ payer a1 s1 f1 e1 h1.
-      gap-long 7 m a1 s1 _ h1 λ a2 s2 h2.
-      total-long m today payer a2 s2 (omega arith))
-      (λ _. total-long m today nobody 2 (drop 2 s) (omega arith))
-
-  -- the bank field
-  payee-long : (m : ℕ) (payer : Account) (at : ℕ) (s : List ℕ) → length s ≤ m → Fine (AtLeast 8 m) (fromPayee sh payer at s)
-  unfolding fromPayee
-  payee-long m payer at s h =
-      field-long 8 m (readAccount (sh .joined) (sh .basemin)) at s 0 (omega arith) λ payee a1 s1 f1 e1 h1.
-      gap-long 8 m a1 s1 _ h1 λ a2 s2 h2.
-      field-long 8 m (readItemAmount (sh .comma) (sh .itemdigits) (sh .itemmax)) a2 s2 _ h2 λ amount a3 s3 f3 e3 h3.
-      gap-long 8 m a3 s3 _ h3 λ a4 s4 h4.
-      field-long 8 m readSymbol a4 s4 _ h4 λ variable a5 s5 f5 e5 h5.
-      gap-long 8 m a5 s5 _ h5 λ a6 s6 h6.
-      field-long 8 m (readBank (sh .priority)) a6 s6 _ h6 λ bank a7 s7 f7 e7 h7.
-      enough 8 m (omega (arith, bank-eight (sh .priority) f7 bank e7)) _
-
-  item-long : (single : Bool) (s : List ℕ) → Fine (AtLeast 8 (length s)) (readItem sh single s)
-  unfolding readItem
-  item-long single s =
-      let m = length s in
-      either (Fine (AtLeast 8 m)) _
-      (λ _.
-      field-long 8 m (readAccount (sh .joined) (sh .basemin)) 0 s 0 (omega arith) λ payer a1 s1 f1 e1 h1.
-      gap-long 8 m a1 s1 _ h1 λ a2 s2 h2.
-      payee-long m payer a2 s2 (omega arith))
-      (λ _. payee-long m nobody 0 s (omega arith))
-
-  -- ---- what was read
-
-  module _ (s : List ℕ) (e : Entry) (w : ℕ) (spots : List ℕ) where
-    pub file-least : (allowed : ℕ → Bool) → readFile sh allowed s ≡ got e w spots → 8 ≤ length s
-    file-least allowed q = let h = fine-got (rw q at (file-long allowed s)) in omega (arith, h, length-drop 2 s)
-
-    pub group-least : (today : ℕ) → readGroup sh today s ≡ got e w spots → 8 ≤ length s
-    group-least today q = let h = fine-got (rw q at (group-long today s)) in omega (arith, h, length-drop 2 s)
-
-    pub item-least : (single : Bool) → readItem sh single s ≡ got e w spots → 8 ≤ length s
-    item-least single q = fine-got (rw q at (item-long single s))
+module _ (sh : Sheet) (start : ℕ) where
+  pub row-least : {today : ℕ} {allowed : ℕ → Bool} {single : Bool} {s : List ℕ} {kind : Kind} {r : Said} → LineSays sh today allowed single s kind r
+      → 8 * length (lineRow start r) ≤ length s
+  unfolding lineRow entryRow
+  row-least (no-header _) = omega arith
+  row-least (a-header _ _ _ _ _ _ _) = omega arith
+  row-least {allowed = allowed} {s = s} (a-file {kind = k} {number = m} f g _ h) =
+      omega (arith, h, kind-four sh (f .0) k (f .1), number-six allowed (g .0) m (g .1), length-drop 2 s)
+  row-least {today} {s = s} (a-group {date = date} _ _ d h _) =
+      omega (arith, h, due-six (sh .longdate) (sh .early) (sh .ahead) today (d .0) date (d .1), length-drop 2 s)
+  row-least (an-item {bank = bank} _ _ _ _ b h _ _) = omega (arith, h, bank-eight (sh .priority) (b .0) bank (b .1))
+  row-least a-group-end = omega arith
+  row-least a-file-end = omega arith
+  row-least (refused _ _) = omega arith

@@ -1,7 +1,9 @@
 -- Laws of `Field` and `given`. Assumes nothing.
 use mathlib.Core.Path.{_≡_, refl, sym}
+use mathlib.Core.Bool.{Bool, true, false}
 use Prim.Native.Nat.{ℕ}
 use native.Mathlib.Omega.{arith}
+use Rattle.base.specs.Pick.{pick}
 use Rattle.paper.specs.Read.{Field, value, fault, given}
 
 module _ {A : Type 0} where
@@ -23,3 +25,15 @@ module _ {A B : Type 0} (k : A → Field B) where
   unfolding given
   given-value (value a) b e = (a, refl, e)
   given-value (fault n) b e = value-fault b n (sym e)
+
+-- A value that a test let through: where it was to hold,
+pub passed : {A : Type 0} (t : Bool) (a v : A) (n : ℕ) → pick t (value a) (fault n) ≡ value v → (t ≡ true) × (a ≡ v)
+unfolding pick
+passed true a v n e = (refl, value-same a v e)
+passed false a v n e = value-fault v n (sym e)
+
+-- and where it was not.
+pub kept : {A : Type 0} (t : Bool) (a v : A) (n : ℕ) → pick t (fault n) (value a) ≡ value v → (t ≡ false) × (a ≡ v)
+unfolding pick
+kept true a v n e = value-fault v n (sym e)
+kept false a v n e = (refl, value-same a v e)

@@ -1,3 +1,4 @@
 pub mod Given
 pub mod Says
 pub mod Steps
+pub mod Sound

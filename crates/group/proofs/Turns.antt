@@ -12,6 +12,7 @@ use Rattle.paper.specs.ItemLine.{readItem}
 use Rattle.paper.specs.ClosingLine.{readClose}
 use Rattle.paper.specs.Spells.{differs}
 use Rattle.paper.specs.Judge.{totalBroken}
+use Rattle.paper.proofs.LineSays.{group-end-says, item-says, refusal-in}
 use Rattle.paper.proofs.Starts.{kind-long}
 use Rattle.tally.proofs.Small.{item-limits, differs-one}
 use Rattle.kind.specs.declared.LineKind.{LineKind}
@@ -31,7 +32,6 @@ use Rattle.group.specs.declared.Open.{Open}
 use Rattle.group.specs.declared.Turn.the-variants as turn
 use Rattle.group.specs.declared.GroupEnd.the-variants as end
 use Rattle.group.specs.Stands.{bookOf, shelfOf, openOf, LowItem, lineIn, Turns, closedAs}
-use Rattle.group.proofs.Inside.{a-group-end, item-inside, close-inside, inside-off}
 use Rattle.group.proofs.Steps.{group-not-head, group-not-file, group-not-group, group-not-file-end, item-full-file, item-full, item-more, item-no, end-empty, end-closed, end-no}
 
 -- a place in the bytes from `at` to `stop` is a place in the file
@@ -43,18 +43,18 @@ abbrev pub cut : List ℕ → ℕ → ℕ → List ℕ
 cut f at stop = take (stop - at) (drop at f)
 
 -- a refused line's offset stays in the file
-pub close-within : (near : Bool) (f : List ℕ) (at stop : ℕ) → kindOf (cut f at stop) ≡ groupEnd → (r : CloseRead)
-    → ((x : Entry) → closes.told x r ≡ readClose near x (cut f at stop)) → (n off : ℕ) → r ≡ closing.Refused n off → at ≤ stop → stop ≤ length f → at + off ≤ stop
-close-within near f at stop e r t n off q a b =
-    let u : no n off ≡ readClose near closeGroup (cut f at stop) = rw q at (t closeGroup) in
-    let two = kind-long (cut f at stop) groupEnd e in
-    within f at stop off a b (inside-off (rw (← u) at (close-inside near closeGroup (cut f at stop) two a-group-end)))
+pub close-within : (sh : Sheet) (f : List ℕ) (at stop : ℕ) → kindOf (cut f at stop) ≡ groupEnd → (r : CloseRead)
+    → ((x : Entry) → closes.told x r ≡ readClose (sh .near) x (cut f at stop)) → (n off : ℕ) → r ≡ closing.Refused n off → at ≤ stop → stop ≤ length f → at + off ≤ stop
+close-within sh f at stop e r t n off q a b =
+    let s = cut f at stop in
+    let u : no n off ≡ readClose (sh .near) closeGroup s = rw q at (t closeGroup) in
+    within f at stop off a b (refusal-in (rw (← u) at (group-end-says sh 0 (λ _. false) false s)) (kind-long s groupEnd e))
 
 pub item-within : (sh : Sheet) (single : Bool) (f : List ℕ) (at stop : ℕ) (r : Judged) → items.told r ≡ brief (readItem sh single (cut f at stop))
     → (n off : ℕ) → r ≡ judged.Refused n off → at ≤ stop → stop ≤ length f → at + off ≤ stop
 item-within sh single f at stop r t n off q a b =
     let u : no n off ≡ readItem sh single (cut f at stop) = brief-no (readItem sh single (cut f at stop)) n off (rw q at t) in
-    within f at stop off a b (inside-off (rw (← u) at (item-inside sh single (cut f at stop))))
+    within f at stop off a b (refusal-in (rw (← u) at (item-says sh 0 (λ _. false) single (cut f at stop))) (omega arith))
 
 module _ (sh : Sheet) (f : List ℕ) (at stop : ℕ) (c : Counts) (s : Shelf) (o : Open) where
   -- a line that is neither an item nor a group's end: r is the kind that was found

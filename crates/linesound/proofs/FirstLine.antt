@@ -4,28 +4,27 @@ use mathlib.Core.Bool.{Bool, true, false}
 use mathlib.Core.List.{List}
 use Prim.Native.Nat.{ℕ, _^_, _<_}
 use lib.Dec.{eqb, ltb, leb}
-use lib.ListN.{length, drop}
+use lib.ListN.{length}
 use borrow.Author.Tests.{lt-ltb, le-leb, ltb-false, eq-eqb}
 use Rattle.base.specs.Pick.{pick}
 use Rattle.base.specs.Seek.{all}
-use Rattle.base.proofs.Cases.{either, both-pick}
+use Rattle.base.proofs.Cases.{both-pick}
 use Rattle.base.proofs.Seek.{never}
 use Rattle.sheet.specs.declared.Sheet.{Sheet}
 use Rattle.paper.specs.Read.{value}
 use Rattle.paper.specs.Bytes.{isText}
 use Rattle.paper.specs.Numerals.{digits}
 use Rattle.paper.specs.Days.{realDay, shortDay, readDay}
-use Rattle.paper.specs.Batch.{Header}
+use Rattle.paper.specs.Batch.{Header, noHeader}
 use Rattle.paper.specs.Proper.{fine, headerProper}
 use Rattle.paper.specs.Carried.{headerCarried}
-use Rattle.paper.specs.Entries.{Entry, head}
-use Rattle.paper.specs.FirstLine.{textField, readTo, readRest, readFirst, spellFirst}
+use Rattle.paper.specs.FirstLine.{textField, readTo, spellFirst}
+use Rattle.paper.proofs.LineSays.{Read}
 use Rattle.paper.proofs.Verdicts.{check-on}
 use Rattle.numeral.proofs.Sound.{digits-sound}
-use Rattle.given.proofs.Given.{given-value}
+use Rattle.given.proofs.Given.{given-value, passed, kept}
 use Rattle.calendar.proofs.Sound.{day-sound}
 use Rattle.linesound.specs.Fits.{HeadFits}
-use Rattle.linesound.proofs.Fine.{Fine, fits, on-fine, place-fine, passed, kept}
 
 -- ---- its fields
 
@@ -70,31 +69,25 @@ header-carried ordered h e = check-on 0 5 _ _ (in-order ordered (h .from) (h .to
 
 -- ---- the line
 
-module _ (sh : Sheet) (P : Entry → ℕ → Type 0) (told : (h : Header) → HeadFits sh h → P (head h) 0) where
-  pub first-fine : (s : List ℕ) → Fine P (readFirst sh s)
-  unfolding readFirst
-  first-fine s =
-      either (Fine P) (sh .header)
-      (λ yes.
-      place-fine P 6 shortDay 4 (drop 4 s) λ date a1 s1 f1 l1 e1.
-      place-fine P 20 textField a1 s1 λ name a2 s2 f2 l2 e2.
-      place-fine P 10 (digits 10 10) a2 s2 λ client a3 s3 f3 l3 e3.
-      place-fine P 3 (digits 3 3) a3 s3 λ from a4 s4 f4 l4 e4.
-      place-fine P 3 (readTo (sh .interval) from) a4 s4 λ to a5 s5 f5 l5 e5.
-      on-fine P a5 (readRest (sh .short) s5) λ rest e6.
+module _ (sh : Sheet) where
+  pub header-fits : {date client from to : ℕ} {name : List ℕ} → sh .header ≡ true → Read shortDay date → (t : Read textField name) → length (t .0) ≡ 20
+      → Read (digits 10 10) client → Read (digits 3 3) from → Read (readTo (sh .interval) from) to
+      → HeadFits sh (record { date = date; name = name; client = client; from = from; to = to })
+  header-fits {date} {client} {from} {to} {name} has d n long c f t =
       let h : Header = record { date = date; name = name; client = client; from = from; to = to } in
-      let t = to-sound (sh .interval) from f5 to e5 in
-      fits
-      (told h
+      let l = to-sound (sh .interval) from (t .0) to (t .1) in
       record {
         is-proper =
-            λ _. header-proper h (short-sound f1 date e1) (text-sound f2 name 20 l2 e2) (digits-sound 10 10 f3 client e3) (digits-sound 3 3 f4 from e4) (t .0);
-        is-carried = λ _. header-carried (sh .interval) h (t .1);
-        is-none = λ not. never (sym yes ∙ not);
-      }))
-      (λ not. fits (told _ (record { is-proper = λ yes. never (sym yes ∙ not); is-carried = λ yes. never (sym yes ∙ not); is-none = λ _. refl })))
+            λ _. header-proper h (short-sound (d .0) date (d .1)) (text-sound (n .0) name 20 long (n .1)) (digits-sound 10 10 (c .0) client (c .1))
+            (digits-sound 3 3 (f .0) from (f .1)) (l .0);
+        is-carried = λ _. header-carried (sh .interval) h (l .1);
+        is-none = λ not. never (sym has ∙ not);
+      }
 
--- C's first line is the same with any header
-pub headless : (sh : Sheet) (h g : Header) → sh .header ≡ false → spellFirst sh h ≡ spellFirst sh g
-unfolding spellFirst pick
-headless sh h g e = rw e
+  pub no-header-fits : sh .header ≡ false → HeadFits sh noHeader
+  no-header-fits not = record { is-proper = λ yes. never (sym yes ∙ not); is-carried = λ yes. never (sym yes ∙ not); is-none = λ _. refl }
+
+  -- C's first line is the same with any header
+  pub headless : (h g : Header) → sh .header ≡ false → spellFirst sh h ≡ spellFirst sh g
+  unfolding spellFirst pick
+  headless h g e = rw e

@@ -1,24 +1,20 @@
 -- What the line of a group says fits. Assumes nothing.
 use mathlib.Core.Path.{_≡_, refl}
-use mathlib.Core.Bool.{true}
+use mathlib.Core.Bool.{Bool, true}
 use mathlib.Core.Logic.{_⊎_, inl, inr}
-use mathlib.Core.List.{List}
 use Prim.Native.Nat.{ℕ}
-use lib.ListN.{drop}
 use Rattle.base.specs.Pick.{pick}
 use Rattle.base.proofs.Cases.{either, pick-true}
 use Rattle.sheet.specs.declared.Sheet.{Sheet}
-use Rattle.paper.specs.Days.{readDue, dueWarnings}
+use Rattle.paper.specs.Days.{readDue}
 use Rattle.paper.specs.Accounts.{Account, nobody, accountProper, isNobody, readPayer}
 use Rattle.paper.specs.Amounts.{readTotal}
 use Rattle.paper.specs.Proper.{payerProper}
-use Rattle.paper.specs.Entries.{Entry, group}
-use Rattle.paper.specs.GroupLine.{hasPayer, totalAndDate, readGroup}
+use Rattle.paper.proofs.LineSays.{Read, Payer, stands, lacks}
 use Rattle.calendar.proofs.Sound.{due-sound}
 use Rattle.account.proofs.Sound.{payer-sound}
 use Rattle.amount.proofs.Sound.{total-sound}
 use Rattle.linesound.specs.Fits.{GroupFits}
-use Rattle.linesound.proofs.Fine.{Fine, fits, gap-fine, end-fine, field-fine}
 
 payer-in : (a : Account) → (isNobody a ≡ true) ⊎ (accountProper a ≡ true) → payerProper a ≡ true
 unfolding payerProper
@@ -29,25 +25,14 @@ nobody-in : payerProper nobody ≡ true
 unfolding payerProper isNobody pick
 nobody-in = refl
 
-module _ (sh : Sheet) (today : ℕ) (P : Entry → ℕ → Type 0)
-    (told : (p : Account) (t d : ℕ) → GroupFits sh today p t d → P (group p t d) (dueWarnings (sh .warnpast) today d)) where
-  total-fine : (payer : Account) → payerProper payer ≡ true → (at : ℕ) (s : List ℕ) → Fine P (totalAndDate sh today payer at s)
-  unfolding totalAndDate
-  total-fine payer h at s =
-      field-fine P (readTotal (sh .comma)) at s λ total a1 s1 f1 e1.
-      gap-fine P a1 s1 λ a2 s2.
-      field-fine P (readDue (sh .longdate) (sh .early) (sh .ahead) today) a2 s2 λ date a3 s3 f2 e2.
-      let d = due-sound (sh .longdate) f2 (sh .early) (sh .ahead) today date e2 in
-      end-fine P a3 s3
-      (fits (told payer total date
-      (record { payer-proper = h; total-low = total-sound (sh .comma) f1 total e1; date-real = d .0; date-allowed = d .1 })))
+module _ (sh : Sheet) where
+  payer-fits : {named : Bool} {payer : Account} → Payer (readPayer (sh .emptypayer) (sh .zeropayer) (sh .joined) (sh .basemin)) named payer → payerProper payer ≡ true
+  payer-fits (stands {a} f) = payer-in a (payer-sound (sh .joined) (sh .basemin) (f .0) (sh .emptypayer) (sh .zeropayer) a (f .1))
+  payer-fits lacks = nobody-in
 
-  pub group-fine : (s : List ℕ) → Fine P (readGroup sh today s)
-  unfolding readGroup
-  group-fine s =
-      either (Fine P) (hasPayer (sh .emptypayer) s)
-      (λ _.
-      field-fine P (readPayer (sh .emptypayer) (sh .zeropayer) (sh .joined) (sh .basemin)) 2 (drop 2 s) λ payer a1 s1 f1 e1.
-      gap-fine P a1 s1 λ a2 s2.
-      total-fine payer (payer-in payer (payer-sound (sh .joined) (sh .basemin) f1 (sh .emptypayer) (sh .zeropayer) payer e1)) a2 s2)
-      (λ _. total-fine nobody nobody-in 2 (drop 2 s))
+  pub group-fits : {today : ℕ} {named : Bool} {payer : Account} {total date : ℕ}
+      → Payer (readPayer (sh .emptypayer) (sh .zeropayer) (sh .joined) (sh .basemin)) named payer → Read (readTotal (sh .comma)) total
+      → Read (readDue (sh .longdate) (sh .early) (sh .ahead) today) date → GroupFits sh today payer total date
+  group-fits {today} {total = total} {date} p t f =
+      let d = due-sound (sh .longdate) (f .0) (sh .early) (sh .ahead) today date (f .1) in
+      record { payer-proper = payer-fits p; total-low = total-sound (sh .comma) (t .0) total (t .1); date-real = d .0; date-allowed = d .1 }

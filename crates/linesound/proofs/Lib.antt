@@ -1,4 +1,3 @@
-pub mod Fine
 pub mod Checks
 pub mod Items
 pub mod Rows
@@ -6,5 +5,4 @@ pub mod FirstLine
 pub mod FileLine
 pub mod GroupLine
 pub mod ItemLine
-pub mod ClosingLine
 pub mod Main

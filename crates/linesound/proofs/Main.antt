@@ -5,29 +5,30 @@ use mathlib.Core.List.{List}
 use Prim.Native.Nat.{ℕ}
 use Rattle.sheet.specs.declared.Sheet.{Sheet}
 use Rattle.sheet.proofs.Laws.{Sane}
-use Rattle.paper.specs.Entries.{Entry, closeGroup, closeFile, got, Kind, headLine, fileLine, groupLine, itemLine, groupEnd, fileEnd, kindOf}
-use Rattle.paper.specs.Spells.{Context, allowedIn, singleIn, readAs, readLine}
+use Rattle.paper.specs.Entries.{Entry, Said, got, no, Kind, kindOf}
+use Rattle.paper.specs.Spells.{Context, readLine}
+use Rattle.paper.proofs.LineSays.{LineSays, no-header, a-header, a-file, a-group, an-item, a-group-end, a-file-end, refused, says}
 use Rattle.linesound.specs.Fits.{FitsIn, Fits, Warned}
-use Rattle.linesound.proofs.Fine.{Fine, fine-got}
-use Rattle.linesound.proofs.FirstLine.{first-fine}
-use Rattle.linesound.proofs.FileLine.{file-fine}
-use Rattle.linesound.proofs.GroupLine.{group-fine}
-use Rattle.linesound.proofs.ItemLine.{item-fine}
-use Rattle.linesound.proofs.ClosingLine.{close-fine}
+use Rattle.linesound.proofs.FirstLine.{header-fits, no-header-fits}
+use Rattle.linesound.proofs.FileLine.{file-fits}
+use Rattle.linesound.proofs.GroupLine.{group-fits}
+use Rattle.linesound.proofs.ItemLine.{item-fits}
 
-abbrev Told : Sheet → ℕ → (ℕ → Bool) → Bool → Entry → ℕ → Type 0
-Told sh today allowed single e w = FitsIn sh today allowed single e × Warned sh today e w
+abbrev Told : Sheet → ℕ → (ℕ → Bool) → Bool → Said → Type 0
+Told sh today allowed single (got e w spots) = FitsIn sh today allowed single e × Warned sh today e w
+Told sh today allowed single (no n off) = Unit {0}
 
-module _ (sh : Sheet) (sane : Sane sh) (today : ℕ) (c : Context) where
-  as-fine : (k : Kind) (s : List ℕ) → Fine (Told sh today (allowedIn sh c) (singleIn c)) (readAs sh today c k s)
-  unfolding readAs
-  as-fine headLine s = first-fine sh _ (λ h f. (f, refl)) s
-  as-fine fileLine s = file-fine sh sane (allowedIn sh c) _ (λ k n f. (f, refl)) s
-  as-fine groupLine s = group-fine sh today _ (λ p t d f. (f, refl)) s
-  as-fine itemLine s = item-fine sh sane (singleIn c) _ (λ x w f. (f, tt)) s
-  as-fine groupEnd s = close-fine _ closeGroup (tt, refl) (sh .near) s
-  as-fine fileEnd s = close-fine _ closeFile (tt, refl) (sh .near) s
+module _ (sh : Sheet) (sane : Sane sh) where
+  sound : {today : ℕ} {allowed : ℕ → Bool} {single : Bool} {w : List ℕ} {kind : Kind} {r : Said} → LineSays sh today allowed single w kind r → Told sh today allowed single r
+  sound (no-header not) = (no-header-fits sh not, refl)
+  sound (a-header has d n long c f t) = (header-fits sh has d n long c f t, refl)
+  sound (a-file k n _ _) = (file-fits sh sane k n, refl)
+  sound (a-group p t d _ _) = (group-fits sh p t d, refl)
+  sound (an-item p f a v b _ s t) = (item-fits sh sane p f a v b s t, tt)
+  sound a-group-end = (tt, refl)
+  sound a-file-end = (tt, refl)
+  sound (refused _ _) = tt
 
-  pub line-sound : (s : List ℕ) (e : Entry) (w : ℕ) (spots : List ℕ) → readLine sh today c s ≡ got e w spots → Fits sh today c e × Warned sh today e w
+  pub line-sound : (today : ℕ) (c : Context) (s : List ℕ) (e : Entry) (w : ℕ) (spots : List ℕ) → readLine sh today c s ≡ got e w spots → Fits sh today c e × Warned sh today e w
   unfolding readLine
-  line-sound s e w spots g = fine-got (rw g at (as-fine (kindOf s) s))
+  line-sound today c s e w spots g = rw g at (sound (says sh today c (kindOf s) s))

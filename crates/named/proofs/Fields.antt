@@ -1,4 +1,5 @@
 -- A field is read, or refused with a line's own number: one law for each field. Assumes nothing.
+use mathlib.Core.Path.{_≡_}
 use mathlib.Core.Bool.{Bool, true, false}
 use mathlib.Core.List.{List, [], _∷_}
 use Prim.Native.Nat.{ℕ}
@@ -57,6 +58,13 @@ module _ {A : Type 0} where
   pub data Numbered : Field A → Type 0 where
     is-value : {v : A} → Numbered (value v)
     is-fault : {n : ℕ} → Own n → Numbered (fault n)
+
+  own-fault : {n : ℕ} → Numbered (fault n) → Own n
+  own-fault (is-fault o) = o
+
+  -- the number of a field that is refused
+  pub own-number : {x : Field A} {n : ℕ} → Numbered x → x ≡ fault n → Own n
+  own-number h e = own-fault (rw e at h)
 
   -- a value, or the refusal n, by a test
   tested : (t : Bool) (v : A) (n : ℕ) → Own n → Numbered (pick t (value v) (fault n))

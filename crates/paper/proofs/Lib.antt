@@ -1,5 +1,6 @@
 pub mod Cases
 pub mod Lists
+pub mod LineSays
 pub mod Starts
 pub mod Trees
 pub mod Verdicts

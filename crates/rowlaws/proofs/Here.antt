@@ -4,7 +4,7 @@ use mathlib.Core.List.{List, [], _∷_}
 use Prim.Native.Nat.{ℕ, zero, suc, _+_, _≤_}
 use native.Mathlib.Omega.{arith}
 use lib.ListN.{length, take, drop, length-take, length-drop}
-use lib.Seq.{drop-drop, take-length}
+use lib.Seq.{drop-drop}
 use Rattle.base.proofs.Lists.{empty-cons}
 use Rattle.rowlaws.specs.Places.{Here}
 
@@ -39,7 +39,3 @@ module _ (w : List ℕ) (at : ℕ) (s : List ℕ) (h : Here w at s) where
   -- all of it stands inside
   pub here-inside : 1 ≤ length s → at + length s ≤ length w
   here-inside some = let e : length (take (length s) (drop at w)) ≡ length s = ap length h in omega (arith, length-take (length s) (drop at w), length-drop at w)
-
--- a text stands in itself, at its start
-pub here-whole : (w : List ℕ) → Here w 0 w
-here-whole w = take-length w

@@ -1,7 +1,7 @@
 pub mod Here
 pub mod Pieces
 pub mod Within
-pub mod Only
+pub mod Below
 pub mod Kept
 pub mod Row
 pub mod Filled

@@ -16,7 +16,7 @@ use Rattle.paper.specs.Rows.{textAt, thingIn, blanks, fileRow, groupRow, textWo
 use Rattle.rowlaws.specs.Sizes.{Small}
 use Rattle.rowlaws.specs.Places.{Here, Lies, Lie}
 use Rattle.rowlaws.proofs.Here.{here-in, here-inside}
-use Rattle.rowlaws.proofs.Only.{Short}
+use Rattle.rowlaws.proofs.Below.{Short}
 use Rattle.rowlaws.proofs.Kept.{KeptItem}
 
 -- an item's amount fits eight bytes

@@ -34,7 +34,7 @@ add-t21 c =
     let start = c .before .before .before .before .before .before .before in
     let a = start .args in
     omega
-    (arith, end-within (a .f .now) (a .at) (a .cut) (start .pre .1 .1 .0) (a .sh .near) (start .pre .1 .1 .1) _ (c .before .before .before .close-line .ensures) _ _ (c .before .n .given .1), start .pre .1 .1 .0 .to, start .pre .1 .1 .0 .inside)
+    (arith, end-within (a .f .now) (a .at) (a .cut) (start .pre .1 .1 .0) (a .sh) (start .pre .1 .1 .1) _ (c .before .before .before .close-line .ensures) _ _ (c .before .n .given .1), start .pre .1 .1 .0 .to, start .pre .1 .1 .0 .inside)
 
 returns-2 : tie.Need-returns-2
 returns-2 c = search file-closings

@@ -31,7 +31,7 @@ add-t19 c =
     let start = c .before .before .before .before .before .before .before in
     let a = start .args in
     omega
-    (arith, close-within (a .sh .near) (a .f .now) (a .at) (a .stop) (start .pre .1) _ (c .before .before .before .close-line .ensures) _ _ (c .before .n .given .1) (start .pre .0 .0) (start .pre .0 .1))
+    (arith, close-within (a .sh) (a .f .now) (a .at) (a .stop) (start .pre .1) _ (c .before .before .before .close-line .ensures) _ _ (c .before .n .given .1) (start .pre .0 .0) (start .pre .0 .1))
 
 returns-2 : tie.Need-returns-2
 returns-2 c = search closings
