@@ -1,0 +1,231 @@
+#!/usr/bin/env python3
+"""Tries the wrong programs of crates/NAME/more-edits: the prover must refuse each, and because a fact fails. They are tried over what
+`rt check` proved (tools/kept.py), which comes first, and edits of different functions are tried together. So this takes a fraction of
+what `rt must-fail` takes, which proves the whole crate for each edit. The last line is 'N passed, M failed'.
+
+  tools/edits.py                  all edits of more-edits/, one check for each processor at a time (RT_JOBS says otherwise)
+  tools/edits.py read write       those of these crates
+  tools/edits.py --all            those of must-fail/ too, which `rt ci` tries by itself
+  tools/edits.py --keep FOLDER    what the prover said stays there
+
+A refusal is worth what its reason is. So an edit passes only if
+  - the crate as it is, in the same place and over the same proved modules, is proved;
+  - what the edit takes out stands in its file exactly once;
+  - the edited program reaches the prover, which says that it is not proved (not that it could not tell);
+  - the first that the prover says of the edited function is that a fact fails, and not that a name is missing, that a text cannot be
+    read or that the proof does not fit the program.
+Edits are tried together only if each changes the body of one function, no two the same. A function's proof knows the others by their
+contracts alone, so such edits do not meet; and it is looked at: where the prover complains of any other function than the edited ones,
+or not of all of these, each edit is tried alone.
+"""
+import argparse
+import concurrent.futures
+import os
+import pathlib
+import shutil
+import sys
+import tempfile
+import time
+
+from kept import FUNCTION, PARTS, ROOT, Modules, complaints, copy, is_fact, is_ours, is_proved, is_refused, rlib, rt_check, stands_on
+
+
+def function_at(source, place):
+    """The function whose body has that place of the source, or None: its contract and what stands outside of functions do not count."""
+    name = indent = None
+    inside = False
+    at = 0
+    for line in source.splitlines(keepends=True):
+        found = FUNCTION.match(line)
+        if name is None and found:
+            indent, name, inside = found.group(1), found.group(2), line.rstrip().endswith("{")
+        elif name and not inside:
+            inside = line.rstrip() == f"{indent}{{"
+        elif name and line.rstrip() == f"{indent}}}":
+            name = None
+        at += len(line)
+        if place < at:
+            return name if inside else None
+    return None
+
+
+def function_of(place, source):
+    """The function that a complaint at that place is of: that of the proof's folder, or the one in whose lines of the source it is."""
+    path, row = place.split(":")[:2]
+    if not path.startswith("src/"):
+        return path.split("/")[-2]
+    name = None
+    for number, line in enumerate(source.splitlines(), 1):
+        found = FUNCTION.match(line)
+        name = found.group(2) if found else name
+        # a function's attributes stand above its name
+        if number >= int(row) and not line.lstrip().startswith("#["):
+            return name
+    return name
+
+
+class Edit:
+    """An edit: its replacements, and the function whose body alone it changes, if so."""
+
+    def __init__(self, path):
+        self.path, self.crate, self.label = path, path.parent.parent.name, path.stem
+        self.pairs, self.wrong, self.function = [], None, None
+        file = old = None
+        for line in path.read_text(encoding="utf-8").splitlines():
+            if line.startswith("file: "):
+                file = line[6:]
+            elif line.startswith("old: "):
+                old = line[5:]
+            elif line.startswith("new:"):
+                self.pairs.append((file, old, line[4:].removeprefix(" ")))
+                old = None
+        if not self.pairs:
+            self.wrong = "it has no 'old:' and 'new:'"
+        functions = {self.place(file, old) for file, old, _ in self.pairs}
+        if len(functions) == 1:
+            self.function = functions.pop()
+
+    def place(self, file, old):
+        """The function that a replacement is in; sets what is wrong with it."""
+        path = ROOT / "crates" / self.crate / (file or "")
+        parts = (file or "").split("/")
+        if parts[0] not in PARTS or ".." in parts or not path.is_file():
+            self.wrong = f"{file} is no file of the crate"
+            return None
+        text = path.read_text(encoding="utf-8")
+        if not old or text.count(old) != 1:
+            self.wrong = f"what it takes out stands {text.count(old) if old else 0} times in {file}: {(old or '').strip()}"
+            return None
+        if parts[0] == "proofs":
+            return parts[-2]
+        return function_at(text, text.index(old) + len(old) - len(old.lstrip())) if parts[0] == "src" else None
+
+    def apply(self, crate):
+        for file, old, new in self.pairs:
+            path = crate / file
+            path.write_text(path.read_text(encoding="utf-8").replace(old, new), encoding="utf-8")
+
+
+class Crate:
+    """A crate with its edits, tried over the modules that its proof left."""
+
+    def __init__(self, name, edits, work, modules, keep):
+        self.name, self.edits, self.work, self.modules, self.keep = name, edits, work / name, modules, keep
+        self.kept = self.work / "kept"
+        self.checks = 0
+
+    def ask(self, crate, kept):
+        self.checks += 1
+        deps = stands_on(self.name)
+        words = ["--deps", ",".join(d for d in deps if not is_ours(d)), "--incremental", str(kept)]
+        for d in filter(is_ours, deps):
+            words += ["--extern", f"{d}={rlib(d)}"]
+        status, said = rt_check(crate, *words, "-L", f"dependency={ROOT / 'target/rlib'}")
+        return status, said.replace(f"{crate}/", "")
+
+    def is_proved(self):
+        """Whether the crate as it is, copied as the edited ones are, is proved over the modules of its proof."""
+        self.modules.put([self.name], self.kept)
+        crate = self.work / "plain" / self.name
+        copy(self.name, crate)
+        return is_proved(*self.ask(crate, self.kept))
+
+    def refusals(self, edits):
+        """The prover's complaints of a program with these edits, each with its function; or why there are none."""
+        label = ".".join(e.label for e in edits)[:200]
+        place = self.work / label
+        crate = place / self.name
+        copy(self.name, crate)
+        for edit in edits:
+            edit.apply(crate)
+        shutil.copytree(self.kept, place / "kept")
+        status, said = self.ask(crate, place / "kept")
+        source = (crate / "src/lib.rt").read_text(encoding="utf-8")
+        found = [(function_of(at, source), at, words) for at, words in complaints(said)]
+        if self.keep:
+            (self.keep / f"{self.name}.{label}.log").write_text(said)
+        shutil.rmtree(place)
+        if is_refused(status, said):
+            return found, "refused, but the prover does not say why"
+        return [], "NOT REFUSED" if status == 0 else f"the prover was not reached or could not tell (exit {status}): {said[:300]}"
+
+    def judge(self, edit, found, otherwise):
+        """Whether the first complaint is that a fact fails, and a line about the edit."""
+        title = f"{self.name}/{edit.label}"
+        if not found:
+            return False, f"{title}: {otherwise}"
+        _, place, words = found[0]
+        if not is_fact(words):
+            return False, f"{title}: refused, but not because a fact fails: {place}: {words[:300]}"
+        return True, f"{title}: refused, as it must be (first at {place})"
+
+    def rounds(self):
+        """The edits that can be tried together; then those that cannot, one by one."""
+        rounds = []
+        for edit in (e for e in self.edits if e.function):
+            for others in rounds:
+                if edit.function not in [e.function for e in others]:
+                    others.append(edit)
+                    break
+            else:
+                rounds.append([edit])
+        return rounds + [[e] for e in self.edits if not e.function]
+
+    def tried(self):
+        """Yields for each edit whether it passes, and a line about it."""
+        for edit in [e for e in self.edits if e.wrong]:
+            yield False, f"{self.name}/{edit.label}: {edit.wrong}"
+        self.edits = [e for e in self.edits if not e.wrong]
+        if not self.is_proved():
+            for edit in self.edits:
+                yield False, f"{self.name}/{edit.label}: the crate is not proved as it is, so that a refusal would say nothing"
+            return
+        for edits in self.rounds():
+            found, otherwise = self.refusals(edits)
+            together = len(edits) > 1 and {f for f, _, _ in found} == {e.function for e in edits}
+            for edit in edits:
+                if together:
+                    yield self.judge(edit, [c for c in found if c[0] == edit.function], otherwise)
+                elif len(edits) == 1:
+                    yield self.judge(edit, found, otherwise)
+                else:
+                    yield self.judge(edit, *self.refusals([edit]))
+
+    def run(self):
+        began = time.time()
+        lines = list(self.tried())
+        shutil.rmtree(self.work, ignore_errors=True)
+        return lines, f"{self.name}: {len(lines)} edits in {self.checks} checks, {time.time() - began:.0f} s"
+
+
+def main():
+    asked = argparse.ArgumentParser(description="Tries wrong programs over what is proved; the prover must refuse each.")
+    asked.add_argument("crates", nargs="*")
+    asked.add_argument("--all", action="store_true")
+    asked.add_argument("--keep", type=pathlib.Path)
+    asked = asked.parse_args()
+    if asked.keep:
+        asked.keep = asked.keep.resolve()
+        asked.keep.mkdir(parents=True, exist_ok=True)
+    folders = ("more-edits", "must-fail") if asked.all else ("more-edits",)
+    edits = [Edit(p) for f in folders for p in sorted((ROOT / "crates").glob(f"*/{f}/*.edit"))]
+    edits = [e for e in edits if not asked.crates or e.crate in asked.crates]
+    passed = failed = 0
+    with tempfile.TemporaryDirectory() as folder:
+        work = pathlib.Path(folder).resolve()
+        modules = Modules(work)
+        crates = [Crate(n, [e for e in edits if e.crate == n], work, modules, asked.keep) for n in sorted({e.crate for e in edits})]
+        # those with most edits first, so that no processor is left with a long one at the end
+        crates.sort(key=lambda c: -len(c.edits))
+        with concurrent.futures.ThreadPoolExecutor(int(os.environ.get("RT_JOBS", os.cpu_count() or 1))) as pool:
+            for lines, sentence in pool.map(Crate.run, crates):
+                for good, line in lines:
+                    print(line if good else f"failed: {line}")
+                    passed, failed = passed + good, failed + (not good)
+                print(sentence, flush=True)
+    print(f"{passed} passed, {failed} failed")
+    return 0 if passed and not failed else 1
+
+
+if __name__ == "__main__":
+    sys.exit(main())
