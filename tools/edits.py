@@ -7,6 +7,7 @@ what `rt must-fail` takes, which proves the whole crate for each edit. The last 
   tools/edits.py read write       those of these crates
   tools/edits.py --all            those of must-fail/ too, which `rt ci` tries by itself
   tools/edits.py --keep FOLDER    what the prover said stays there
+  tools/edits.py --list           tries none, and says for each public function which edits of both folders change it
 
 A refusal is worth what its reason is. So an edit passes only if
   - the crate as it is, in the same place and over the same proved modules, is proved;
@@ -14,9 +15,9 @@ A refusal is worth what its reason is. So an edit passes only if
   - the edited program reaches the prover, which says that it is not proved (not that it could not tell);
   - the first that the prover says of the edited function is that a fact fails, and not that a name is missing, that a text cannot be
     read or that the proof does not fit the program.
-Edits are tried together only if each changes the body of one function, no two the same. A function's proof knows the others by their
-contracts alone, so such edits do not meet; and it is looked at: where the prover complains of any other function than the edited ones,
-or not of all of these, each edit is tried alone.
+Edits are tried together only if each changes the body of one function, no two of one proof. A function's proof knows the others by their
+contracts alone, so such edits do not meet; and it is looked at: where the prover complains of any other proof than theirs, or not of all
+of these, each edit is tried alone.
 """
 import argparse
 import concurrent.futures
@@ -49,6 +50,14 @@ def function_at(source, place):
     return None
 
 
+def proved_with(crate, name):
+    """What a function's proof is called: its name, or for functions that call each other the folder of their common proof, +NAME+NAME."""
+    for folder in (ROOT / "crates" / crate / "proofs").glob("+*"):
+        if name in folder.name.split("+"):
+            return folder.name
+    return name
+
+
 def function_of(place, source):
     """The function that a complaint at that place is of: that of the proof's folder, or the one in whose lines of the source it is."""
     path, row = place.split(":")[:2]
@@ -69,7 +78,7 @@ class Edit:
 
     def __init__(self, path):
         self.path, self.crate, self.label = path, path.parent.parent.name, path.stem
-        self.pairs, self.wrong, self.function = [], None, None
+        self.pairs, self.wrong, self.function, self.proof = [], None, None, None
         file = old = None
         for line in path.read_text(encoding="utf-8").splitlines():
             if line.startswith("file: "):
@@ -84,6 +93,7 @@ class Edit:
         functions = {self.place(file, old) for file, old, _ in self.pairs}
         if len(functions) == 1:
             self.function = functions.pop()
+            self.proof = self.function and proved_with(self.crate, self.function)
 
     def place(self, file, old):
         """The function that a replacement is in; sets what is wrong with it."""
@@ -97,13 +107,18 @@ class Edit:
             self.wrong = f"what it takes out stands {text.count(old) if old else 0} times in {file}: {(old or '').strip()}"
             return None
         if parts[0] == "proofs":
-            return parts[-2]
+            return parts[-2].split("+")[-1]
         return function_at(text, text.index(old) + len(old) - len(old.lstrip())) if parts[0] == "src" else None
 
-    def apply(self, crate):
-        for file, old, new in self.pairs:
-            path = crate / file
-            path.write_text(path.read_text(encoding="utf-8").replace(old, new), encoding="utf-8")
+
+def apply(edits, crate):
+    """Makes the edits' replacements in a copy of the crate, each where its text stands in the crate as it is."""
+    pairs = [pair for edit in edits for pair in edit.pairs]
+    for file in {file for file, _, _ in pairs}:
+        text = (crate / file).read_text(encoding="utf-8")
+        for at, old, new in sorted(((text.index(old), old, new) for f, old, new in pairs if f == file), reverse=True):
+            text = text[:at] + new + text[at + len(old) :]
+        (crate / file).write_text(text, encoding="utf-8")
 
 
 class Crate:
@@ -136,12 +151,11 @@ class Crate:
         place = self.work / label
         crate = place / self.name
         copy(self.name, crate)
-        for edit in edits:
-            edit.apply(crate)
+        apply(edits, crate)
         shutil.copytree(self.kept, place / "kept")
         status, said = self.ask(crate, place / "kept")
         source = (crate / "src/lib.rt").read_text(encoding="utf-8")
-        found = [(function_of(at, source), at, words) for at, words in complaints(said)]
+        found = [(proved_with(self.name, function_of(at, source)), at, words) for at, words in complaints(said)]
         if self.keep:
             (self.keep / f"{self.name}.{label}.log").write_text(said)
         shutil.rmtree(place)
@@ -162,14 +176,14 @@ class Crate:
     def rounds(self):
         """The edits that can be tried together; then those that cannot, one by one."""
         rounds = []
-        for edit in (e for e in self.edits if e.function):
+        for edit in (e for e in self.edits if e.proof):
             for others in rounds:
-                if edit.function not in [e.function for e in others]:
+                if edit.proof not in [e.proof for e in others]:
                     others.append(edit)
                     break
             else:
                 rounds.append([edit])
-        return rounds + [[e] for e in self.edits if not e.function]
+        return rounds + [[e] for e in self.edits if not e.proof]
 
     def tried(self):
         """Yields for each edit whether it passes, and a line about it."""
@@ -182,10 +196,10 @@ class Crate:
             return
         for edits in self.rounds():
             found, otherwise = self.refusals(edits)
-            together = len(edits) > 1 and {f for f, _, _ in found} == {e.function for e in edits}
+            together = len(edits) > 1 and {f for f, _, _ in found} == {e.proof for e in edits}
             for edit in edits:
                 if together:
-                    yield self.judge(edit, [c for c in found if c[0] == edit.function], otherwise)
+                    yield self.judge(edit, [c for c in found if c[0] == edit.proof], otherwise)
                 elif len(edits) == 1:
                     yield self.judge(edit, found, otherwise)
                 else:
@@ -198,18 +212,34 @@ class Crate:
         return lines, f"{self.name}: {len(lines)} edits in {self.checks} checks, {time.time() - began:.0f} s"
 
 
+def listed(edits):
+    """Prints for each public function, and for each crate without code, its edits."""
+    for source in sorted((ROOT / "crates").glob("*/src/lib.rt")):
+        crate = source.parent.parent.name
+        names = [m.group(2) for m in map(FUNCTION.match, source.read_text().splitlines()) if m and "pub " in m.group(0)]
+        own = [e for e in edits if e.crate == crate]
+        for name in names:
+            print(f"{crate}::{name}: {' '.join(e.label for e in own if e.function == name) or '-'}")
+        others = [f"{e.label} ({e.function or 'definition'})" for e in own if e.function not in names]
+        if others:
+            print(f"{crate}, inside: {' '.join(others)}")
+
+
 def main():
     asked = argparse.ArgumentParser(description="Tries wrong programs over what is proved; the prover must refuse each.")
     asked.add_argument("crates", nargs="*")
     asked.add_argument("--all", action="store_true")
+    asked.add_argument("--list", action="store_true")
     asked.add_argument("--keep", type=pathlib.Path)
     asked = asked.parse_args()
     if asked.keep:
         asked.keep = asked.keep.resolve()
         asked.keep.mkdir(parents=True, exist_ok=True)
-    folders = ("more-edits", "must-fail") if asked.all else ("more-edits",)
+    folders = ("more-edits", "must-fail") if asked.all or asked.list else ("more-edits",)
     edits = [Edit(p) for f in folders for p in sorted((ROOT / "crates").glob(f"*/{f}/*.edit"))]
     edits = [e for e in edits if not asked.crates or e.crate in asked.crates]
+    if asked.list:
+        return listed(edits)
     passed = failed = 0
     with tempfile.TemporaryDirectory() as folder:
         work = pathlib.Path(folder).resolve()

@@ -14,9 +14,10 @@ ROOT = pathlib.Path(__file__).resolve().parent.parent
 PARTS = ("src", "specs", "proofs")
 FUNCTION = re.compile(r"^( *)(?:pub )?(?:extern \"C\" )?fn (\w+)")
 
-# A fact fails: there is no proof of it, something of it is left to prove, or its two sides differ ..
-FACT = re.compile(r"no proof of|give a proof of that|the two types (first )?differ|it is not proved that")
-# .. but not the steps of a program against those of a proof that was written out by hand.
+# A fact fails: there is no proof of it, it does not follow, something of it is left to prove ..
+FACT = re.compile(r"no proof of|the goal does not follow|give a proof of that|it is not proved that")
+# .. or it is an equation, or what the function ensures, and another one is proved; but not where a proof written out by hand has other steps than the program.
+DIFFER = re.compile(r"the two types (first )?differ|expected type `[^`]*(≡|Path)[^`]*`, but this has type `[^`]*≡|expected type `reads\.Post ")
 STEPS = re.compile(r"types\.Kit|prog\.Wp")
 # Said of all that stands on something refused.
 FOLLOWS = re.compile(r"was not admitted|which (is|are) not proved")
@@ -95,4 +96,4 @@ def complaints(said):
 
 
 def is_fact(words):
-    return FACT.search(words) is not None and not STEPS.search(words)
+    return FACT.search(words) is not None or (DIFFER.search(words) is not None and STEPS.search(words) is None)
