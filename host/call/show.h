@@ -22,7 +22,7 @@ void in_hand(const char *what, uint64_t seed, const uint8_t *bytes, size_t len);
 /* Has a crash shown with what is in hand and counted as a failure. */
 void catch_crashes(void);
 
-/* Ends the test, since the machine refuses what it needs: says what, and why. */
+/* Ends the test, as the machine refuses what it needs: says what, and why. */
 void give_up(const char *what);
 
 /* Prints `N passed, M failed` and gives back the exit status. */
