@@ -89,9 +89,7 @@ fn open_file(
     let set = Seen { words: words };
     match fileline::file_line(&f[at..stop], sh, from, to, set) {
         FileRead::File { kind: _, number } => {
-            let more = set.with(number / 1000);
-            let marked = more.words;
-            *seen = marked;
+            seen::mark(seen, set, number / 1000);
             Left::Group(cut.next, line + 1, file_more(counts), EMPTY)
         }
         FileRead::Refused(n, off) => Left::Refused(n, line, (at + off) as u64),

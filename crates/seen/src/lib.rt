@@ -39,3 +39,15 @@ impl Seen {
         next
     }
 }
+
+// Puts n to the set where its words stand. They come by value too, as a lent array's type does not tell how long it is.
+pub fn mark(words: &mut [u64; 16], set: Seen, n: u64)
+    requires { ⌜ n < 1000 ⌝ }
+    requires { ⌜ now words ≡ set .words ⌝ }
+    ensures { λ _. ⌜ Marked (set .words) n (now (words .exit)) ⌝ }
+    ensures { λ _. ⌜ ((l : List ℕ) → Holds (set .words) l → Holds (now (words .exit)) (n ∷ l)) ⌝ }
+{
+    let i = (n / 64) as usize;
+    let w = words[i];
+    words[i] = w | (1 << (n % 64));
+}

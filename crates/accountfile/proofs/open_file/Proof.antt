@@ -23,8 +23,8 @@ file-line-requires c κs = search (file-long, needs)
 enum-known-number : tie.Need-enum-known-number
 enum-known-number c = search needs
 
-with-requires : tie.Need-with-requires
-with-requires c κs = search series-low
+mark-requires : tie.Need-mark-requires
+mark-requires c κs = search (series-low, needs)
 
 add-t27 : tie.Need-add-t27
 add-t27 c = search needs
@@ -58,7 +58,7 @@ open-file-spec =
     part-file-line-end
     file-line-requires
     enum-known-number
-    with-requires
+    mark-requires
     add-t27
     file-more-requires
     enum-known-n
