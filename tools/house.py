@@ -12,11 +12,14 @@
   - docs/TESTING.md names each folder of host/ and each test of host/run.sh, and what it says a test is made of is there
   - no two programs have one name, as build/NAME is made of the NAME.c of any folder
   - no proof names a line of the source by its number, as the next edit moves it
+  - no law, definition or function is there that nothing uses (tools/laws.py finds them, and names that are brought in for nothing)
 """
 import pathlib
 import re
 import subprocess
 import sys
+
+import laws
 
 ROOT = pathlib.Path(__file__).resolve().parent.parent
 MOST_LINES = 40
@@ -170,7 +173,14 @@ def the_tests():
             check(path.exists(), f"docs/TESTING.md: {name} is made of {path.relative_to(ROOT)}, which is not there")
 
 
-for look in (the_list, the_drawing, first_lines, functions, files, edits, links, paths, c_files, the_tests):
+def unused():
+    files = laws.load()
+    check(len(files) > 500, "tools/laws.py does not find the files of the crates")
+    for sentence in laws.unused(files):
+        check(False, sentence)
+
+
+for look in (the_list, the_drawing, first_lines, functions, files, edits, links, paths, c_files, the_tests, unused):
     look()
 for sentence in faults:
     print(f"failed: {sentence}")

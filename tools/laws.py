@@ -227,12 +227,18 @@ def tidy(file, unused):
     return "\n".join(lines) + "\n"
 
 
-def faults():
-    """what is unused, as sentences"""
-    files = load()
-    for sentence, looked in (("nothing uses {}", unused_names), ("nobody calls {}", unused_functions), ("{} is brought in and not used", unused_imports)):
-        for file, number, name in looked(files):
+def sentences(files, looks):
+    for sentence, look in looks:
+        for file, number, name in look(files):
             yield f"{file.path.relative_to(ROOT)}:{number + 1}: {sentence.format(name)}"
+
+
+def unused(files):
+    return sentences(files, (("nothing uses {}", unused_names), ("nobody calls {}", unused_functions)))
+
+
+def brought_in(files):
+    return sentences(files, (("{} is brought in and not used", unused_imports),))
 
 
 def tidy_crates(crates):
@@ -248,4 +254,5 @@ if __name__ == "__main__":
     if sys.argv[1:2] == ["tidy"]:
         tidy_crates(sys.argv[2:])
     else:
-        print("\n".join(faults()) or "nothing is unused")
+        found = load()
+        print("\n".join((*unused(found), *brought_in(found))) or "nothing is unused")
