@@ -86,7 +86,8 @@ def main():
         modules = Modules(work / "learnt")
         for title, idea, file, old, new, crate in WRONG:
             wrong, place = falls(work / title, modules, file, old, new, crate)
-            print(f"failed: {title}: {wrong}" if wrong else f"{title}: {idea}: {crate} is not proved any more, as it must be (first at {place})", flush=True)
+            fell = f"{title}: {idea}: {crate} is not proved any more, as it must be (first at {place})"
+            print(f"failed: {title}: {wrong}" if wrong else fell, flush=True)
             passed += wrong is None
             shutil.rmtree(work / title)
     print(f"{passed} passed, {len(WRONG) - passed} failed")

@@ -5,6 +5,7 @@ what `rt must-fail` takes, which proves the whole crate for each edit. The last 
 
   tools/edits.py                  all edits of more-edits/, one check for each processor at a time (RT_JOBS says otherwise)
   tools/edits.py read write       those of these crates
+  tools/edits.py --most 2         at most so many of each crate, in one check, those of public functions first: what the gate has time for
   tools/edits.py --all            those of must-fail/ too, which `rt ci` tries by itself
   tools/edits.py --keep FOLDER    what the prover said stays there
   tools/edits.py --list           tries none, and says for each public function which edits of both folders change it
@@ -23,6 +24,7 @@ import argparse
 import concurrent.futures
 import os
 import pathlib
+import re
 import shutil
 import sys
 import tempfile
@@ -119,6 +121,21 @@ def apply(edits, crate):
         for at, old, new in sorted(((text.index(old), old, new) for f, old, new in pairs if f == file), reverse=True):
             text = text[:at] + new + text[at + len(old) :]
         (crate / file).write_text(text, encoding="utf-8")
+
+
+def is_public(edit):
+    source = ROOT / "crates" / edit.crate / "src/lib.rt"
+    return edit.function is not None and re.search(rf"^ *pub (extern \"C\" )?fn {edit.function}\b", source.read_text(), re.M) is not None
+
+
+def chosen(edits, most):
+    """At most so many of a crate's edits that can be tried together, those of public functions first."""
+    rest = sorted(edits, key=lambda e: (e.proof is None, not is_public(e)))
+    found = rest[:1]
+    for edit in rest[1:]:
+        if len(found) < most and edit.proof and edit.proof not in [e.proof for e in found]:
+            found.append(edit)
+    return found
 
 
 class Crate:
@@ -230,6 +247,7 @@ def main():
     asked.add_argument("crates", nargs="*")
     asked.add_argument("--all", action="store_true")
     asked.add_argument("--list", action="store_true")
+    asked.add_argument("--most", type=int)
     asked.add_argument("--keep", type=pathlib.Path)
     asked = asked.parse_args()
     if asked.keep:
@@ -244,7 +262,10 @@ def main():
     with tempfile.TemporaryDirectory() as folder:
         work = pathlib.Path(folder).resolve()
         modules = Modules(work)
-        crates = [Crate(n, [e for e in edits if e.crate == n], work, modules, asked.keep) for n in sorted({e.crate for e in edits})]
+        crates = []
+        for name in sorted({e.crate for e in edits}):
+            own = [e for e in edits if e.crate == name]
+            crates.append(Crate(name, chosen(own, asked.most) if asked.most else own, work, modules, asked.keep))
         # those with most edits first, so that no processor is left with a long one at the end
         crates.sort(key=lambda c: -len(c.edits))
         with concurrent.futures.ThreadPoolExecutor(int(os.environ.get("RT_JOBS", os.cpu_count() or 1))) as pool:
