@@ -12,7 +12,7 @@
   - docs/TESTING.md names each folder of host/ and each test of host/run.sh, and what it says a test is made of is there
   - no two programs have one name, as build/NAME is made of the NAME.c of any folder
   - no proof names a line of the source by its number, as the next edit moves it
-  - no law, definition or function is there that nothing uses (tools/laws.py finds them, and names that are brought in for nothing)
+  - no law, definition or function is there that nothing uses, and no name is brought in for nothing (tools/laws.py finds them)
 """
 import pathlib
 import re
@@ -176,7 +176,7 @@ def the_tests():
 def unused():
     files = laws.load()
     check(len(files) > 500, "tools/laws.py does not find the files of the crates")
-    for sentence in laws.unused(files):
+    for sentence in (*laws.unused(files), *laws.brought_in(files)):
         check(False, sentence)
 
 

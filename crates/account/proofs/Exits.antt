@@ -25,6 +25,11 @@ long-base : (least : ℕ) (s : List ℕ) → 10 < length s → onePart least s �
 unfolding onePart digits given pick
 long-base least s h = by-test (ltb (length s) least) (λ e. simp e) (λ e. simp (e, lt-ltb 10 (length s) h))
 
+-- a field with no dash
+pub no-dash : (joined : Bool) (least : ℕ) (f : List ℕ) → length f ≤ seek dash f → readAccount joined least f ≡ pick (pick joined (ltb 10 (length f)) false) (twoParts 10 (take (length f - 10) f) (drop (length f - 10) f)) (onePart least f)
+unfolding readAccount
+no-dash joined least f h = pick-false _ _ (le-ltb (seek dash f) (length f) h)
+
 -- the field f, and d where its dash was found
 module _ (f : List ℕ) (d : ℕ) (e : d ≡ 0 + seek dash f) where
   place : seek dash f ≡ d
@@ -60,22 +65,18 @@ module _ (f : List ℕ) (d : ℕ) (e : d ≡ 0 + seek dash f) where
     read-dashed h r q = q ∙ rw (front, behind) (sym (pick-true _ _ (lt-ltb (seek dash f) (length f) (omega arith))))
 
     module _ (h : length f ≤ d) where
-      bare : readAccount joined least f ≡ pick (pick joined (ltb 10 (length f)) false) (twoParts 10 (take (length f - 10) f) (drop (length f - 10) f)) (onePart least f)
-      unfolding readAccount
-      bare = pick-false _ _ (le-ltb (seek dash f) (length f) (omega arith))
-
       pub read-alone : length f ≤ 10 → (r : Field Account) → r ≡ withBase least 0 f → r ≡ readAccount joined least f
       unfolding onePart
-      read-alone k r q = q ∙ sym (bare ∙ pick-false _ _ (either (λ x. x ≡ false) joined (λ z. le-ltb 10 (length f) k) (λ z. refl)))
+      read-alone k r q = q ∙ sym (no-dash joined least f (omega arith) ∙ pick-false _ _ (either (λ x. x ≡ false) joined (λ z. le-ltb 10 (length f) k) (λ z. refl)))
 
       pub read-joined : 10 < length f → joined ≡ true → (r : Field Account) → r ≡ twoParts 10 (take (length f - 10 - 0) f) (take (length f - (length f - 10)) (drop (length f - 10) f)) → r ≡ readAccount joined least f
       read-joined k j r q =
           let z : length f - 10 - 0 ≡ length f - 10 = omega arith in
           let y : take (length f - (length f - 10)) (drop (length f - 10) f) ≡ drop (length f - 10) f = take-all (length f - (length f - 10)) (drop (length f - 10) f) (omega (arith, length-drop (length f - 10) f)) in
-          q ∙ rw (z, y) (sym (bare ∙ pick-true _ _ (pick-true _ _ j ∙ lt-ltb 10 (length f) k)))
+          q ∙ rw (z, y) (sym (no-dash joined least f (omega arith) ∙ pick-true _ _ (pick-true _ _ j ∙ lt-ltb 10 (length f) k)))
 
       pub read-long : 10 < length f → joined ≡ false → fault 4 ≡ readAccount joined least f
-      read-long k j = sym (bare ∙ pick-false _ _ (pick-false _ _ j) ∙ long-base least f k)
+      read-long k j = sym (no-dash joined least f (omega arith) ∙ pick-false _ _ (pick-false _ _ j) ∙ long-base least f k)
 
 -- what is not looked for
 pub unasked : (allzero t : Bool) → not allzero ≡ true → false ≡ pick allzero t false

@@ -1,4 +1,4 @@
--- What the readers of amounts accept, and what they refuse with. Assumes nothing.
+-- What the readers of amounts accept. Assumes nothing.
 use mathlib.Core.Path.{_≡_, refl, sym}
 use mathlib.Core.Bool.{Bool, true, false}
 use mathlib.Core.Logic.{_⊎_, inl, inr}
@@ -12,7 +12,7 @@ use Rattle.base.specs.Pick.{pick}
 use Rattle.base.specs.Seek.{seek, before}
 use Rattle.base.proofs.Cases.{either, by-test}
 use Rattle.base.proofs.Seek.{never}
-use Rattle.paper.specs.Read.{Field, value, fault}
+use Rattle.paper.specs.Read.{Field, value}
 use Rattle.paper.specs.Bytes.{comma}
 use Rattle.paper.specs.Numerals.{digits}
 use Rattle.paper.specs.Amounts.{withComma, readAmount, readTotal, amountProper, readItemAmount}

@@ -1,4 +1,4 @@
--- What the bank field's reader accepts, and what it refuses with. Assumes nothing.
+-- What the bank field's reader accepts. Assumes nothing.
 use mathlib.Core.Path.{_≡_, refl}
 use mathlib.Core.Bool.{Bool, true, false}
 use mathlib.Core.Logic.{_⊎_, inl, inr}
@@ -9,7 +9,7 @@ use lib.Dec.{ltb, eqb}
 use borrow.Author.Tests.{eqb-false, ltb-false}
 use Rattle.base.specs.Pick.{pick}
 use Rattle.base.proofs.Cases.{either}
-use Rattle.paper.specs.Read.{value, fault}
+use Rattle.paper.specs.Read.{value}
 use Rattle.paper.specs.Numerals.{digits}
 use Rattle.paper.specs.BankField.{Bank, ninth, readBank, bankProper, priorityProper, priorityCarried}
 use Rattle.numeral.proofs.Sound.{digits-sound, digits-fault}

@@ -1,7 +1,7 @@
 -- What a real day is made of, and in which years there is a 29 February. Assumes nothing.
 use mathlib.Core.Path.{_≡_, _∙_}
 use mathlib.Core.Bool.{true}
-use Prim.Native.Nat.{ℕ, _-_, _%_, _≤_}
+use Prim.Native.Nat.{ℕ, _%_, _≤_}
 use native.Mathlib.Omega.{arith}
 use lib.Dec.{eqb, leb}
 use borrow.Author.Tests.{ltb-false, leb-true, le-ltb, le-leb, eq-eqb, ne-eqb}

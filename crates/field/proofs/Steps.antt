@@ -11,7 +11,7 @@ use Rattle.base.specs.Seek.{seek}
 use Rattle.base.proofs.Cases.{pick-true, pick-false, picks}
 use Rattle.base.proofs.Seek.{seek-within}
 use Rattle.base.proofs.Lists.{drop-none}
-use Rattle.paper.specs.Read.{Field, value, fault, given}
+use Rattle.paper.specs.Read.{Field, value, fault}
 use Rattle.paper.specs.Bytes.{space, fieldOf}
 use Rattle.paper.specs.Numerals.{digits}
 use Rattle.paper.specs.Entries.{Said, no, onField, field, place, gap, lineEnd}

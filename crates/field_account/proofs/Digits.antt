@@ -1,24 +1,25 @@
 -- An account of digits alone, and one with a dash behind its first digits. Assumes nothing.
-use mathlib.Core.Path.{_≡_, refl, sym, ap, _∙_}
+use mathlib.Core.Path.{_≡_, refl, sym, _∙_}
 use mathlib.Core.Bool.{Bool, true, false}
 use mathlib.Core.List.{List, [], _∷_, _++_}
-use Prim.Native.Nat.{ℕ, zero, suc, _+_, _-_, _*_, _/_, _%_, _^_, _≤_, _<_}
+use Prim.Native.Nat.{ℕ, _+_, _-_, _*_, _/_, _%_, _≤_, _<_}
 use native.Mathlib.Omega.{arith}
-use lib.Dec.{eqb, ltb}
+use lib.Dec.{ltb}
 use lib.ListN.{length, take, drop, take-append-drop, length-take, length-drop, length-append}
 use lib.Seq.{take-length, drop-length, take-append-seam, drop-append-add}
 use borrow.Author.Tests.{lt-ltb, le-ltb}
 use Rattle.base.specs.Pick.{pick}
-use Rattle.base.specs.Seek.{all, starts, seek, before}
+use Rattle.base.specs.Seek.{all, seek}
 use Rattle.base.proofs.Cases.{by-test, by-lt, either, pick-true, pick-false}
 use Rattle.base.proofs.Seek.{all-take, all-drop, seek-join, seek-over}
-use Rattle.paper.specs.Read.{Field, value, fault, given}
+use Rattle.paper.specs.Read.{value, fault, given}
 use Rattle.paper.specs.Bytes.{isDigit, dash}
 use Rattle.paper.specs.Numerals.{digits}
-use Rattle.paper.specs.Accounts.{Account, ruled, twoParts, onePart, readAccount}
+use Rattle.paper.specs.Accounts.{ruled, twoParts, onePart, readAccount}
 use Rattle.numeral.proofs.Digits.{in-range, too-short, too-long}
 use Rattle.numeral.proofs.Sound.{same, read-on, digits-plain, digits-most, digits-sound, digits-reads}
 use Rattle.numeral.proofs.Split.{digits-split}
+use Rattle.account.proofs.Exits.{no-dash}
 use Rattle.field_account.specs.Parts.{undashed, withBase}
 
 -- a number of so many digits, where other counts are allowed
@@ -35,16 +36,11 @@ back d = drop (length d - 10) d
 -- ---- digits alone, d, whose number is v
 
 module _ (d : List ℕ) (v : ℕ) (g : digits 0 16 d ≡ value v) where
-  no-dash : seek dash d ≡ length d
+  dashless : seek dash d ≡ length d
   unfolding isDigit pick seek
-  no-dash =
+  dashless =
       let a : all isDigit (take (length d) d) ≡ true = rw take-length (digits-plain 0 16 d v g) in
       seek-over isDigit 45 refl (length d) d (omega arith) a ∙ rw drop-length (omega arith)
-
-  module _ (joined : Bool) (least : ℕ) where
-    bare : readAccount joined least d ≡ pick (pick joined (ltb 10 (length d)) false) (twoParts 10 (take (length d - 10) d) (drop (length d - 10) d)) (onePart least d)
-    unfolding readAccount
-    bare = pick-false _ _ (le-ltb (seek dash d) (length d) (omega (arith, no-dash)))
 
   -- more than ten of them: p is the number of the first, q that of the last ten
   module _ (h : 10 < length d) where
@@ -84,8 +80,8 @@ module _ (d : List ℕ) (v : ℕ) (g : digits 0 16 d ≡ value v) where
     unfolding undashed pick
     long h =
         by-test joined
-        (λ j. rw (bare joined least, lt-ltb 10 (length d) h, j) (sym (both-parts h)))
-        (λ j. rw (bare joined least, lt-ltb 10 (length d) h, j) (sym (no-base h least)))
+        (λ j. rw (no-dash joined least d (omega (arith, dashless)), lt-ltb 10 (length d) h, j) (sym (both-parts h)))
+        (λ j. rw (no-dash joined least d (omega (arith, dashless)), lt-ltb 10 (length d) h, j) (sym (no-base h least)))
 
     short : length d ≤ 10 → undashed joined least (length d) v ≡ readAccount joined least d
     unfolding undashed onePart given
@@ -95,7 +91,7 @@ module _ (d : List ℕ) (v : ℕ) (g : digits 0 16 d ≡ value v) where
         ∙ by-lt (length d) least
         (λ l. pick-true _ _ (lt-ltb (length d) least l) ∙ rw (← (too-short least 10 d l)))
         (λ l. pick-false _ _ (le-ltb (length d) least l) ∙ rw (recount 0 16 least 10 d v g l h))
-        ∙ sym (bare joined least ∙ pick-false _ _ o)
+        ∙ sym (no-dash joined least d (omega (arith, dashless)) ∙ pick-false _ _ o)
 
     pub undashed-is : undashed joined least (length d) v ≡ readAccount joined least d
     undashed-is = by-lt 10 (length d) long short
@@ -105,7 +101,7 @@ module _ (d : List ℕ) (v : ℕ) (g : digits 0 16 d ≡ value v) where
 module _ (d b : List ℕ) (v : ℕ) (g : digits 0 16 d ≡ value v) (lo : 1 ≤ length d) (hi : length d ≤ 6) where
   dash-at : seek dash (d ++ (45 ∷ b)) ≡ length d
   unfolding all
-  dash-at = seek-join 45 [] refl d b (no-dash d v g)
+  dash-at = seek-join 45 [] refl d b (dashless d v g)
 
   pub dashed-is : (joined : Bool) (least : ℕ) → withBase least v b ≡ readAccount joined least (d ++ (45 ∷ b))
   unfolding readAccount twoParts withBase given

@@ -1,13 +1,12 @@
 -- The loop of `sum_run`, and what the sums of a prefix and a base say of an account. Assumes nothing.
-use mathlib.Core.Path.{_≡_, refl, sym, ap, _∙_}
-use mathlib.Core.Bool.{Bool, true, false}
+use mathlib.Core.Path.{_≡_, sym, _∙_}
+use mathlib.Core.Bool.{Bool, true}
 use mathlib.Core.List.{List}
 use Prim.Native.Nat.{ℕ, _+_, _-_, _*_, _^_, _≤_, _<_}
 use native.Mathlib.Omega.{arith}
 use mir.Val.{Fits}
 use mir.Syntax.{w64}
 use lib.ListN.{length, drop}
-use Rattle.base.specs.Pick.{pick}
 use Rattle.paper.specs.Read.{value}
 use Rattle.paper.specs.Numerals.{digits}
 use Rattle.paper.specs.Accounts.{accountOk}

@@ -1,17 +1,17 @@
 -- The answers of the readers, with what the code knows at each. Assumes nothing.
-use mathlib.Core.Path.{_≡_, refl, sym, ap, _∙_}
+use mathlib.Core.Path.{_≡_, sym, ap, _∙_}
 use mathlib.Core.Bool.{Bool, true, false}
-use mathlib.Core.List.{List, [], _∷_, _++_}
+use mathlib.Core.List.{List}
 use Prim.Native.Nat.{ℕ, _+_, _-_, _≤_, _<_}
 use native.Mathlib.Omega.{arith}
-use lib.Dec.{eqb, ltb}
+use lib.Dec.{ltb}
 use lib.ListN.{length, getD, take, drop}
-use borrow.Author.Tests.{ltb-true, ltb-false, eqb-true}
+use borrow.Author.Tests.{ltb-false, eqb-true}
 use Rattle.base.specs.Pick.{pick}
 use Rattle.base.specs.Seek.{seek}
 use Rattle.base.proofs.Cases.{by-test}
 use Rattle.base.proofs.Seek.{never}
-use Rattle.paper.specs.Read.{Field, value, fault}
+use Rattle.paper.specs.Read.{Field, value}
 use Rattle.paper.specs.Bytes.{space, fieldOf, null}
 use Rattle.paper.specs.Numerals.{digits}
 use Rattle.paper.specs.Accounts as paper
@@ -24,7 +24,7 @@ use Rattle.field.specs.At.{At, found, missed, ending, fieldAt}
 use Rattle.field.specs.Digits.{run}
 use Rattle.field.proofs.Front.{field-ends}
 use Rattle.field.proofs.Steps.{found-value, found-end}
-use Rattle.field.proofs.Number.{run-from, run-inside, run-ends, run-field, run-open, number-value, number-short, number-long}
+use Rattle.field.proofs.Number.{run-ends, run-field, run-open, number-value, number-short, number-long}
 use Rattle.field.proofs.Behind.{behind-field, behind-end}
 use Rattle.field.proofs.Onward.{onward, given-at}
 use Rattle.field.proofs.Whole.{whole-found, whole-missed}

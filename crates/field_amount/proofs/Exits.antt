@@ -1,5 +1,5 @@
 -- An amount of digits alone holds no comma, so it is a number that is read on. Assumes nothing.
-use mathlib.Core.Path.{_≡_, refl, sym, ap, _∙_}
+use mathlib.Core.Path.{_≡_, refl, _∙_}
 use mathlib.Core.Bool.{Bool, true, false}
 use mathlib.Core.List.{List}
 use Prim.Native.Nat.{ℕ}
@@ -12,7 +12,7 @@ use Rattle.base.specs.Pick.{pick}
 use Rattle.base.specs.Seek.{all, seek}
 use Rattle.base.proofs.Cases.{either, pick-false}
 use Rattle.base.proofs.Seek.{seek-over}
-use Rattle.paper.specs.Read.{Field, value, fault, given}
+use Rattle.paper.specs.Read.{value, fault, given}
 use Rattle.paper.specs.Bytes.{isDigit, comma, fieldOf}
 use Rattle.paper.specs.Numerals.{digits}
 use Rattle.paper.specs.Amounts.{readAmount, readTotal, amountProper, readItemAmount}

@@ -4,7 +4,7 @@ use Prim.Native.Nat.{ℕ}
 use mathlib.Core.List.{[]}
 use Rattle.paper.specs.Accounts.{nobody}
 use Rattle.paper.specs.Batch.{Item}
-use Rattle.paper.specs.Entries.{Entry, item, Said, got, no}
+use Rattle.paper.specs.Entries.{item, Said, got, no}
 use Rattle.paper.specs.Judge.{onItem}
 
 -- an item of which only the amount is told

@@ -12,7 +12,7 @@ use Rattle.base.specs.Pick.{pick}
 use Rattle.base.specs.Seek.{all}
 use Rattle.base.proofs.Cases.{by-test, by-lt}
 use Rattle.base.proofs.Seek.{never, all-cons, all-append, all-weaker}
-use Rattle.paper.specs.Lines.{line, startsLF, ended, behind, linesOf, linesFrom}
+use Rattle.paper.specs.Lines.{startsLF, ended, behind, linesOf, linesFrom}
 use Rattle.block.specs.Blocks.{isHigh, Skips}
 use Rattle.line.specs.declared.Cut.{Cut}
 use Rattle.line.specs.Cutting.{isPlain, Cuts}

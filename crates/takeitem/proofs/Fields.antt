@@ -1,5 +1,5 @@
 -- The fields of an item's line that says something, one after the other: p, m, v and b are what the takers answered. Assumes nothing.
-use mathlib.Core.Path.{_≡_, refl, sym, ap, _∙_}
+use mathlib.Core.Path.{_≡_, refl, sym, _∙_}
 use mathlib.Core.Bool.{Bool, true, false}
 use mathlib.Core.List.{List}
 use Prim.Native.Nat.{ℕ, _+_, _≤_, _<_}
@@ -7,7 +7,6 @@ use native.Mathlib.Omega.{arith}
 use mir.Val.{Fits}
 use mir.Syntax.{w64}
 use lib.ListN.{length, drop}
-use Rattle.base.specs.Pick.{pick}
 use Rattle.base.proofs.Cases.{pick-true, pick-false}
 use Rattle.sheet.specs.declared.Sheet.{Sheet}
 use Rattle.paper.specs.Read.{Field}
@@ -22,7 +21,7 @@ use Rattle.paper.specs.Entries.{Said, field, gap}
 use Rattle.paper.specs.ItemLine.{readSymbol, isValue, readItem}
 use Rattle.amount.proofs.Sound.{amount-within}
 use Rattle.bank.proofs.Sound.{bank-warnings}
-use Rattle.field.specs.At.{found, fieldAt}
+use Rattle.field.specs.At.{fieldAt}
 use Rattle.field.specs.declared.Run.{Run}
 use Rattle.base.proofs.Lists.{drop-none}
 use Rattle.field.proofs.Steps.{found-value, found-end, found-within, found-field, step-gap}

@@ -1,9 +1,8 @@
 -- A line that says something, step by step: its fields are there, and so are the spaces between them. Assumes nothing.
-use mathlib.Core.Path.{_≡_, refl, sym, ap, _∙_}
-use mathlib.Core.Bool.{Bool, true, false}
+use mathlib.Core.Path.{_≡_, refl, sym, _∙_}
+use mathlib.Core.Bool.{true}
 use mathlib.Core.List.{List}
-use Prim.Native.Nat.{ℕ, _+_, _≤_, _<_}
-use native.Mathlib.Omega.{arith}
+use Prim.Native.Nat.{ℕ, _+_, _<_}
 use lib.ListN.{length, drop, drop-of-length-le}
 use Rattle.base.specs.Seek.{seek}
 use Rattle.base.proofs.Cases.{by-lt}

@@ -1,6 +1,5 @@
 -- A line that is not refused. Document 01, "Lines". Assumes nothing.
 use mathlib.Core.Bool.{Bool, true, false}
-use Prim.Native.Nat.{ℕ}
 use Rattle.paper.specs.Entries.{Said, got, no}
 
 -- does the line say an entry?

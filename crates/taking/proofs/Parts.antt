@@ -1,12 +1,12 @@
 -- Digits of a line with another byte behind them, and what a run that takes them leaves. Assumes nothing.
 use mathlib.Core.Path.{_≡_, refl, sym, ap, _∙_}
-use mathlib.Core.Bool.{Bool, true, false}
+use mathlib.Core.Bool.{true, false}
 use mathlib.Core.List.{List, [], _∷_, _++_, append-assoc}
-use Prim.Native.Nat.{ℕ, suc, _+_, _≤_, _<_}
+use Prim.Native.Nat.{ℕ, _+_, _≤_, _<_}
 use native.Mathlib.Numerals.{add-one}
 use native.Mathlib.Omega.{arith}
 use lib.Dec.{eqb}
-use lib.ListN.{length, getD, take, drop, length-append, length-drop}
+use lib.ListN.{length, getD, drop, length-append, length-drop}
 use lib.Seq.{drop-drop, getD-drop, getD-append-seam, drop-append-add}
 use borrow.Author.Tests.{eqb-true}
 use Rattle.base.specs.Pick.{pick}
@@ -15,10 +15,10 @@ use Rattle.base.proofs.Cases.{by-test}
 use Rattle.base.proofs.Seek.{all-head, all-tail}
 use Rattle.paper.specs.Read.{Field, value, fault}
 use Rattle.paper.specs.Bytes.{isDigit, space, fieldOf}
-use Rattle.paper.specs.Numerals.{digitsOn, digits}
+use Rattle.paper.specs.Numerals.{digits}
 use Rattle.paper.specs.ItemLine.{isValue}
 use Rattle.numeral.proofs.Sound.{same, read-on, digits-plain, digits-most}
-use Rattle.field.specs.At.{At, found, ending, fieldAt}
+use Rattle.field.specs.At.{found, ending, fieldAt}
 use Rattle.field.specs.Digits.{front}
 use Rattle.field.specs.declared.Run.{Run}
 use Rattle.base.proofs.Lists.{drop-none}

@@ -1,6 +1,6 @@
 -- The loop of `take_run`: one more digit, and where they stop. Assumes nothing.
-use mathlib.Core.Path.{_≡_, refl, sym, ap, _∙_}
-use mathlib.Core.Bool.{Bool, true, false}
+use mathlib.Core.Path.{_≡_, refl, _∙_}
+use mathlib.Core.Bool.{true}
 use mathlib.Core.List.{List, [], _∷_}
 use Prim.Native.Nat.{ℕ, suc, _+_, _-_, _*_, _^_, _≤_, _<_}
 use native.Mathlib.Numerals.{add-one}
@@ -9,7 +9,7 @@ use mir.Val.{Fits}
 use mir.Syntax.{w64}
 use lib.ListN.{length, getD, drop}
 use lib.Seq.{drop-cons}
-use borrow.Author.Tests.{lt-ltb, le-ltb, le-leb}
+use borrow.Author.Tests.{lt-ltb}
 use Rattle.base.specs.Pick.{pick}
 use Rattle.base.proofs.Cases.{by-test}
 use Rattle.paper.specs.Read.{value}
@@ -18,7 +18,6 @@ use Rattle.paper.specs.Numerals.{digitsOn}
 use Rattle.numeral.proofs.Digits.{more-digits, ten-le}
 use Rattle.numeral.proofs.Plain.{digit-range}
 use Rattle.field.specs.Digits.{front}
-use Rattle.field.specs.declared.Run.{Run}
 use Rattle.taking.specs.Known.{Stops, Ran}
 
 -- v is the number of the digits before i

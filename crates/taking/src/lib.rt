@@ -12,7 +12,7 @@ ghost use Rattle.paper.specs.BankField.{readBank};
 ghost use Rattle.paper.specs.Bytes.{space, fieldOf};
 ghost use Rattle.paper.specs.Numerals.{digits};
 ghost use Rattle.paper.specs.ItemLine.{isValue, readSymbol};
-ghost use Rattle.field.specs.At.{found, fieldAt};
+ghost use Rattle.field.specs.At.{fieldAt};
 ghost use Rattle.taking.specs.Known.{Stops, Ran, There};
 ghost use Rattle.taking.specs.Numbers.{prefixAndBase};
 ghost use Rattle.taking.specs.Told.{toldAccount, toldNumber, toldBank};

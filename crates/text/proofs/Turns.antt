@@ -7,13 +7,12 @@ use native.Mathlib.Omega.{arith}
 use lib.ListN.{length, getD, drop, drop-of-length-le, length-drop}
 use lib.Seq.{drop-cons}
 use borrow.Author.Tests.{eq-eqb, ne-eqb, le-leb, lt-leb}
-use Rattle.base.specs.Pick.{pick}
 use Rattle.base.specs.Seek.{seek}
 use Rattle.base.proofs.Cases.{by-eq, pick-true, pick-false}
 use Rattle.sheet.specs.declared.Style.{Style}
 use Rattle.paper.specs.Bytes.{bar, mark}
 use Rattle.paper.specs.Texts.{others, opens, messageEnd}
-use Rattle.span.specs.Places.{span, partAt, ended, foundAt, oneAt, fourFrom}
+use Rattle.span.specs.Places.{span, partAt, ended, foundAt, oneAt}
 use Rattle.span.specs.declared.Part.{Part}
 use Rattle.span.specs.declared.Spans.{Spans}
 use Rattle.span.proofs.Turns.{part-bar, part-next, part-upto, part-near, bars-none, four-found, one-found}

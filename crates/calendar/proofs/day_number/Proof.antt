@@ -3,8 +3,6 @@ use borrow.Author.Needs.{needs}
 use Rattle.calendar.proofs.Number.{numbers}
 use Rattle.calendar.proofs.day_number.Statement.{statement}
 use Rattle.calendar.proofs.day_number.Tie as tie
-use Rattle.calendar.proofs.day_number.Reads as reads
-use Rattle.calendar.proofs.day_number.Lts as lts
 
 sub-n : tie.Need-sub-n
 sub-n c = search numbers

@@ -3,9 +3,6 @@ use borrow.Author.Needs.{needs}
 use Rattle.calendar.proofs.Due.{dues}
 use Rattle.calendar.proofs.due_allowed.Statement.{statement}
 use Rattle.calendar.proofs.due_allowed.Tie as tie
-use Rattle.calendar.proofs.due_allowed.Reads as reads
-use Rattle.calendar.proofs.due_allowed.Lts as lts
-use Rattle.calendar.proofs.day_number.Reads as day-number-reads
 
 returns : tie.Need-returns
 returns c = search dues

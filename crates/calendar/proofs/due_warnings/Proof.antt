@@ -3,8 +3,6 @@ use borrow.Author.Needs.{needs}
 use Rattle.calendar.proofs.Due.{dues}
 use Rattle.calendar.proofs.due_warnings.Statement.{statement}
 use Rattle.calendar.proofs.due_warnings.Tie as tie
-use Rattle.calendar.proofs.due_warnings.Reads as reads
-use Rattle.calendar.proofs.due_warnings.Lts as lts
 
 returns : tie.Need-returns
 returns c = (search dues, search needs)

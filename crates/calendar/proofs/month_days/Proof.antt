@@ -4,8 +4,6 @@ use Rattle.calendar.proofs.Real.{real-steps}
 use Rattle.paper.specs.Days.{monthDays}
 use Rattle.calendar.proofs.month_days.Statement.{statement}
 use Rattle.calendar.proofs.month_days.Tie as tie
-use Rattle.calendar.proofs.month_days.Reads as reads
-use Rattle.calendar.proofs.month_days.Lts as lts
 
 returns : tie.Need-returns
 unfolding monthDays

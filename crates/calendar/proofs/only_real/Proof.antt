@@ -4,9 +4,6 @@ use Rattle.paper.specs.Days.{real}
 use Rattle.calendar.proofs.Reading.{reading}
 use Rattle.calendar.proofs.only_real.Statement.{statement}
 use Rattle.calendar.proofs.only_real.Tie as tie
-use Rattle.calendar.proofs.only_real.Reads as reads
-use Rattle.calendar.proofs.only_real.Lts as lts
-use Rattle.calendar.proofs.real_day.Reads as real-day-reads
 
 real-day-requires : tie.Need-real-day-requires
 real-day-requires c κs = search needs

@@ -3,9 +3,6 @@ use borrow.Author.Needs.{needs}
 use Rattle.paper.specs.Days.{spellDay}
 use Rattle.calendar.proofs.put_day.Statement.{statement}
 use Rattle.calendar.proofs.put_day.Tie as tie
-use Rattle.calendar.proofs.put_day.Reads as reads
-use Rattle.calendar.proofs.put_day.Lts as lts
-use Rattle.numeral.proofs.put_fixed.Reads as put-fixed-reads
 
 mul-n : tie.Need-mul-n
 mul-n c = search needs

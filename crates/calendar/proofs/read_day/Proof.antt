@@ -3,10 +3,6 @@ use borrow.Author.Needs.{needs}
 use Rattle.calendar.proofs.Reading.{reading}
 use Rattle.calendar.proofs.read_day.Statement.{statement}
 use Rattle.calendar.proofs.read_day.Tie as tie
-use Rattle.calendar.proofs.read_day.Reads as reads
-use Rattle.calendar.proofs.read_day.Lts as lts
-use Rattle.calendar.proofs.read_long.Reads as read-long-reads
-use Rattle.calendar.proofs.read_short.Reads as read-short-reads
 
 read-long-requires : tie.Need-read-long-requires
 read-long-requires c κs = search needs

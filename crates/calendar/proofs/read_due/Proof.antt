@@ -5,10 +5,6 @@ use Rattle.calendar.proofs.Sound.{day-told}
 use Rattle.calendar.proofs.Reading.{reading}
 use Rattle.calendar.proofs.read_due.Statement.{statement}
 use Rattle.calendar.proofs.read_due.Tie as tie
-use Rattle.calendar.proofs.read_due.Reads as reads
-use Rattle.calendar.proofs.read_due.Lts as lts
-use Rattle.calendar.proofs.due_allowed.Reads as due-allowed-reads
-use Rattle.calendar.proofs.read_day.Reads as read-day-reads
 
 read-day-requires : tie.Need-read-day-requires
 read-day-requires c κs = search needs

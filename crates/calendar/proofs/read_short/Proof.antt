@@ -4,10 +4,6 @@ use Rattle.paper.specs.Days.{shortDay}
 use Rattle.calendar.proofs.Reading.{reading}
 use Rattle.calendar.proofs.read_short.Statement.{statement}
 use Rattle.calendar.proofs.read_short.Tie as tie
-use Rattle.calendar.proofs.read_short.Reads as reads
-use Rattle.calendar.proofs.read_short.Lts as lts
-use Rattle.calendar.proofs.only_real.Reads as only-real-reads
-use Rattle.numeral.proofs.read_digits.Reads as read-digits-reads
 
 read-digits-requires : tie.Need-read-digits-requires
 read-digits-requires c κs = search needs

@@ -4,9 +4,6 @@ use Rattle.calendar.proofs.Real.{real-steps}
 use Rattle.paper.specs.Days.{realDay}
 use Rattle.calendar.proofs.real_day.Statement.{statement}
 use Rattle.calendar.proofs.real_day.Tie as tie
-use Rattle.calendar.proofs.real_day.Reads as reads
-use Rattle.calendar.proofs.real_day.Lts as lts
-use Rattle.calendar.proofs.month_days.Reads as month-days-reads
 
 returns : tie.Need-returns
 unfolding realDay

@@ -5,14 +5,6 @@ use Rattle.field_account.proofs.Doubling.{smalls}
 use Rattle.field_account.proofs.Exits.{exits}
 use Rattle.field_account.proofs.account_at.Statement.{statement}
 use Rattle.field_account.proofs.account_at.Tie as tie
-use Rattle.field_account.proofs.account_at.Reads as reads
-use Rattle.field_account.proofs.account_at.Lts as lts
-use Rattle.field.proofs.ends.Reads as ends-reads
-use Rattle.field_account.proofs.has_prefix.Reads as has-prefix-reads
-use Rattle.field_account.proofs.plain.Reads as plain-reads
-use Rattle.field_account.proofs.sum_run.Reads as sum-run-reads
-use Rattle.field_account.proofs.whole_account.Reads as whole-account-reads
-use Rattle.field_account.proofs.with_base.Reads as with-base-reads
 
 sum-run-requires : tie.Need-sum-run-requires
 sum-run-requires c κs = search needs

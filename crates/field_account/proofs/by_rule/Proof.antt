@@ -4,9 +4,6 @@ use Rattle.field.proofs.Onward.{onwards}
 use Rattle.paper.specs.Accounts.{ruled}
 use Rattle.field_account.proofs.by_rule.Statement.{statement}
 use Rattle.field_account.proofs.by_rule.Tie as tie
-use Rattle.field_account.proofs.by_rule.Reads as reads
-use Rattle.field_account.proofs.by_rule.Lts as lts
-use Rattle.account.proofs.account_ok.Reads as account-ok-reads
 
 account-ok-requires : tie.Need-account-ok-requires
 account-ok-requires c κs = search needs

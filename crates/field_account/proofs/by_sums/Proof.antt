@@ -5,9 +5,6 @@ use Rattle.paper.specs.Accounts.{ruled}
 use Rattle.field_account.proofs.Doubling.{rule-by-sums}
 use Rattle.field_account.proofs.by_sums.Statement.{statement}
 use Rattle.field_account.proofs.by_sums.Tie as tie
-use Rattle.field_account.proofs.by_sums.Reads as reads
-use Rattle.field_account.proofs.by_sums.Lts as lts
-use Rattle.account.proofs.sums_ok.Reads as sums-ok-reads
 
 sums-ok-requires : tie.Need-sums-ok-requires
 sums-ok-requires c κs = search needs

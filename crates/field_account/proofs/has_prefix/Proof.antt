@@ -4,8 +4,6 @@ use Rattle.base.proofs.Cases.{picks}
 use Rattle.field_account.specs.Parts.{dashed}
 use Rattle.field_account.proofs.has_prefix.Statement.{statement}
 use Rattle.field_account.proofs.has_prefix.Tie as tie
-use Rattle.field_account.proofs.has_prefix.Reads as reads
-use Rattle.field_account.proofs.has_prefix.Lts as lts
 
 sub-n : tie.Need-sub-n
 sub-n c = search needs

@@ -3,11 +3,6 @@ use borrow.Author.Needs.{needs}
 use Rattle.field_account.proofs.Exits.{exits}
 use Rattle.field_account.proofs.payer_at.Statement.{statement}
 use Rattle.field_account.proofs.payer_at.Tie as tie
-use Rattle.field_account.proofs.payer_at.Reads as reads
-use Rattle.field_account.proofs.payer_at.Lts as lts
-use Rattle.field.proofs.ends.Reads as ends-reads
-use Rattle.field_account.proofs.account_at.Reads as account-at-reads
-use Rattle.field_account.proofs.whole_payer.Reads as whole-payer-reads
 
 ends-requires : tie.Need-ends-requires
 ends-requires c κs = search needs

@@ -5,10 +5,6 @@ use Rattle.field_account.specs.Parts.{undashed}
 use Rattle.field_account.proofs.Doubling.{smalls}
 use Rattle.field_account.proofs.plain.Statement.{statement}
 use Rattle.field_account.proofs.plain.Tie as tie
-use Rattle.field_account.proofs.plain.Reads as reads
-use Rattle.field_account.proofs.plain.Lts as lts
-use Rattle.field_account.proofs.by_rule.Reads as by-rule-reads
-use Rattle.field_account.proofs.by_sums.Reads as by-sums-reads
 
 by-rule-requires : tie.Need-by-rule-requires
 by-rule-requires c κs = search needs

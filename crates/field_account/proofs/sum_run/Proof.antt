@@ -8,10 +8,6 @@ use Rattle.field.proofs.Turns.{Reads, turns}
 use Rattle.field_account.proofs.Doubling.{sums}
 use Rattle.field_account.proofs.sum_run.Statement.{statement}
 use Rattle.field_account.proofs.sum_run.Tie as tie
-use Rattle.field_account.proofs.sum_run.Reads as reads
-use Rattle.field_account.proofs.sum_run.Lts as lts
-use Rattle.field.proofs.stop_of.Reads as stop-of-reads
-use Rattle.field.proofs.worth.Reads as worth-reads
 
 abbrev Inv-loop : tie.InvT-loop
 Inv-loop s at most stop v₀ sum₀ i₀ v sum i = Reads s at most stop v i × (sum ≡ doubled 19 v)

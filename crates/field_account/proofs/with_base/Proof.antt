@@ -5,11 +5,6 @@ use Rattle.field_account.proofs.Doubling.{smalls}
 use Rattle.field_account.proofs.Exits.{exits}
 use Rattle.field_account.proofs.with_base.Statement.{statement}
 use Rattle.field_account.proofs.with_base.Tie as tie
-use Rattle.field_account.proofs.with_base.Reads as reads
-use Rattle.field_account.proofs.with_base.Lts as lts
-use Rattle.field.proofs.ends.Reads as ends-reads
-use Rattle.field_account.proofs.by_sums.Reads as by-sums-reads
-use Rattle.field_account.proofs.sum_run.Reads as sum-run-reads
 
 add-from : tie.Need-add-from
 add-from c = search needs

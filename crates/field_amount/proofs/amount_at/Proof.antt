@@ -3,11 +3,6 @@ use borrow.Author.Needs.{needs}
 use Rattle.field_amount.proofs.Exits.{digits-amount}
 use Rattle.field_amount.proofs.amount_at.Statement.{statement}
 use Rattle.field_amount.proofs.amount_at.Tie as tie
-use Rattle.field_amount.proofs.amount_at.Reads as reads
-use Rattle.field_amount.proofs.amount_at.Lts as lts
-use Rattle.field.proofs.number_at.Reads as number-at-reads
-use Rattle.field_amount.proofs.in_limit.Reads as in-limit-reads
-use Rattle.field_amount.proofs.whole_amount.Reads as whole-amount-reads
 
 number-at-requires : tie.Need-number-at-requires
 number-at-requires c κs = search needs

@@ -3,9 +3,6 @@ use borrow.Author.Needs.{needs}
 use Rattle.field.proofs.Onward.{onwards}
 use Rattle.field_amount.proofs.in_limit.Statement.{statement}
 use Rattle.field_amount.proofs.in_limit.Tie as tie
-use Rattle.field_amount.proofs.in_limit.Reads as reads
-use Rattle.field_amount.proofs.in_limit.Lts as lts
-use Rattle.amount.proofs.amount_proper.Reads as amount-proper-reads
 
 amount-proper-requires : tie.Need-amount-proper-requires
 amount-proper-requires c κs = search needs

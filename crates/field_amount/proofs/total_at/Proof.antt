@@ -3,10 +3,6 @@ use borrow.Author.Needs.{needs}
 use Rattle.field_amount.proofs.Exits.{digits-total}
 use Rattle.field_amount.proofs.total_at.Statement.{statement}
 use Rattle.field_amount.proofs.total_at.Tie as tie
-use Rattle.field_amount.proofs.total_at.Reads as reads
-use Rattle.field_amount.proofs.total_at.Lts as lts
-use Rattle.field.proofs.number_at.Reads as number-at-reads
-use Rattle.field_amount.proofs.whole_total.Reads as whole-total-reads
 
 number-at-requires : tie.Need-number-at-requires
 number-at-requires c κs = search needs

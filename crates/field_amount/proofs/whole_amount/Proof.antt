@@ -4,10 +4,6 @@ use Rattle.field.proofs.Whole.{wholes}
 use Rattle.line.proofs.Fields.{end-within}
 use Rattle.field_amount.proofs.whole_amount.Statement.{statement}
 use Rattle.field_amount.proofs.whole_amount.Tie as tie
-use Rattle.field_amount.proofs.whole_amount.Reads as reads
-use Rattle.field_amount.proofs.whole_amount.Lts as lts
-use Rattle.amount.proofs.read_item_amount.Reads as read-item-amount-reads
-use Rattle.line.proofs.field_end.Reads as field-end-reads
 
 field-end-requires : tie.Need-field-end-requires
 field-end-requires c κs = search needs

@@ -4,10 +4,6 @@ use Rattle.field.proofs.Whole.{wholes}
 use Rattle.line.proofs.Fields.{end-within}
 use Rattle.field_amount.proofs.whole_total.Statement.{statement}
 use Rattle.field_amount.proofs.whole_total.Tie as tie
-use Rattle.field_amount.proofs.whole_total.Reads as reads
-use Rattle.field_amount.proofs.whole_total.Lts as lts
-use Rattle.amount.proofs.read_total.Reads as read-total-reads
-use Rattle.line.proofs.field_end.Reads as field-end-reads
 
 field-end-requires : tie.Need-field-end-requires
 field-end-requires c κs = search needs

@@ -3,11 +3,6 @@ use borrow.Author.Needs.{needs}
 use Rattle.field_day.proofs.Exits.{spelled-due}
 use Rattle.field_day.proofs.due_at.Statement.{statement}
 use Rattle.field_day.proofs.due_at.Tie as tie
-use Rattle.field_day.proofs.due_at.Reads as reads
-use Rattle.field_day.proofs.due_at.Lts as lts
-use Rattle.field_day.proofs.if_due.Reads as if-due-reads
-use Rattle.field_day.proofs.last_day.Reads as last-day-reads
-use Rattle.field_day.proofs.whole_due.Reads as whole-due-reads
 
 sub-if1 : tie.Need-sub-if1
 sub-if1 c = search needs

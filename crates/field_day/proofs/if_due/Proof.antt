@@ -4,10 +4,6 @@ use Rattle.field.proofs.Onward.{onwards}
 use Rattle.field_day.proofs.Exits.{is-real}
 use Rattle.field_day.proofs.if_due.Statement.{statement}
 use Rattle.field_day.proofs.if_due.Tie as tie
-use Rattle.field_day.proofs.if_due.Reads as reads
-use Rattle.field_day.proofs.if_due.Lts as lts
-use Rattle.calendar.proofs.due_allowed.Reads as due-allowed-reads
-use Rattle.calendar.proofs.real_day.Reads as real-day-reads
 
 real-day-requires : tie.Need-real-day-requires
 real-day-requires c κs = search needs

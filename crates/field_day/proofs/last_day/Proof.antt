@@ -3,9 +3,6 @@ use borrow.Author.Needs.{needs}
 use Rattle.field_day.proofs.Exits.{spelling}
 use Rattle.field_day.proofs.last_day.Statement.{statement}
 use Rattle.field_day.proofs.last_day.Tie as tie
-use Rattle.field_day.proofs.last_day.Reads as reads
-use Rattle.field_day.proofs.last_day.Lts as lts
-use Rattle.field_day.proofs.two_digits.Reads as two-digits-reads
 
 two-digits-requires : tie.Need-two-digits-requires
 two-digits-requires c κs = search needs

@@ -3,9 +3,6 @@ use borrow.Author.Needs.{needs}
 use Rattle.field_day.proofs.Exits.{spelling}
 use Rattle.field_day.proofs.two_digits.Statement.{statement}
 use Rattle.field_day.proofs.two_digits.Tie as tie
-use Rattle.field_day.proofs.two_digits.Reads as reads
-use Rattle.field_day.proofs.two_digits.Lts as lts
-use Rattle.field.proofs.worth.Reads as worth-reads
 
 shared-slice-read-worth : tie.Need-shared-slice-read-worth
 shared-slice-read-worth c = search needs

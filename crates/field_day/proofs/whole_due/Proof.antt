@@ -4,10 +4,6 @@ use Rattle.field.proofs.Whole.{wholes}
 use Rattle.line.proofs.Fields.{end-within}
 use Rattle.field_day.proofs.whole_due.Statement.{statement}
 use Rattle.field_day.proofs.whole_due.Tie as tie
-use Rattle.field_day.proofs.whole_due.Reads as reads
-use Rattle.field_day.proofs.whole_due.Lts as lts
-use Rattle.calendar.proofs.read_due.Reads as read-due-reads
-use Rattle.line.proofs.field_end.Reads as field-end-reads
 
 field-end-requires : tie.Need-field-end-requires
 field-end-requires c κs = search needs

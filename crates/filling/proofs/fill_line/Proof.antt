@@ -3,16 +3,6 @@ use borrow.Author.Needs.{needs}
 use Rattle.filling.proofs.Put.{judged-file, judged-group, judged-item, room-file, room-group, room-item, reach-item, step-head, step-group-end, step-file-end, step-file, step-group, step-item}
 use Rattle.filling.proofs.fill_line.Statement.{statement}
 use Rattle.filling.proofs.fill_line.Tie as tie
-use Rattle.filling.proofs.fill_line.Reads as reads
-use Rattle.filling.proofs.fill_line.Lts as lts
-use Rattle.account.proofs.is_nobody.Reads as is-nobody-reads
-use Rattle.itemrow.proofs.put_item_row.Reads as put-item-row-reads
-use Rattle.kind.proofs.kind_of.Reads as kind-of-reads
-use Rattle.row.proofs.put_file_row.Reads as put-file-row-reads
-use Rattle.row.proofs.put_group_row.Reads as put-group-row-reads
-use Rattle.takeitem.proofs.take_item.Reads as take-item-reads
-use Rattle.takehead.proofs.take_file.Reads as take-file-reads
-use Rattle.takehead.proofs.take_group.Reads as take-group-reads
 
 kind-of-requires : tie.Need-kind-of-requires
 kind-of-requires c κs = search needs

@@ -8,10 +8,6 @@ use Rattle.filling.specs.Judged.{AllSaid}
 use Rattle.filling.proofs.Lines.{Going, said-first, going-first, going-room, cut-inside, lines-turn}
 use Rattle.filling.proofs.fill_rows.Statement.{statement}
 use Rattle.filling.proofs.fill_rows.Tie as tie
-use Rattle.filling.proofs.fill_rows.Reads as reads
-use Rattle.filling.proofs.fill_rows.Lts as lts
-use Rattle.filling.proofs.fill_line.Reads as fill-line-reads
-use Rattle.line.proofs.next_line.Reads as next-line-reads
 
 abbrev Inv-loop : tie.InvT-loop
 Inv-loop f sh today rows₀ at₀ next₀ single₀ rows at next single = (at ≤ length f) × Going f sh today rows₀ at next single rows × AllSaid sh today single (linesFrom f at)

@@ -4,11 +4,6 @@ use Rattle.groupline.proofs.Fields.{groups, bounds}
 use Rattle.paper.specs.GroupLine.{readGroup}
 use Rattle.groupline.proofs.group_line.Statement.{statement}
 use Rattle.groupline.proofs.group_line.Tie as tie
-use Rattle.groupline.proofs.group_line.Reads as reads
-use Rattle.groupline.proofs.group_line.Lts as lts
-use Rattle.groupline.proofs.has_payer.Reads as has-payer-reads
-use Rattle.groupline.proofs.total_and_date.Reads as total-and-date-reads
-use Rattle.field_account.proofs.payer_at.Reads as payer-at-reads
 
 has-payer-requires : tie.Need-has-payer-requires
 has-payer-requires c κs = search needs

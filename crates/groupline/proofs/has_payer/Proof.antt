@@ -4,11 +4,6 @@ use Rattle.groupline.proofs.Fields.{payers}
 use Rattle.groupline.proofs.Spaces.{places}
 use Rattle.groupline.proofs.has_payer.Statement.{statement}
 use Rattle.groupline.proofs.has_payer.Tie as tie
-use Rattle.groupline.proofs.has_payer.Reads as reads
-use Rattle.groupline.proofs.has_payer.Lts as lts
-use Rattle.groupline.proofs.is_spaced.Reads as is-spaced-reads
-use Rattle.groupline.proofs.third_space.Reads as third-space-reads
-use Rattle.line.proofs.spaces.Reads as spaces-reads
 
 returns : tie.Need-returns
 returns c = search payers

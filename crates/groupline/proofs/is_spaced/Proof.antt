@@ -4,8 +4,6 @@ use Rattle.base.proofs.Cases.{picks}
 use Rattle.groupline.specs.Spaced.{spaced}
 use Rattle.groupline.proofs.is_spaced.Statement.{statement}
 use Rattle.groupline.proofs.is_spaced.Tie as tie
-use Rattle.groupline.proofs.is_spaced.Reads as reads
-use Rattle.groupline.proofs.is_spaced.Lts as lts
 
 returns : tie.Need-returns
 unfolding spaced

@@ -7,8 +7,6 @@ use Rattle.paper.specs.GroupLine.{spaceCount}
 use Rattle.groupline.proofs.Spaces.{inside}
 use Rattle.groupline.proofs.space_inside.Statement.{statement}
 use Rattle.groupline.proofs.space_inside.Tie as tie
-use Rattle.groupline.proofs.space_inside.Reads as reads
-use Rattle.groupline.proofs.space_inside.Lts as lts
 
 abbrev Inv-loop : tie.InvT-loop
 Inv-loop s stop i₀ i = (2 ≤ i) × (i ≤ length s) × (spaceCount (drop i s) ≡ spaceCount (drop stop s))

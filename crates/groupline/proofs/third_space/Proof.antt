@@ -3,10 +3,6 @@ use borrow.Author.Needs.{needs}
 use Rattle.groupline.proofs.Spaces.{places, thirds}
 use Rattle.groupline.proofs.third_space.Statement.{statement}
 use Rattle.groupline.proofs.third_space.Tie as tie
-use Rattle.groupline.proofs.third_space.Reads as reads
-use Rattle.groupline.proofs.third_space.Lts as lts
-use Rattle.groupline.proofs.space_inside.Reads as space-inside-reads
-use Rattle.line.proofs.field_end.Reads as field-end-reads
 
 sub-stop : tie.Need-sub-stop
 sub-stop c = search (places, needs)

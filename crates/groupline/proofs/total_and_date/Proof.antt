@@ -4,11 +4,6 @@ use Rattle.groupline.proofs.Fields.{groups, bounds}
 use Rattle.paper.specs.GroupLine.{totalAndDate}
 use Rattle.groupline.proofs.total_and_date.Statement.{statement}
 use Rattle.groupline.proofs.total_and_date.Tie as tie
-use Rattle.groupline.proofs.total_and_date.Reads as reads
-use Rattle.groupline.proofs.total_and_date.Lts as lts
-use Rattle.calendar.proofs.due_warnings.Reads as due-warnings-reads
-use Rattle.field_day.proofs.due_at.Reads as due-at-reads
-use Rattle.field_amount.proofs.total_at.Reads as total-at-reads
 
 total-at-requires : tie.Need-total-at-requires
 total-at-requires c κs = search needs

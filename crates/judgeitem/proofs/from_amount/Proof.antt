@@ -1,13 +1,9 @@
 -- `from_amount`: the amount, and what follows it. Assumes nothing.
 use borrow.Author.Needs.{needs}
 use Rattle.judgeitem.specs.Stages.{fromAmount}
-use Rattle.judgeitem.proofs.Steps.{items, bounds}
+use Rattle.judgeitem.proofs.Steps.{items}
 use Rattle.judgeitem.proofs.from_amount.Statement.{statement}
 use Rattle.judgeitem.proofs.from_amount.Tie as tie
-use Rattle.judgeitem.proofs.from_amount.Reads as reads
-use Rattle.judgeitem.proofs.from_amount.Lts as lts
-use Rattle.field_amount.proofs.amount_at.Reads as amount-at-reads
-use Rattle.judgeitem.proofs.from_variable.Reads as from-variable-reads
 
 amount-at-requires : tie.Need-amount-at-requires
 amount-at-requires c κs = search needs

@@ -3,10 +3,6 @@ use borrow.Author.Needs.{needs}
 use Rattle.judgeitem.proofs.Steps.{items, bounds}
 use Rattle.judgeitem.proofs.from_bank.Statement.{statement}
 use Rattle.judgeitem.proofs.from_bank.Tie as tie
-use Rattle.judgeitem.proofs.from_bank.Reads as reads
-use Rattle.judgeitem.proofs.from_bank.Lts as lts
-use Rattle.judging.proofs.judge_bank.Reads as judge-bank-reads
-use Rattle.judgeitem.proofs.with_tail.Reads as with-tail-reads
 
 judge-bank-requires : tie.Need-judge-bank-requires
 judge-bank-requires c κs = search needs

@@ -1,12 +1,8 @@
 -- `from_variable`: the variable symbol, and what follows it. Assumes nothing.
 use borrow.Author.Needs.{needs}
-use Rattle.judgeitem.proofs.Steps.{items, bounds}
+use Rattle.judgeitem.proofs.Steps.{items}
 use Rattle.judgeitem.proofs.from_variable.Statement.{statement}
 use Rattle.judgeitem.proofs.from_variable.Tie as tie
-use Rattle.judgeitem.proofs.from_variable.Reads as reads
-use Rattle.judgeitem.proofs.from_variable.Lts as lts
-use Rattle.judging.proofs.pass_symbol.Reads as pass-symbol-reads
-use Rattle.judgeitem.proofs.from_bank.Reads as from-bank-reads
 
 pass-symbol-requires : tie.Need-pass-symbol-requires
 pass-symbol-requires c κs = search needs

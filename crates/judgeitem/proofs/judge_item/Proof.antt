@@ -4,11 +4,6 @@ use Rattle.judgeitem.specs.Stages.{byPieces}
 use Rattle.judgeitem.proofs.Steps.{items, bounds}
 use Rattle.judgeitem.proofs.judge_item.Statement.{statement}
 use Rattle.judgeitem.proofs.judge_item.Tie as tie
-use Rattle.judgeitem.proofs.judge_item.Reads as reads
-use Rattle.judgeitem.proofs.judge_item.Lts as lts
-use Rattle.judging.proofs.judge_account.Reads as judge-account-reads
-use Rattle.judgeitem.proofs.from_amount.Reads as from-amount-reads
-use Rattle.judgeitem.proofs.payer_first.Reads as payer-first-reads
 
 payer-first-requires : tie.Need-payer-first-requires
 payer-first-requires c κs = search needs

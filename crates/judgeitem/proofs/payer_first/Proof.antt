@@ -4,9 +4,6 @@ use Rattle.judgeitem.specs.Stages.{payerFirst}
 use Rattle.judgeitem.proofs.Steps.{items, bounds}
 use Rattle.judgeitem.proofs.payer_first.Statement.{statement}
 use Rattle.judgeitem.proofs.payer_first.Tie as tie
-use Rattle.judgeitem.proofs.payer_first.Reads as reads
-use Rattle.judgeitem.proofs.payer_first.Lts as lts
-use Rattle.judging.proofs.judge_account.Reads as judge-account-reads
 
 judge-account-requires : tie.Need-judge-account-requires
 judge-account-requires c κs = search needs

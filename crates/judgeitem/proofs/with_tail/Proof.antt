@@ -4,11 +4,6 @@ use Rattle.judgeitem.specs.Stages.{withTail}
 use Rattle.judgeitem.proofs.Steps.{items, bounds}
 use Rattle.judgeitem.proofs.with_tail.Statement.{statement}
 use Rattle.judgeitem.proofs.with_tail.Tie as tie
-use Rattle.judgeitem.proofs.with_tail.Reads as reads
-use Rattle.judgeitem.proofs.with_tail.Lts as lts
-use Rattle.judgeitem.proofs.with_texts.Reads as with-texts-reads
-use Rattle.tail.proofs.read_tail.Reads as read-tail-reads
-use Rattle.text.proofs.read_text.Reads as read-text-reads
 
 read-tail-requires : tie.Need-read-tail-requires
 read-tail-requires c κs = search needs

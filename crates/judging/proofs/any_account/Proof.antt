@@ -3,9 +3,6 @@ use borrow.Author.Needs.{needs}
 use Rattle.judging.proofs.Accounts.{judged}
 use Rattle.judging.proofs.any_account.Statement.{statement}
 use Rattle.judging.proofs.any_account.Tie as tie
-use Rattle.judging.proofs.any_account.Reads as reads
-use Rattle.judging.proofs.any_account.Lts as lts
-use Rattle.field_account.proofs.account_at.Reads as account-at-reads
 
 account-at-requires : tie.Need-account-at-requires
 account-at-requires c κs = search needs

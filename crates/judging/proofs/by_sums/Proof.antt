@@ -3,9 +3,6 @@ use borrow.Author.Needs.{needs}
 use Rattle.judging.proofs.Accounts.{judged}
 use Rattle.judging.proofs.by_sums.Statement.{statement}
 use Rattle.judging.proofs.by_sums.Tie as tie
-use Rattle.judging.proofs.by_sums.Reads as reads
-use Rattle.judging.proofs.by_sums.Lts as lts
-use Rattle.account.proofs.sums_ok.Reads as sums-ok-reads
 
 sums-ok-requires : tie.Need-sums-ok-requires
 sums-ok-requires c κs = search needs

@@ -1,7 +1,7 @@
 -- `eight_digits` meets its contract: while the answer is true, every byte passed is a digit. Assumes nothing.
 use mathlib.Core.Path.{_≡_, refl}
 use mathlib.Core.Logic.{⊎-elim}
-use Prim.Native.Nat.{_+_, _-_, _≤_}
+use Prim.Native.Nat.{_-_, _≤_}
 use native.Mathlib.Omega.{arith}
 use lib.ListN.{take, drop}
 use Rattle.base.specs.Seek.{all}
@@ -10,9 +10,6 @@ use Rattle.judging.proofs.Digits.{eight-other, eight-digit, eight-end}
 use borrow.Author.Needs.{needs}
 use Rattle.judging.proofs.eight_digits.Statement.{statement}
 use Rattle.judging.proofs.eight_digits.Tie as tie
-use Rattle.judging.proofs.eight_digits.Reads as reads
-use Rattle.judging.proofs.eight_digits.Lts as lts
-use Rattle.field.proofs.worth.Reads as worth-reads
 
 abbrev Inv-loop : tie.InvT-loop
 Inv-loop s at digits₀ j₀ digits j = (j ≤ 8) × (digits ≡ all isDigit (take j (drop at s)))

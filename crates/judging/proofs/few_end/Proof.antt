@@ -8,9 +8,6 @@ use Rattle.judging.proofs.Digits.{fews}
 use borrow.Author.Needs.{needs}
 use Rattle.judging.proofs.few_end.Statement.{statement}
 use Rattle.judging.proofs.few_end.Tie as tie
-use Rattle.judging.proofs.few_end.Reads as reads
-use Rattle.judging.proofs.few_end.Lts as lts
-use Rattle.field.proofs.worth.Reads as worth-reads
 
 abbrev Inv-loop : tie.InvT-loop
 Inv-loop s at most j₀ j = (j ≤ most) × (length (run most (drop at s)) ≡ j + length (front (take (most - j) (drop (at + j) s))))

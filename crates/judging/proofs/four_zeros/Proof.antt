@@ -3,8 +3,6 @@ use borrow.Author.Needs.{needs}
 use Rattle.judging.proofs.Plain.{zeros}
 use Rattle.judging.proofs.four_zeros.Statement.{statement}
 use Rattle.judging.proofs.four_zeros.Tie as tie
-use Rattle.judging.proofs.four_zeros.Reads as reads
-use Rattle.judging.proofs.four_zeros.Lts as lts
 
 shared-slice-read-if1 : tie.Need-shared-slice-read-if1
 shared-slice-read-if1 c = search needs

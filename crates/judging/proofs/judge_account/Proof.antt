@@ -5,14 +5,6 @@ use Rattle.field_account.proofs.Doubling.{smalls}
 use Rattle.judging.proofs.Accounts.{judged}
 use Rattle.judging.proofs.judge_account.Statement.{statement}
 use Rattle.judging.proofs.judge_account.Tie as tie
-use Rattle.judging.proofs.judge_account.Reads as reads
-use Rattle.judging.proofs.judge_account.Lts as lts
-use Rattle.field.proofs.ends.Reads as ends-reads
-use Rattle.field_account.proofs.has_prefix.Reads as has-prefix-reads
-use Rattle.field_account.proofs.sum_run.Reads as sum-run-reads
-use Rattle.judging.proofs.any_account.Reads as any-account-reads
-use Rattle.judging.proofs.by_sums.Reads as by-sums-reads
-use Rattle.judging.proofs.judge_base.Reads as judge-base-reads
 
 sum-run-requires : tie.Need-sum-run-requires
 sum-run-requires c κs = search needs

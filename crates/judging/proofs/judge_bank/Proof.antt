@@ -3,10 +3,6 @@ use borrow.Author.Needs.{needs}
 use Rattle.judging.proofs.Plain.{banks}
 use Rattle.judging.proofs.judge_bank.Statement.{statement}
 use Rattle.judging.proofs.judge_bank.Tie as tie
-use Rattle.judging.proofs.judge_bank.Reads as reads
-use Rattle.judging.proofs.judge_bank.Lts as lts
-use Rattle.field_bank.proofs.bank_at.Reads as bank-at-reads
-use Rattle.judging.proofs.plain_bank.Reads as plain-bank-reads
 
 plain-bank-requires : tie.Need-plain-bank-requires
 plain-bank-requires c κs = search needs

@@ -5,11 +5,6 @@ use Rattle.field_account.proofs.Doubling.{smalls}
 use Rattle.judging.proofs.Accounts.{judged}
 use Rattle.judging.proofs.judge_base.Statement.{statement}
 use Rattle.judging.proofs.judge_base.Tie as tie
-use Rattle.judging.proofs.judge_base.Reads as reads
-use Rattle.judging.proofs.judge_base.Lts as lts
-use Rattle.field.proofs.ends.Reads as ends-reads
-use Rattle.field_account.proofs.sum_run.Reads as sum-run-reads
-use Rattle.judging.proofs.by_sums.Reads as by-sums-reads
 
 add-from : tie.Need-add-from
 add-from c = search needs

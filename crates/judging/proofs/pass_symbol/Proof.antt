@@ -3,10 +3,6 @@ use borrow.Author.Needs.{needs}
 use Rattle.judging.proofs.Digits.{symbols}
 use Rattle.judging.proofs.pass_symbol.Statement.{statement}
 use Rattle.judging.proofs.pass_symbol.Tie as tie
-use Rattle.judging.proofs.pass_symbol.Reads as reads
-use Rattle.judging.proofs.pass_symbol.Lts as lts
-use Rattle.field.proofs.ends.Reads as ends-reads
-use Rattle.judging.proofs.ten_end.Reads as ten-end-reads
 
 ten-end-requires : tie.Need-ten-end-requires
 ten-end-requires c κs = search needs

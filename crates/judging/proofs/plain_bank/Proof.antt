@@ -3,11 +3,6 @@ use borrow.Author.Needs.{needs}
 use Rattle.judging.proofs.Plain.{not-plain, is-plain}
 use Rattle.judging.proofs.plain_bank.Statement.{statement}
 use Rattle.judging.proofs.plain_bank.Tie as tie
-use Rattle.judging.proofs.plain_bank.Reads as reads
-use Rattle.judging.proofs.plain_bank.Lts as lts
-use Rattle.field.proofs.ends.Reads as ends-reads
-use Rattle.judging.proofs.eight_digits.Reads as eight-digits-reads
-use Rattle.judging.proofs.four_zeros.Reads as four-zeros-reads
 
 sub-if1 : tie.Need-sub-if1
 sub-if1 c = search needs

@@ -3,11 +3,6 @@ use borrow.Author.Needs.{needs}
 use Rattle.judging.proofs.Digits.{tens}
 use Rattle.judging.proofs.ten_end.Statement.{statement}
 use Rattle.judging.proofs.ten_end.Tie as tie
-use Rattle.judging.proofs.ten_end.Reads as reads
-use Rattle.judging.proofs.ten_end.Lts as lts
-use Rattle.field.proofs.digit_run.Reads as digit-run-reads
-use Rattle.judging.proofs.eight_digits.Reads as eight-digits-reads
-use Rattle.judging.proofs.few_end.Reads as few-end-reads
 
 sub-if1 : tie.Need-sub-if1
 sub-if1 c = search needs

@@ -3,8 +3,6 @@ use borrow.Author.Needs.{needs}
 use Rattle.placed.proofs.Placed.{ones}
 use Rattle.placed.proofs.digit.Statement.{statement}
 use Rattle.placed.proofs.digit.Tie as tie
-use Rattle.placed.proofs.digit.Reads as reads
-use Rattle.placed.proofs.digit.Lts as lts
 
 shared-slice-read-result : tie.Need-shared-slice-read-result
 shared-slice-read-result c = search (ones, needs)

@@ -5,9 +5,6 @@ use Rattle.numeral.proofs.Sound.{digits-sound}
 use Rattle.placed.proofs.Placed.{halves}
 use Rattle.placed.proofs.four.Statement.{statement}
 use Rattle.placed.proofs.four.Tie as tie
-use Rattle.placed.proofs.four.Reads as reads
-use Rattle.placed.proofs.four.Lts as lts
-use Rattle.placed.proofs.two.Reads as two-reads
 
 two-requires : tie.Need-two-requires
 two-requires c κs = search halves

@@ -5,9 +5,6 @@ use Rattle.numeral.proofs.Sound.{digits-sound}
 use Rattle.placed.proofs.Placed.{halves}
 use Rattle.placed.proofs.two.Statement.{statement}
 use Rattle.placed.proofs.two.Tie as tie
-use Rattle.placed.proofs.two.Reads as reads
-use Rattle.placed.proofs.two.Lts as lts
-use Rattle.placed.proofs.digit.Reads as digit-reads
 
 digit-requires : tie.Need-digit-requires
 digit-requires c κs = search halves

@@ -58,7 +58,6 @@ use Rattle.reader.proofs.LineReader.Laws as T′
 use Rattle.reader.proofs.Step as S
 use Rattle.reader.proofs.Step.Laws as S′
 use Rattle.reader.proofs.Walking.{Stands, starts-at, less, fits, passes-on, ends}
-use Rattle.reader.proofs.LineReader.new as new
 use Rattle.reader.proofs.LineReader.new.Symbol as new-def
 use Rattle.reader.proofs.LineReader.new.Symbol.{name as #new}
 use Rattle.reader.proofs.LineReader.new.Met as new-thm

@@ -3,9 +3,6 @@ use borrow.Author.Needs.{needs}
 use Rattle.takehead.proofs.Groups.{payers}
 use Rattle.takehead.proofs.has_payer.Statement.{statement}
 use Rattle.takehead.proofs.has_payer.Tie as tie
-use Rattle.takehead.proofs.has_payer.Reads as reads
-use Rattle.takehead.proofs.has_payer.Lts as lts
-use Rattle.line.proofs.field_end.Reads as field-end-reads
 
 returns : tie.Need-returns
 returns c = search payers

@@ -3,9 +3,6 @@ use borrow.Author.Needs.{needs}
 use Rattle.takehead.proofs.Days.{longs}
 use Rattle.takehead.proofs.long_day.Statement.{statement}
 use Rattle.takehead.proofs.long_day.Tie as tie
-use Rattle.takehead.proofs.long_day.Reads as reads
-use Rattle.takehead.proofs.long_day.Lts as lts
-use Rattle.placed.proofs.four.Reads as four-reads
 
 four-requires : tie.Need-four-requires
 four-requires c κs = search (longs, needs)

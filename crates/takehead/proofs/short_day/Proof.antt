@@ -3,9 +3,6 @@ use borrow.Author.Needs.{needs}
 use Rattle.takehead.proofs.Days.{shorts}
 use Rattle.takehead.proofs.short_day.Statement.{statement}
 use Rattle.takehead.proofs.short_day.Tie as tie
-use Rattle.takehead.proofs.short_day.Reads as reads
-use Rattle.takehead.proofs.short_day.Lts as lts
-use Rattle.placed.proofs.two.Reads as two-reads
 
 two-requires : tie.Need-two-requires
 two-requires c κs = search (shorts, needs)

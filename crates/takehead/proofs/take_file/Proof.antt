@@ -3,10 +3,6 @@ use borrow.Author.Needs.{needs}
 use Rattle.takehead.proofs.Files.{files}
 use Rattle.takehead.proofs.take_file.Statement.{statement}
 use Rattle.takehead.proofs.take_file.Tie as tie
-use Rattle.takehead.proofs.take_file.Reads as reads
-use Rattle.takehead.proofs.take_file.Lts as lts
-use Rattle.placed.proofs.four.Reads as four-reads
-use Rattle.placed.proofs.two.Reads as two-reads
 
 four-requires : tie.Need-four-requires
 four-requires c κs = search (files, needs)

@@ -3,11 +3,6 @@ use borrow.Author.Needs.{needs}
 use Rattle.takehead.proofs.Groups.{groups}
 use Rattle.takehead.proofs.take_group.Statement.{statement}
 use Rattle.takehead.proofs.take_group.Tie as tie
-use Rattle.takehead.proofs.take_group.Reads as reads
-use Rattle.takehead.proofs.take_group.Lts as lts
-use Rattle.takehead.proofs.has_payer.Reads as has-payer-reads
-use Rattle.takehead.proofs.with_date.Reads as with-date-reads
-use Rattle.taking.proofs.take_payer.Reads as take-payer-reads
 
 has-payer-requires : tie.Need-has-payer-requires
 has-payer-requires c κs = search needs

@@ -3,10 +3,6 @@ use borrow.Author.Needs.{needs}
 use Rattle.takehead.proofs.Dates.{dates}
 use Rattle.takehead.proofs.with_date.Statement.{statement}
 use Rattle.takehead.proofs.with_date.Tie as tie
-use Rattle.takehead.proofs.with_date.Reads as reads
-use Rattle.takehead.proofs.with_date.Lts as lts
-use Rattle.takehead.proofs.long_day.Reads as long-day-reads
-use Rattle.takehead.proofs.short_day.Reads as short-day-reads
 
 sub-if1 : tie.Need-sub-if1
 sub-if1 c = search (dates, needs)

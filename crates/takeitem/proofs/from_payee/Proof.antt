@@ -3,13 +3,6 @@ use borrow.Author.Needs.{needs}
 use Rattle.takeitem.proofs.Fields.{fields, amount-low, symbol-within, bank-value, tail-said, tail-within, bank-few, payee-is}
 use Rattle.takeitem.proofs.from_payee.Statement.{statement}
 use Rattle.takeitem.proofs.from_payee.Tie as tie
-use Rattle.takeitem.proofs.from_payee.Reads as reads
-use Rattle.takeitem.proofs.from_payee.Lts as lts
-use Rattle.takeitem.proofs.from_tail.Reads as from-tail-reads
-use Rattle.taking.proofs.take_account.Reads as take-account-reads
-use Rattle.taking.proofs.take_amount.Reads as take-amount-reads
-use Rattle.taking.proofs.take_bank.Reads as take-bank-reads
-use Rattle.taking.proofs.take_symbol.Reads as take-symbol-reads
 
 take-account-requires : tie.Need-take-account-requires
 take-account-requires c κs = search (fields, needs)

@@ -1,15 +1,8 @@
 -- `from_tail` meets its contract. Assumes nothing.
 use borrow.Author.Needs.{needs}
-use borrow.Author.Needs.{needs}
 use Rattle.takeitem.proofs.Tails.{ends, plain-sound, text-sound}
 use Rattle.takeitem.proofs.from_tail.Statement.{statement}
 use Rattle.takeitem.proofs.from_tail.Tie as tie
-use Rattle.takeitem.proofs.from_tail.Reads as reads
-use Rattle.takeitem.proofs.from_tail.Lts as lts
-use Rattle.takeitem.proofs.no_spans.Reads as no-spans-reads
-use Rattle.takeitem.proofs.take_tail.Reads as take-tail-reads
-use Rattle.takeitem.proofs.take_text.Reads as take-text-reads
-use Rattle.takeitem.proofs.whole.Reads as whole-reads
 
 take-tail-requires : tie.Need-take-tail-requires
 take-tail-requires c κs = search needs

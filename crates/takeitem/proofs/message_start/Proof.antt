@@ -1,12 +1,8 @@
 -- `message_start` meets its contract. Assumes nothing.
 use borrow.Author.Needs.{needs}
-use borrow.Author.Needs.{needs}
-use Rattle.takeitem.proofs.Texts.{plain-texts}
 use Rattle.base.proofs.Cases.{picks}
 use Rattle.takeitem.proofs.message_start.Statement.{statement}
 use Rattle.takeitem.proofs.message_start.Tie as tie
-use Rattle.takeitem.proofs.message_start.Reads as reads
-use Rattle.takeitem.proofs.message_start.Lts as lts
 
 add-result : tie.Need-add-result
 add-result c = search needs

@@ -3,10 +3,6 @@ use borrow.Author.Needs.{needs}
 use Rattle.takeitem.proofs.Fields.{payers}
 use Rattle.takeitem.proofs.take_item.Statement.{statement}
 use Rattle.takeitem.proofs.take_item.Tie as tie
-use Rattle.takeitem.proofs.take_item.Reads as reads
-use Rattle.takeitem.proofs.take_item.Lts as lts
-use Rattle.takeitem.proofs.from_payee.Reads as from-payee-reads
-use Rattle.takeitem.proofs.take_payer.Reads as take-payer-reads
 
 take-payer-requires : tie.Need-take-payer-requires
 take-payer-requires c κs = search (payers, needs)

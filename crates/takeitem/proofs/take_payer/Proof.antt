@@ -3,9 +3,6 @@ use native.Mathlib.Omega.{arith}
 use Rattle.takeitem.proofs.Fields.{payer-room, payer-is, no-payer}
 use Rattle.takeitem.proofs.take_payer.Statement.{statement}
 use Rattle.takeitem.proofs.take_payer.Tie as tie
-use Rattle.takeitem.proofs.take_payer.Reads as reads
-use Rattle.takeitem.proofs.take_payer.Lts as lts
-use Rattle.taking.proofs.take_account.Reads as take-account-reads
 
 take-account-requires : tie.Need-take-account-requires
 take-account-requires c κs = c .before .before .pre (c .if1 .taken)

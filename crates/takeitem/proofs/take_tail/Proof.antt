@@ -1,13 +1,9 @@
 -- `take_tail` meets its contract. Assumes nothing.
 use borrow.Author.Needs.{needs}
-use borrow.Author.Needs.{needs}
 use Rattle.takeitem.proofs.Tails.{tails, tail-text, tail-fixed}
 use native.Mathlib.Omega.{arith}
 use Rattle.takeitem.proofs.take_tail.Statement.{statement}
 use Rattle.takeitem.proofs.take_tail.Tie as tie
-use Rattle.takeitem.proofs.take_tail.Reads as reads
-use Rattle.takeitem.proofs.take_tail.Lts as lts
-use Rattle.field.proofs.digit_run.Reads as digit-run-reads
 
 returns : tie.Need-returns
 returns c = (search tails, search (tails, needs))

@@ -1,15 +1,8 @@
 -- `take_text` meets its contract. Assumes nothing.
 use borrow.Author.Needs.{needs}
-use borrow.Author.Needs.{needs}
 use Rattle.takeitem.proofs.Texts.{plain-texts}
 use Rattle.takeitem.proofs.take_text.Statement.{statement}
 use Rattle.takeitem.proofs.take_text.Tie as tie
-use Rattle.takeitem.proofs.take_text.Reads as reads
-use Rattle.takeitem.proofs.take_text.Lts as lts
-use Rattle.takeitem.proofs.message_start.Reads as message-start-reads
-use Rattle.takeitem.proofs.take_varied.Reads as take-varied-reads
-use Rattle.takeitem.proofs.take_parts.Reads as take-parts-reads
-use Rattle.takeitem.proofs.varied.Reads as varied-reads
 
 varied-requires : tie.Need-varied-requires
 varied-requires c κs = search needs

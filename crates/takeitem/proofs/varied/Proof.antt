@@ -1,10 +1,7 @@
 -- `varied` meets its contract. Assumes nothing.
-use borrow.Author.Needs.{needs}
 use Rattle.base.proofs.Cases.{picks}
 use Rattle.takeitem.proofs.varied.Statement.{statement}
 use Rattle.takeitem.proofs.varied.Tie as tie
-use Rattle.takeitem.proofs.varied.Reads as reads
-use Rattle.takeitem.proofs.varied.Lts as lts
 
 returns : tie.Need-returns
 returns c = search (picks)

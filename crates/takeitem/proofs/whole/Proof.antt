@@ -1,12 +1,9 @@
 -- `whole` meets its contract. Assumes nothing.
 use mathlib.Core.Path.{refl}
 use borrow.Author.Needs.{needs}
-use borrow.Author.Needs.{needs}
 use Rattle.itemline.specs.Stages.{withTexts}
 use Rattle.takeitem.proofs.whole.Statement.{statement}
 use Rattle.takeitem.proofs.whole.Tie as tie
-use Rattle.takeitem.proofs.whole.Reads as reads
-use Rattle.takeitem.proofs.whole.Lts as lts
 
 add-t4 : tie.Need-add-t4
 add-t4 c = search needs

@@ -3,8 +3,6 @@ use borrow.Author.Needs.{needs}
 use Rattle.taking.proofs.Banks.{froms}
 use Rattle.taking.proofs.bank_from.Statement.{statement}
 use Rattle.taking.proofs.bank_from.Tie as tie
-use Rattle.taking.proofs.bank_from.Reads as reads
-use Rattle.taking.proofs.bank_from.Lts as lts
 
 add-if1 : tie.Need-add-if1
 add-if1 c = search needs

@@ -3,9 +3,6 @@ use borrow.Author.Needs.{needs}
 use Rattle.taking.proofs.Banks.{ninths}
 use Rattle.taking.proofs.ninth_digit.Statement.{statement}
 use Rattle.taking.proofs.ninth_digit.Tie as tie
-use Rattle.taking.proofs.ninth_digit.Reads as reads
-use Rattle.taking.proofs.ninth_digit.Lts as lts
-use Rattle.placed.proofs.digit.Reads as digit-reads
 
 sub-digit : tie.Need-sub-digit
 sub-digit c = search needs

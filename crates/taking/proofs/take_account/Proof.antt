@@ -3,9 +3,6 @@ use borrow.Author.Needs.{needs}
 use Rattle.taking.proofs.Accounts.{accounts}
 use Rattle.taking.proofs.take_account.Statement.{statement}
 use Rattle.taking.proofs.take_account.Tie as tie
-use Rattle.taking.proofs.take_account.Reads as reads
-use Rattle.taking.proofs.take_account.Lts as lts
-use Rattle.taking.proofs.take_numbers.Reads as take-numbers-reads
 
 take-numbers-requires : tie.Need-take-numbers-requires
 take-numbers-requires c κs = search (accounts, needs)

@@ -3,9 +3,6 @@ use borrow.Author.Needs.{needs}
 use Rattle.taking.proofs.Amounts.{amounts}
 use Rattle.taking.proofs.take_amount.Statement.{statement}
 use Rattle.taking.proofs.take_amount.Tie as tie
-use Rattle.taking.proofs.take_amount.Reads as reads
-use Rattle.taking.proofs.take_amount.Lts as lts
-use Rattle.taking.proofs.take_run.Reads as take-run-reads
 
 take-run-requires : tie.Need-take-run-requires
 take-run-requires c κs = search (amounts, needs)

@@ -4,11 +4,6 @@ use borrow.Author.Needs.{needs}
 use Rattle.taking.proofs.Banks.{eight-inside, banks}
 use Rattle.taking.proofs.take_bank.Statement.{statement}
 use Rattle.taking.proofs.take_bank.Tie as tie
-use Rattle.taking.proofs.take_bank.Reads as reads
-use Rattle.taking.proofs.take_bank.Lts as lts
-use Rattle.placed.proofs.four.Reads as four-reads
-use Rattle.taking.proofs.bank_from.Reads as bank-from-reads
-use Rattle.taking.proofs.ninth_digit.Reads as ninth-digit-reads
 
 bank-from-requires : tie.Need-bank-from-requires
 bank-from-requires c κs = search (banks, needs)

@@ -3,9 +3,6 @@ use borrow.Author.Needs.{needs}
 use Rattle.taking.proofs.Numbers.{numbers}
 use Rattle.taking.proofs.take_numbers.Statement.{statement}
 use Rattle.taking.proofs.take_numbers.Tie as tie
-use Rattle.taking.proofs.take_numbers.Reads as reads
-use Rattle.taking.proofs.take_numbers.Lts as lts
-use Rattle.taking.proofs.take_run.Reads as take-run-reads
 
 take-run-requires : tie.Need-take-run-requires
 take-run-requires c κs = search (numbers, needs)

@@ -6,8 +6,6 @@ use Prim.Native.Nat.{_-_}
 use lib.ListN.{length}
 use Rattle.taking.proofs.take_run.Statement.{statement}
 use Rattle.taking.proofs.take_run.Tie as tie
-use Rattle.taking.proofs.take_run.Reads as reads
-use Rattle.taking.proofs.take_run.Lts as lts
 
 abbrev Inv-loop : tie.InvT-loop
 Inv-loop s at v₀ i₀ v i = Takes s at v i

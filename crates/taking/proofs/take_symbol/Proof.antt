@@ -3,9 +3,6 @@ use borrow.Author.Needs.{needs}
 use Rattle.taking.proofs.Amounts.{symbols}
 use Rattle.taking.proofs.take_symbol.Statement.{statement}
 use Rattle.taking.proofs.take_symbol.Tie as tie
-use Rattle.taking.proofs.take_symbol.Reads as reads
-use Rattle.taking.proofs.take_symbol.Lts as lts
-use Rattle.taking.proofs.take_run.Reads as take-run-reads
 
 take-run-requires : tie.Need-take-run-requires
 take-run-requires c κs = search (symbols, needs)
