@@ -3,11 +3,14 @@ use field::NumAt;
 use seen::Seen;
 use sheet::Sheet;
 ghost use mathlib.Core.Path.{_≡_};
-ghost use Prim.Native.Nat.{_≤_, _<_};
+ghost use mathlib.Core.Bool.{true};
+ghost use Prim.Native.Nat.{_+_, _≤_, _<_};
 ghost use lib.ListN.{length, drop};
+ghost use Rattle.paper.specs.Numerals.{digits};
 ghost use Rattle.paper.specs.FileLine.{readKind, readNumber, readCode, readFile};
 ghost use Rattle.field.specs.At.{fieldAt};
 ghost use Rattle.field.specs.Told as number;
+ghost use Rattle.placed.specs.Placed.{Placed};
 ghost use Rattle.fileline.specs.Free.{numberFree};
 ghost use Rattle.fileline.specs.Ending.{codeAndEnd};
 ghost use Rattle.fileline.specs.Told.{told};
@@ -18,12 +21,48 @@ pub enum FileRead {
     Refused(u64, usize),
 }
 
+// Are the four bytes at `at` digits?
+fn four_digits(s: &[u8], at: usize) -> bool
+    requires { ⌜ at + 4 ≤ length (now s) ⌝ }
+    ensures { λ r. ⌜ (r ≡ true → Placed 4 (now (s .entry)) at) ⌝ }
+{
+    if 9 < field::worth(s[at]) {
+        return false;
+    }
+    if 9 < field::worth(s[at + 1]) {
+        return false;
+    }
+    if 9 < field::worth(s[at + 2]) {
+        return false;
+    }
+    if 9 < field::worth(s[at + 3]) {
+        return false;
+    }
+    true
+}
+
+// A field of four digits at `at`. Nearly all are; any other is left to the reader of digits.
+fn four_at(s: &[u8], at: usize) -> NumAt
+    requires { ⌜ at ≤ length (now s) ⌝ }
+    ensures { λ r. ⌜ number.told r ≡ fieldAt (digits 4 4) (now (s .entry)) at ⌝ }
+{
+    if 4 <= s.len() - at {
+        let end = at + 4;
+        if field::ends(s, end) {
+            if four_digits(s, at) {
+                return NumAt::Value(placed::four(s, at), end);
+            }
+        }
+    }
+    field::number_at(s, at, 4, 4)
+}
+
 // KIND: four digits, one of the sheet's kinds.
 fn kind_at(s: &[u8], at: usize, sh: Sheet) -> NumAt
     requires { ⌜ at ≤ length (now s) ⌝ }
     ensures { λ r. ⌜ number.told r ≡ fieldAt (readKind sh) (now (s .entry)) at ⌝ }
 {
-    match field::number_at(s, at, 4, 4) {
+    match four_at(s, at) {
         NumAt::Value(kind, end) => if sh.kind_allowed(kind) {
             NumAt::Value(kind, end)
         } else {
@@ -38,7 +77,7 @@ fn code_at(s: &[u8], at: usize, sh: Sheet) -> NumAt
     requires { ⌜ at ≤ length (now s) ⌝ }
     ensures { λ r. ⌜ number.told r ≡ fieldAt (readCode sh) (now (s .entry)) at ⌝ }
 {
-    match field::number_at(s, at, 4, 4) {
+    match four_at(s, at) {
         NumAt::Value(code, end) => if sh.bank_allowed(code) {
             NumAt::Value(code, end)
         } else {

@@ -7,7 +7,6 @@ use native.Mathlib.Numerals.{add-one}
 use native.Mathlib.Omega.{arith}
 use lib.ListN.{length, getD, take, drop, length-drop}
 use lib.Seq.{drop-cons, drop-drop, getD-drop, take-suc}
-use borrow.Author.Tests.{le-ltb, le-leb}
 use Rattle.base.specs.Pick.{pick}
 use Rattle.base.specs.Seek.{all}
 use Rattle.base.proofs.Cases.{by-test, pick-same}
@@ -18,13 +17,9 @@ use Rattle.numeral.proofs.Sound.{digits-reads}
 use Rattle.field.specs.At.{found, missed, fieldAt}
 use Rattle.field.specs.Digits.{front, run, Worth}
 use Rattle.field.proofs.Front.{run-digits, run-most}
+use Rattle.field.proofs.Turns.{is-digit}
 use Rattle.field.proofs.Number.{run-inside, number-value, number-short, number-long}
 use Rattle.judging.specs.Kept.{keeping, nothing}
-
--- d is what the byte b is worth
-pub is-digit : (b d : ℕ) → Worth b d → d ≤ 9 → isDigit b ≡ true
-unfolding isDigit pick
-is-digit b d w h = let g = w .digit h in simp (le-ltb b 48 (g .0), le-leb b 57 (g .1))
 
 -- ---- eight at once: the answer so far is that of the first j
 

@@ -2,12 +2,11 @@
 use mathlib.Core.Path.{_≡_, refl, sym, _∙_}
 use mathlib.Core.Bool.{Bool, true, false}
 use mathlib.Core.List.{List, [], _∷_}
-use Prim.Native.Nat.{ℕ, _+_, _-_, _*_, _/_, _%_, _≤_, _<_}
-use native.Mathlib.Numerals.{add-one}
+use Prim.Native.Nat.{ℕ, _+_, _-_, _*_, _/_, _%_, _≤_}
 use native.Mathlib.Omega.{arith}
 use lib.Dec.{eqb}
 use lib.ListN.{length, getD, take, drop, take-append-drop, length-take, length-drop}
-use lib.Seq.{drop-cons, drop-drop, take-take}
+use lib.Seq.{drop-drop, take-take}
 use borrow.Author.Tests.{eq-eqb, ne-eqb, le-ltb}
 use Rattle.base.specs.Pick.{pick}
 use Rattle.base.specs.Seek.{all, seek}
@@ -22,6 +21,7 @@ use Rattle.numeral.proofs.Plain.{digit-range}
 use Rattle.numeral.proofs.Sound.{same, on-head, on-tail, read-on, digits-sound, digits-reads}
 use Rattle.numeral.proofs.Split.{digits-split}
 use Rattle.account.specs.Bytes.{isZero}
+use Rattle.placed.proofs.Bytes.{fours}
 use Rattle.field.specs.At.{At, found, missed, ending, fieldAt}
 use Rattle.field.proofs.Front.{field-ends}
 use Rattle.field_bank.specs.declared.BankAt.{BankAt}
@@ -34,35 +34,23 @@ use Rattle.judging.specs.Plain.{PlainBank}
 
 -- four bytes at `at`
 module _ (s : List ℕ) (at : ℕ) (l : at + 4 ≤ length s) where
-  one : (i : ℕ) → i < at + 4 → (j : ℕ) → j ≡ i + 1 → drop i s ≡ getD s i 0 ∷ drop j s
-  one i h j e = rw (e, add-one) (drop-cons s i 0 (omega arith))
-
-  fours : take 4 (drop at s) ≡ getD s at 0 ∷ getD s (at + 1) 0 ∷ getD s (at + 2) 0 ∷ getD s (at + 3) 0 ∷ []
-  fours =
-      rw (
-        one at (omega arith) (at + 1) refl,
-        one (at + 1) (omega arith) (at + 2) (omega arith),
-        one (at + 2) (omega arith) (at + 3) (omega arith),
-        one (at + 3) (omega arith) (at + 4) (omega arith),
-      )
-
   pub zeros-first : (getD s at 0 ≡ 48 → ⊥) → false ≡ all isZero (take 4 (drop at s))
   unfolding all pick
-  zeros-first n = rw fours (simp (ne-eqb _ _ n))
+  zeros-first n = rw (fours s at l) (simp (ne-eqb _ _ n))
 
   module _ (a : getD s at 0 ≡ 48) where
     pub zeros-second : (getD s (at + 1) 0 ≡ 48 → ⊥) → false ≡ all isZero (take 4 (drop at s))
     unfolding all pick
-    zeros-second n = rw fours (simp (eq-eqb _ _ a, ne-eqb _ _ n))
+    zeros-second n = rw (fours s at l) (simp (eq-eqb _ _ a, ne-eqb _ _ n))
 
     module _ (b : getD s (at + 1) 0 ≡ 48) where
       pub zeros-third : (getD s (at + 2) 0 ≡ 48 → ⊥) → false ≡ all isZero (take 4 (drop at s))
       unfolding all pick
-      zeros-third n = rw fours (simp (eq-eqb _ _ a, eq-eqb _ _ b, ne-eqb _ _ n))
+      zeros-third n = rw (fours s at l) (simp (eq-eqb _ _ a, eq-eqb _ _ b, ne-eqb _ _ n))
 
       pub zeros-last : getD s (at + 2) 0 ≡ 48 → eqb (getD s (at + 3) 0) 48 ≡ all isZero (take 4 (drop at s))
       unfolding all pick
-      zeros-last c = rw fours (simp (eq-eqb _ _ a, eq-eqb _ _ b, eq-eqb _ _ c) (by-test (eqb (getD s (at + 3) 0) 48) (λ e. simp e) (λ e. simp e)))
+      zeros-last c = rw (fours s at l) (simp (eq-eqb _ _ a, eq-eqb _ _ b, eq-eqb _ _ c) (by-test (eqb (getD s (at + 3) 0) 48) (λ e. simp e) (λ e. simp e)))
 
 pub ruleset zeros = (zeros-first, zeros-second, zeros-third, zeros-last)
 

@@ -5,8 +5,8 @@ use Rattle.fileline.proofs.Fields.{fields}
 use Rattle.fileline.proofs.code_at.Statement.{statement}
 use Rattle.fileline.proofs.code_at.Tie as tie
 
-number-at-requires : tie.Need-number-at-requires
-number-at-requires c κs = search needs
+four-at-requires : tie.Need-four-at-requires
+four-at-requires c κs = search needs
 
 enum-known-code : tie.Need-enum-known-code
 enum-known-code c = search needs
@@ -30,7 +30,7 @@ pub code-at-spec : {M : Type 1} → statement M
 code-at-spec =
     tie.close
     (tie.spec
-    number-at-requires
+    four-at-requires
     enum-known-code
     bank-allowed-requires
     enum-known-c

@@ -5,8 +5,8 @@ use Rattle.fileline.proofs.Fields.{fields}
 use Rattle.fileline.proofs.kind_at.Statement.{statement}
 use Rattle.fileline.proofs.kind_at.Tie as tie
 
-number-at-requires : tie.Need-number-at-requires
-number-at-requires c κs = search needs
+four-at-requires : tie.Need-four-at-requires
+four-at-requires c κs = search needs
 
 enum-known-kind : tie.Need-enum-known-kind
 enum-known-kind c = search needs
@@ -30,7 +30,7 @@ pub kind-at-spec : {M : Type 1} → statement M
 kind-at-spec =
     tie.close
     (tie.spec
-    number-at-requires
+    four-at-requires
     enum-known-kind
     kind-allowed-requires
     enum-known-c
