@@ -6,14 +6,15 @@ use Prim.Native.Nat.{ℕ, zero, suc, _+_, _-_, _≤_, _<_}
 use native.Mathlib.Omega.{arith}
 use mir.Val.{Fits}
 use mir.Syntax.{w64}
-use lib.Dec.{eqb, leb}
+use lib.Dec.{leb}
 use lib.ListN.{length, getD, take, drop, length-take, length-drop}
-use lib.Seq.{drop-cons, getD-take, getD-drop}
+use lib.Seq.{getD-take, getD-drop}
 use borrow.Author.Tests.{eq-eqb, ne-eqb, le-leb, leb-true}
 use Rattle.base.specs.Pick.{pick}
 use Rattle.base.specs.Seek.{all, starts, seek}
 use Rattle.base.proofs.Cases.{by-lt, pick-both, both-pick, pick-true, pick-false}
 use Rattle.base.proofs.Seek.{never, all-head, all-tail, all-cons, seek-le, seek-here, seek-next, seek-within, starts-long}
+use Rattle.find.proofs.Turns.{starts-byte}
 use Rattle.paper.specs.Bytes.{bar, mark}
 use Rattle.block.specs.Blocks.{isOther, Skips}
 use Rattle.block.proofs.Turns.{Passes, is-other, skip-none, skip-then, near-one}
@@ -86,15 +87,11 @@ mark-bars (suc (suc zero)) h e = omega arith
 mark-bars (suc (suc (suc zero))) h e = omega arith
 mark-bars (suc (suc (suc (suc i)))) h e = omega arith
 
-byte-starts : (b : ℕ) (s : List ℕ) (i : ℕ) → i < length s → starts (b ∷ []) (drop i s) ≡ pick (eqb (getD s i 0) b) true false
-unfolding starts
-byte-starts b s i h = rw (drop-cons s i 0 h)
-
 bar-here : (s : List ℕ) (i : ℕ) → i < length s → getD s i 0 ≡ 124 → starts bar (drop i s) ≡ true
-bar-here s i h e = byte-starts 124 s i h ∙ pick-true _ _ (eq-eqb _ _ e)
+bar-here s i h e = starts-byte 124 s i h ∙ pick-true _ _ (eq-eqb _ _ e)
 
 bar-away : (s : List ℕ) (i : ℕ) → i < length s → (getD s i 0 ≡ 124 → ⊥) → starts bar (drop i s) ≡ false
-bar-away s i h e = byte-starts 124 s i h ∙ pick-false _ _ (ne-eqb _ _ e)
+bar-away s i h e = starts-byte 124 s i h ∙ pick-false _ _ (ne-eqb _ _ e)
 
 module _ (s : List ℕ) (from : ℕ) where
   pub open-first : from ≤ length s → Open s from from

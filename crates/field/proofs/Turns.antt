@@ -18,14 +18,14 @@ use Rattle.paper.specs.Read.{value}
 use Rattle.paper.specs.Bytes.{isDigit, fieldOf, null}
 use Rattle.paper.specs.Numerals.{digitsOn, digits}
 use Rattle.numeral.proofs.Digits.{in-range, more-digits, ten-le}
+use Rattle.numeral.proofs.Plain.{range-digit}
 use Rattle.field.specs.Digits.{front, run, Worth}
 use Rattle.field.proofs.Front.{run-most}
 
 -- ---- a byte that is a digit, and one that is none
 
 pub is-digit : (b d : ℕ) → Worth b d → d ≤ 9 → isDigit b ≡ true
-unfolding isDigit pick
-is-digit b d w h = let g = w .digit h in simp (le-ltb b 48 (g .0), le-leb b 57 (g .1))
+is-digit b d w h = let g = w .digit h in range-digit b (g .0) (g .1)
 
 pub no-digit : (b : ℕ) → (48 ≤ b → 57 < b) → isDigit b ≡ false
 unfolding isDigit pick

@@ -7,7 +7,6 @@ use native.Mathlib.Numerals.{add-one}
 use native.Mathlib.Omega.{arith}
 use lib.ListN.{length, getD, take, drop, length-drop, drop-of-length-le}
 use lib.Seq.{drop-cons, take-length, drop-length}
-use borrow.Author.Tests.{le-ltb, le-leb}
 use Rattle.base.specs.Pick.{pick}
 use Rattle.base.specs.Seek.{all, seek}
 use Rattle.base.proofs.Cases.{by-test}
@@ -16,6 +15,7 @@ use Rattle.paper.specs.Read.{value, fault, given}
 use Rattle.paper.specs.Bytes.{isDigit, space, fieldOf}
 use Rattle.paper.specs.Numerals.{digitsOn, digits}
 use Rattle.paper.specs.Days.{realDay, real, shortDay, readDay, dueAllowed, readDue}
+use Rattle.numeral.proofs.Plain.{range-digit}
 use Rattle.calendar.proofs.Reading.{other-length}
 use Rattle.field.specs.At.{At, ending, fieldAt}
 use Rattle.field.specs.Digits.{Worth}
@@ -33,10 +33,6 @@ two-is x y a b u v h k =
     record { number = λ z. (p .0, p .1, q .0, q .1, omega (arith, p .2, q .2)) }
 
 -- ---- `last_day`
-
-digit-is : (x : ℕ) → 48 ≤ x → x ≤ 57 → isDigit x ≡ true
-unfolding isDigit pick
-digit-is x h k = simp (le-ltb x 48 h, le-leb x 57 k)
 
 one : (s : List ℕ) (i : ℕ) → i < length s → drop i s ≡ getD s i 0 ∷ drop (i + 1) s
 one s i l = rw (drop-cons s i 0 l, add-one)
@@ -85,7 +81,7 @@ module _ (s : List ℕ) (at : ℕ) (l : length s ≡ at + 6) where
         let p = a .number hk in
         let q = b .number hm in
         let r = c .number hy in
-        rw last-six (six-all _ _ _ _ _ _ (digit-is _ (p .0) (p .1)) (digit-is _ (p .2) (p .3)) (digit-is _ (q .0) (q .1)) (digit-is _ (q .2) (q .3)) (digit-is _ (r .0) (r .1)) (digit-is _ (r .2) (r .3)))
+        rw last-six (six-all _ _ _ _ _ _ (range-digit _ (p .0) (p .1)) (range-digit _ (p .2) (p .3)) (range-digit _ (q .0) (q .1)) (range-digit _ (q .2) (q .3)) (range-digit _ (r .0) (r .1)) (range-digit _ (r .2) (r .3)))
 
     spell-read : digits 6 6 (drop at s) ≡ value (k * 10000 + m * 100 + y)
     spell-read =
@@ -93,7 +89,7 @@ module _ (s : List ℕ) (at : ℕ) (l : length s ≡ at + 6) where
         let q = b .number hm in
         let r = c .number hy in
         rw last-six
-        (six-read _ _ _ _ _ _ (digit-is _ (p .0) (p .1)) (digit-is _ (p .2) (p .3)) (digit-is _ (q .0) (q .1)) (digit-is _ (q .2) (q .3)) (digit-is _ (r .0) (r .1)) (digit-is _ (r .2) (r .3))
+        (six-read _ _ _ _ _ _ (range-digit _ (p .0) (p .1)) (range-digit _ (p .2) (p .3)) (range-digit _ (q .0) (q .1)) (range-digit _ (q .2) (q .3)) (range-digit _ (r .0) (r .1)) (range-digit _ (r .2) (r .3))
         ∙ ap value (omega (arith, p .4, q .4, r .4)))
 
     spell-day : shortDay (drop at s) ≡ real (20000000 + y * 10000 + m * 100 + k)

@@ -12,7 +12,7 @@ use Rattle.base.specs.Seek.{starts, seek}
 use Rattle.base.proofs.Seek.{seek-here, seek-next, seek-end}
 
 -- a pattern of one byte stands where that byte does
-starts-byte : (b : ℕ) (s : List ℕ) (i : ℕ) → i < length s → starts (b ∷ []) (drop i s) ≡ pick (eqb (getD s i 0) b) true false
+pub starts-byte : (b : ℕ) (s : List ℕ) (i : ℕ) → i < length s → starts (b ∷ []) (drop i s) ≡ pick (eqb (getD s i 0) b) true false
 unfolding starts
 starts-byte b s i h = rw (drop-cons s i 0 h)
 

@@ -20,7 +20,6 @@ use Rattle.reading.specs.declared.Head.{Head}
 use Rattle.reading.specs.declared.FileJudged.{FileJudged}
 use Rattle.reading.specs.declared.FileJudged.the-variants as judged
 use Rattle.reading.specs.Answer.{headOf, told, Sound, Kept}
-use Rattle.filling.specs.Judged.{AllSaid}
 use Rattle.read.proofs.Laws as laws
 
 -- ---- the sheet
@@ -83,15 +82,6 @@ module _ (sh : Sheet) (today : ℕ) (f lent : List ℕ) (real : realDay today �
   pub short : (a : ReadAnswer) (room : ℕ) → room < n → a ≡ needs n → a ≡ readWith (known.Sheet sh) today f room
   short a room s g = g ∙ laws.short-answer sh today f lent real h n w e room s
 
-  pub short-rows : length lent / rowSize < n → lent ≡ rowsWith (known.Sheet sh) today f lent
-  short-rows s = laws.short-rows sh today f lent real h n w e s
-
-  pub full-room : n ≤ length lent / rowSize → length (rowsBytes (linesRows sh today false (linesOf 0 f))) ≤ length lent
-  full-room s = laws.full-room sh today f lent real h n w e s
-
-  pub full-said : AllSaid sh today false (linesOf 0 f)
-  full-said = laws.lines-said sh today f lent real h n w e
-
   pub full : (g : Header) (room : ℕ) → n ≤ room → g ≡ h → acceptedAs g n w ≡ readWith (known.Sheet sh) today f room
   full g room s x = ap (λ (k : Header). acceptedAs k n w) x ∙ laws.full-answer sh today f lent real h n w e room s
 
@@ -100,7 +90,7 @@ module _ (sh : Sheet) (today : ℕ) (f lent : List ℕ) (real : realDay today �
       → o ≡ rowsWith (known.Sheet sh) today f lent
   full-rows o s g = g ∙ laws.full-rows sh today f lent real h n w e s
 
-pub ruleset filling = (short, short-rows, full-room, full-said, full, full-rows)
+pub ruleset filling = (short, laws.short-rows, laws.full-room, laws.lines-said, full, full-rows)
 
 -- the limits that putting rows asks for
 pub limits : (sh : Sheet) → Sane sh → (sh .text .most ≤ 4) × (sh .itemdigits ≤ 19) × (sh .itemmax ≤ most14)

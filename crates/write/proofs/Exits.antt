@@ -142,17 +142,8 @@ module _ (sh : Sheet) (h : Header) (ts : List Thing) (p : batchProper ts ≡ fin
 pub ruleset putting = (first-room, rest-room, file-put)
 
 module _ (sh : Sheet) (today : ℕ) (h : Header) (ts : List Thing) (n : ℕ) (e : Bytes n ≡ brief (draftOf sh today h ts)) where
-  pub proper-rows : batchProper ts ≡ fine
-  proper-rows = laws.proper-rows sh today h ts n e
-
   pub short : (a : WriteAnswer) (room : ℕ) → room < n → a ≡ countedAs 16 n → a ≡ writtenIn room (draftOf sh today h ts)
   short a room l g = g ∙ laws.short-answer sh today h ts n e room l
-
-  pub short-output : (o : List ℕ) → length o < n → o ≡ outputAfter o (draftOf sh today h ts)
-  short-output = laws.short-output sh today h ts n e
-
-  pub full-room : (o : List ℕ) → n ≤ length o → length (canon sh h (batchOf ts)) ≤ length o
-  full-room = laws.full-room sh today h ts n e
 
   pub full : (a : WriteAnswer) (room : ℕ) → n ≤ room → a ≡ countedAs 0 n → a ≡ writtenIn room (draftOf sh today h ts)
   full a room l g = g ∙ laws.full-answer sh today h ts n e room l
@@ -160,7 +151,7 @@ module _ (sh : Sheet) (today : ℕ) (h : Header) (ts : List Thing) (n : ℕ) (e 
   pub full-output : (o p : List ℕ) → n ≤ length o → p ≡ before (canon sh h (batchOf ts)) o → p ≡ outputAfter o (draftOf sh today h ts)
   full-output o p l g = g ∙ laws.full-output sh today h ts n e o l
 
-pub ruleset accepting = (proper-rows, short, short-output, full-room, full, full-output)
+pub ruleset accepting = (laws.proper-rows, short, laws.short-output, laws.full-room, full, full-output)
 
 -- ---- the day and the sheet
 
