@@ -4,7 +4,7 @@ code is measured before it is proved, in seconds; nothing of it is in the produc
 
   tools/standin.py build/standin.a          then: LIB=build/standin.a BYTES=300000 TIMES=0 bench/run.sh
 
-Its counts of reading lie within some 10 % of the archive's, and a change shows in both alike; its counts of writing are nearly
+Its counts of reading were between 3 % above and 11 % below the archive's where both were taken; its counts of writing are nearly
 twice the archive's, so it serves for reading alone. Indices are not tested in it: they were proved to be inside."""
 import pathlib
 import re
