@@ -1,6 +1,7 @@
 #!/bin/sh
-# Names the sources that a program is made of: its own, and for each header that one of them includes by quotation marks the source
-# beside it of the same name, if there is one. peer/peer.h is the second program's, so it stands for all of that but its `main`.
+# Names the sources that a program is made of: its own, and for each header that one of them includes by quotation marks, or as
+# <abo_NAME.h>, the source beside it of the same name, if there is one. peer/peer.h is the second program's, so it stands for all of
+# that but its `main`.
 #
 #   host/parts.sh SOURCE.c     as host/abo.c, from the top of the repository
 set -u
@@ -21,9 +22,9 @@ awk -v first="$1" '
                 continue
             }
             while ((getline line <file) > 0)
-                if (line ~ /^#include "/) {
-                    split(line, part, "\"")
-                    header = plain(folder(file) part[2])
+                if (line ~ /^#include ("|<abo_)/) {
+                    split(line, part, /["<>]/)
+                    header = line ~ /^#include "/ ? plain(folder(file) part[2]) : "include/" part[2]
                     source = header
                     sub(/h$/, "c", source)
                     add(header)

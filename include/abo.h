@@ -13,10 +13,13 @@
  * the rows or bytes that it counts in its answer; what is lent beyond them stays as it was.
  *
  * Byte order.  Rows are lent as bytes: 24 words of 64 bits, each with its lowest byte first, whatever the machine.  Where
- * the machine's own order is the same, as on x86-64, an array of `union abo_row` is lent as it lies:
+ * the machine's own order is the same, as on x86-64, an array of `union abo_row` is lent as it lies, which abo_read_rows and
+ * abo_write_rows do:
  *
  *     union abo_row rows[1000];
- *     struct abo_answer a = abo_read(file, len, ABO_SHEET_K, 20180101, (uint8_t *)rows, sizeof rows);
+ *     struct abo_answer a = abo_read_rows(file, len, ABO_SHEET_K, 20180101, rows, 1000);
+ *
+ * abo_say.h and abo_say.c, beside this file, have words for people: for numbers, fields and sheets.
  *
  * The calls have no state, so any number of threads may call them at once on bytes of their own.
  */
@@ -35,6 +38,12 @@
 #ifdef __cplusplus
 extern "C" {
 #endif
+
+/* ---- Version: the first part grows when a program must be changed to go on working, the second when something is added ---- */
+
+#define ABO_VERSION_MAJOR 1
+#define ABO_VERSION_MINOR 2
+#define ABO_VERSION "1.2"
 
 /* ---- Sheets: which bank's rules a file is judged by ---- */
 
@@ -213,6 +222,47 @@ struct abo_written abo_write(const uint8_t *rows, size_t rows_len,
                              size_t name_len, uint64_t client, uint64_t from,
                              uint64_t to, uint64_t sheet, uint64_t today,
                              uint8_t *out, size_t out_len);
+
+/* ---- The same two calls on rows and a header as C has them ---- */
+
+/* abo_read into an array of rows, counted in rows. */
+static inline struct abo_answer abo_read_rows(const uint8_t *file, size_t len,
+                                              uint64_t sheet, uint64_t today,
+                                              union abo_row *rows, size_t count)
+{
+    return abo_read(file, len, sheet, today, (uint8_t *)rows,
+                    count * sizeof *rows);
+}
+
+/* abo_write of an array of rows, counted in rows, with the header in one piece; on C `header` may be NULL. */
+static inline struct abo_written
+abo_write_rows(const union abo_row *rows, size_t count, const uint8_t *texts,
+               size_t texts_len, const struct abo_header *header,
+               uint64_t sheet, uint64_t today, uint8_t *out, size_t out_len)
+{
+    if (header == NULL)
+        return abo_write((const uint8_t *)rows, count * sizeof *rows, texts,
+                         texts_len, 0, NULL, 0, 0, 0, 0, sheet, today, out,
+                         out_len);
+    return abo_write((const uint8_t *)rows, count * sizeof *rows, texts,
+                     texts_len, header->date, header->name,
+                     sizeof header->name, header->client, header->from,
+                     header->to, sheet, today, out, out_len);
+}
+
+/* Puts a name that a zero byte ends into a header, filled up with spaces.  Gives back 1, or 0 if it has more than 20 bytes; then
+   the header is as it was. */
+static inline int abo_set_name(struct abo_header *header, const char *name)
+{
+    size_t len = 0, i;
+    while (len <= ABO_NAME_BYTES && name[len] != '\0')
+        len++;
+    if (len > ABO_NAME_BYTES)
+        return 0;
+    for (i = 0; i < ABO_NAME_BYTES; i++)
+        header->name[i] = (uint8_t)(i < len ? name[i] : ' ');
+    return 1;
+}
 
 /* ---- Explaining ---- */
 

@@ -1,7 +1,8 @@
 #!/bin/sh
 # The page docs/C-API.md against what it speaks of: its program is host/api/example.c word by word, which compiles and prints what
-# the page says; its commands work as they stand; its names are in the header; the archive has no state. The last line is
-# 'N passed, M failed', and the exit status is 0 only if nothing failed. host/target.sh names the variables.
+# the page says, also of a batch that is refused; its commands work as they stand; its names are in the headers, and their functions
+# in the page; the archive has no state. The last line is 'N passed, M failed', and the exit status is 0 only if nothing failed.
+# host/target.sh names the variables.
 set -u
 cd "$(dirname "$0")/../.." || exit 2
 . host/target.sh
@@ -20,9 +21,9 @@ block() { # NAME: the fenced block behind the line '<!-- NAME -->'
         open { print }' "$page"
 }
 
-compile() { # STANDARD: the example by this standard
+compile() { # STANDARD PROGRAM: the program by this standard, with the words of abo_say.c
     # shellcheck disable=SC2086
-    $cc -std="$1" -O2 $strict -pedantic -Iinclude $static -o "$work/api_$1" host/api/example.c "$lib"
+    $cc -std="$1" -O2 $strict -pedantic -Iinclude $static -o "$work/api_$1" "$2" include/abo_say.c "$lib"
 }
 
 prints() { # STANDARD: exits with 0 and prints what the page says, CR LF shown as LF
@@ -30,10 +31,15 @@ prints() { # STANDARD: exits with 0 and prints what the page says, CR LF shown a
     $run "$work/api_$1" >"$work/printed" && tr -d '\r' <"$work/printed" | diff "$work/said" -
 }
 
-by_the_page() { # the page's commands, in a folder of their own that has its program as wages.c, the header and the archive
+refused() { # without a bank of the first payee the example fails, and says what the page says
+    # shellcheck disable=SC2086
+    ! $run "$work/api_c99" >"$work/printed" 2>"$work/told" && cat "$work/told" "$work/printed" | diff "$work/said_refused" -
+}
+
+by_the_page() { # the page's commands, in a folder of their own that has its program as wages.c, the headers, abo_say.c and the archive
     rm -rf "$work/by_hand"
     mkdir -p "$work/by_hand/include" "$work/by_hand/build"
-    cp include/abo.h "$work/by_hand/include/"
+    cp include/abo.h include/abo_say.h include/abo_say.c "$work/by_hand/include/"
     cp "$lib" "$work/by_hand/build/libabo.a"
     block example.c >"$work/by_hand/wages.c"
     block link >"$work/by_hand/link.sh"
@@ -51,23 +57,27 @@ no_state() { # nothing that could change between calls is in the archive, and no
 }
 
 in_header() { # NAME: is declared, as a whole word
-    grep -qw "$1" include/abo.h
+    grep -qw "$1" include/abo.h include/abo_say.h
 }
 
 block example.c >"$work/shown.c"
 block printed >"$work/said"
+block refused >"$work/said_refused"
+sed 's/}, 800, /}, 0, /' host/api/example.c >"$work/spoilt.c"
 check "the page's program is host/api/example.c" diff host/api/example.c "$work/shown.c"
 for standard in c99 c11; do
-    check "the example as $standard" compile "$standard"
+    check "the example as $standard" compile "$standard" host/api/example.c
     check "the example as $standard prints what the page says" prints "$standard"
 done
+check "the example without a payee's bank" compile c99 "$work/spoilt.c"
+check "the example without a payee's bank says what the page says" refused
 check "the page's commands work" by_the_page
 check "the archive has no state and calls nothing but memcpy" no_state
 # names of files apart
 for name in $(sed 's/[a-z_]*\.[ch]//g' "$page" | grep -oE '\b(ABO|abo)_[A-Za-z0-9_]+' | sort -u); do
-    check "$name is in the header" in_header "$name"
+    check "$name is in a header" in_header "$name"
 done
-for call in $(sed -n 's/^struct [a-z_]* \(abo_[a-z]*\)(.*/\1/p' include/abo.h); do
+for call in $(grep -ohE '\babo_[a-z_]+\(' include/abo.h include/abo_say.h | tr -d '(' | sort -u); do
     check "$call is in the page" grep -qw "$call" "$page"
 done
 last_line

@@ -3,6 +3,7 @@
  * back, and held against what was sent.  The file goes to standard output.
  */
 #include <abo.h>
+#include <abo_say.h>
 
 #include <inttypes.h>
 #include <stdio.h>
@@ -22,10 +23,9 @@ static const struct wage wages[WAGES] = {
     {{500005, 2267100237}, 8100, 4020000},
 };
 
-/* Bytes that texts lie in, in the bank's character set, and the name: always
-   20 bytes, so both are lent without their zero byte. */
+/* Bytes that texts lie in, in the bank's character set; their zero byte is not
+   lent. */
 static const char texts[] = "Wage for December";
-static const char name[] = "Jablko a syn s.r.o. ";
 
 /* An account file, one group with the payer, and an item for each wage. */
 static void make_rows(union abo_row *rows)
@@ -55,10 +55,27 @@ static void make_rows(union abo_row *rows)
 static struct abo_written write_rows(const union abo_row *rows, uint8_t *out,
                                      size_t out_len)
 {
-    return abo_write((const uint8_t *)rows, ROWS * sizeof *rows,
-                     (const uint8_t *)texts, sizeof texts - 1, TODAY,
-                     (const uint8_t *)name, sizeof name - 1, 1234567890, 1, 999,
-                     ABO_SHEET_K, TODAY, out, out_len);
+    struct abo_header header = {
+        .date = TODAY, .client = 1234567890, .from = 1, .to = 999};
+    abo_set_name(&header, "Jablko a syn s.r.o.");
+    return abo_write_rows(rows, ROWS, (const uint8_t *)texts, sizeof texts - 1,
+                          &header, ABO_SHEET_K, TODAY, out, out_len);
+}
+
+/* Says in words what was refused: where, why, and what may stand there. */
+static void say_batch(const union abo_row *rows, const struct abo_written *w)
+{
+    uint64_t kind = 0; /* the header; and a row that is missing has no fields */
+    if (w->row > 0 && w->row <= ROWS)
+        kind = rows[w->row - 1].word[ABO_FIELD_ROW];
+    const char *field = abo_say_field(kind, w->field);
+    const char *allowed = w->number == ABO_NOT_CARRIED
+                              ? abo_say_carried(ABO_SHEET_K, kind, w->field)
+                              : abo_say_allowed(kind, w->field);
+    fprintf(stderr, "The batch was refused at row %" PRIu64 ": %s.\n", w->row,
+            abo_say_number(w->number));
+    if (field != NULL && allowed != NULL)
+        fprintf(stderr, "Look at %s; allowed is: %s.\n", field, allowed);
 }
 
 /* The file and its length, or NULL.  No room is lent at first, so that a batch
@@ -70,10 +87,7 @@ static uint8_t *write_batch(const union abo_row *rows, size_t *len)
     if (w.number == ABO_NO_ROOM && (file = malloc(w.bytes)) != NULL)
         w = write_rows(rows, file, w.bytes);
     if (w.number != ABO_ACCEPTED)
-        fprintf(stderr,
-                "The batch was refused with %" PRIu64 " at row %" PRIu64
-                ", field %" PRIu64 ".\n",
-                w.number, w.row, w.field);
+        say_batch(rows, &w);
     *len = w.bytes;
     return file;
 }
@@ -81,18 +95,17 @@ static uint8_t *write_batch(const union abo_row *rows, size_t *len)
 /* The rows and their count, or NULL; asked for in the same way. */
 static union abo_row *read_batch(const uint8_t *file, size_t len, size_t *count)
 {
-    struct abo_answer a = abo_read(file, len, ABO_SHEET_K, TODAY, NULL, 0);
+    struct abo_answer a = abo_read_rows(file, len, ABO_SHEET_K, TODAY, NULL, 0);
     union abo_row *rows = NULL;
     if (a.number == ABO_NO_ROOM &&
         (rows = calloc(a.needed, sizeof *rows)) != NULL)
-        a = abo_read(file, len, ABO_SHEET_K, TODAY, (uint8_t *)rows,
-                     a.needed * sizeof *rows);
+        a = abo_read_rows(file, len, ABO_SHEET_K, TODAY, rows, a.needed);
     if (a.number != ABO_ACCEPTED) {
         struct abo_found line = abo_line(file, len, a.line);
         fprintf(stderr,
-                "The file was refused with %" PRIu64 " at line %" PRIu64
-                ", byte %" PRIu64 ":\n%.*s\n",
-                a.number, a.line, a.byte, (int)line.len,
+                "The file was refused at line %" PRIu64 ", byte %" PRIu64
+                ": %s.\n%.*s\n",
+                a.line, a.byte, abo_say_number(a.number), (int)line.len,
                 (const char *)file + line.at);
     }
     *count = a.rows;

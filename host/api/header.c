@@ -1,51 +1,44 @@
 /*
- * The public header against the pages that describe it: the word of each named
- * field against docs/ROWS.md, the numbers returned against docs/NUMBERS.md, and
- * the answers against what the library gives.  It is C99 and C++11 alike, and
+ * The public header against the pages that describe it: the word and the name
+ * of each field against docs/ROWS.md, the numbers returned and their names
+ * against docs/NUMBERS.md, the answers against what the library gives, and the
+ * header's own functions against the calls.  It is C99 and C++11 alike, and
  * host/api/header.sh builds it as both.
  *
  *   header docs/ROWS.md docs/NUMBERS.md
  */
 #include <abo.h>
+#include "page.h"
 
-#include <stdio.h>
-#include <stdlib.h>
-#include <string.h>
-
-enum { CELLS = 5, WORD = sizeof(uint64_t) };
+enum { WORD = sizeof(uint64_t) };
 enum { FILE_COLUMN = 1, GROUP_COLUMN, ITEM_COLUMN };
 
-static unsigned long passed, failed;
-
-static void check(int ok, const char *what, const char *detail)
-{
-    if (ok) {
-        passed++;
-        return;
-    }
-    failed++;
-    printf("failed: %s: %s\n", what, detail);
-}
+/* A constant's name as the pages write it. */
+#define NAME_OF(constant) "`" #constant "`"
 
 /* A field: its column in the page and the words it has there, where it lies,
-   and the number that the header gives it. */
+   and the constant that the header gives it, by its name and its number. */
 struct named {
     int column;
     const char *words;
     size_t at, size;
+    const char *name;
     unsigned number;
     int seen;
 };
 
-#define FIELD(column, words, view, member, number)                            \
+#define FIELD(column, words, view, member, name, number)                      \
     {column, words, offsetof(struct view, member),                            \
-     sizeof(((struct view *)0)->member), number, 0}
-#define OF_FILE(words, member, number)                                        \
-    FIELD(FILE_COLUMN, words, abo_file_row, member, number)
-#define OF_GROUP(words, member, number)                                       \
-    FIELD(GROUP_COLUMN, words, abo_group_row, member, number)
-#define OF_ITEM(words, member, number)                                        \
-    FIELD(ITEM_COLUMN, words, abo_item_row, member, number)
+     sizeof(((struct view *)0)->member), name, number, 0}
+#define OF_FILE(words, member, constant)                                      \
+    FIELD(FILE_COLUMN, words, abo_file_row, member, NAME_OF(constant),        \
+          constant)
+#define OF_GROUP(words, member, constant)                                     \
+    FIELD(GROUP_COLUMN, words, abo_group_row, member, NAME_OF(constant),      \
+          constant)
+#define OF_ITEM(words, member, constant)                                      \
+    FIELD(ITEM_COLUMN, words, abo_item_row, member, NAME_OF(constant),        \
+          constant)
 
 static struct named fields[] = {
     OF_FILE("kind", kind, ABO_FILE_KIND),
@@ -77,70 +70,49 @@ static const size_t first_unused[] = {
     offsetof(struct abo_item_row, unused),
 };
 
-/* The three views, and the header's fields and the numbers returned: words of
-   the page (none for the numbers) and the number that goes with them. */
+/* The three views, the header's fields and the numbers returned: words of the
+   page, and the constant that goes with them, by its name and its number. */
 struct numbered {
-    const char *words;
+    const char *words, *name;
     unsigned number;
     int seen;
 };
 
+#define NUMBERED(words, constant) {words, NAME_OF(constant), constant, 0}
+#define RETURNED(constant) NUMBERED(NAME_OF(constant), constant)
+
 static struct numbered views[] = {
-    {"account file", ABO_ROW_FILE, 0},
-    {"group", ABO_ROW_GROUP, 0},
-    {"item", ABO_ROW_ITEM, 0},
+    NUMBERED("account file", ABO_ROW_FILE),
+    NUMBERED("group", ABO_ROW_GROUP),
+    NUMBERED("item", ABO_ROW_ITEM),
 };
 
 static struct numbered header_fields[] = {
-    {"creation date", ABO_HEADER_DATE, 0},
-    {"name", ABO_HEADER_NAME, 0},
-    {"client number", ABO_HEADER_CLIENT, 0},
-    {"interval start", ABO_HEADER_FROM, 0},
-    {"interval end", ABO_HEADER_TO, 0},
+    NUMBERED("creation date", ABO_HEADER_DATE),
+    NUMBERED("name", ABO_HEADER_NAME),
+    NUMBERED("client number", ABO_HEADER_CLIENT),
+    NUMBERED("interval start", ABO_HEADER_FROM),
+    NUMBERED("interval end", ABO_HEADER_TO),
 };
 
 static struct numbered numbers[] = {
-    {"", ABO_ACCEPTED, 0},       {"", ABO_BAD_SHEET, 0},
-    {"", ABO_BAD_TODAY, 0},      {"", ABO_BAD_ORDER, 0},
-    {"", ABO_BAD_FIELD, 0},      {"", ABO_BAD_ACCOUNT, 0},
-    {"", ABO_BAD_AMOUNT, 0},     {"", ABO_BAD_KIND, 0},
-    {"", ABO_BAD_PAYER_BANK, 0}, {"", ABO_BAD_NUMBER, 0},
-    {"", ABO_BAD_TOTAL, 0},      {"", ABO_BAD_DAY, 0},
-    {"", ABO_BAD_PAYEE_BANK, 0}, {"", ABO_BAD_DIGIT, 0},
-    {"", ABO_BAD_TEXT, 0},       {"", ABO_TOO_MANY, 0},
-    {"", ABO_NO_ROOM, 0},        {"", ABO_NOT_A_BATCH, 0},
-    {"", ABO_NOT_CARRIED, 0},
+    RETURNED(ABO_ACCEPTED),       RETURNED(ABO_BAD_SHEET),
+    RETURNED(ABO_BAD_TODAY),      RETURNED(ABO_BAD_ORDER),
+    RETURNED(ABO_BAD_FIELD),      RETURNED(ABO_BAD_ACCOUNT),
+    RETURNED(ABO_BAD_AMOUNT),     RETURNED(ABO_BAD_KIND),
+    RETURNED(ABO_BAD_PAYER_BANK), RETURNED(ABO_BAD_NUMBER),
+    RETURNED(ABO_BAD_TOTAL),      RETURNED(ABO_BAD_DAY),
+    RETURNED(ABO_BAD_PAYEE_BANK), RETURNED(ABO_BAD_DIGIT),
+    RETURNED(ABO_BAD_TEXT),       RETURNED(ABO_TOO_MANY),
+    RETURNED(ABO_NO_ROOM),        RETURNED(ABO_NOT_A_BATCH),
+    RETURNED(ABO_NOT_CARRIED),
 };
-
-#define COUNT_OF(list) (sizeof(list) / sizeof((list)[0]))
 
 /* Do these words begin the cell, and end where one of its words does? */
 static int begins(const char *cell, const char *words)
 {
     size_t len = strlen(words);
     return strncmp(cell, words, len) == 0 && strchr(" ,:", cell[len]) != NULL;
-}
-
-static char *trimmed(char *from, char *end)
-{
-    while (from < end && *from == ' ')
-        from++;
-    while (end > from && end[-1] == ' ')
-        end--;
-    *end = '\0';
-    return from;
-}
-
-/* Cuts a line into the cells of a table; 0 if it is no line of one. */
-static int cells_of(char *line, char *cells[CELLS])
-{
-    int count = 0;
-    char *end, *at = line + 1;
-    while (*line == '|' && count < CELLS && (end = strchr(at, '|')) != NULL) {
-        cells[count++] = trimmed(at, end);
-        at = end + 1;
-    }
-    return count;
 }
 
 /* The first and last word that `7`, `11, 12` or `21 to 23` names. */
@@ -166,29 +138,31 @@ static void check_field(const char *cell, int column, size_t first, size_t last)
             check(fields[i].at == at, cell, "lies at its word");
             check(fields[i].size == size, cell, "has as many words");
             check(fields[i].number == first, cell, "has the word's number");
+            check(strstr(cell, fields[i].name) != NULL, cell,
+                  "has the constant's name");
             check(fields[i].seen++ == 0, cell, "stands once in the page");
             return;
         }
     check(0, cell, "has a name in the header");
 }
 
-/* The cell is about one of these, which has this number. */
+/* The cell is about one of these, which has this number and names it so. */
 static void check_numbered(struct numbered *list, size_t count,
                            const char *cell, const char *number)
 {
     for (size_t i = 0; i < count; i++)
-        if (*list[i].words == '\0'
-                ? strtoul(number, NULL, 10) == list[i].number
-                : begins(cell, list[i].words)) {
+        if (begins(cell, list[i].words)) {
             check(strtoul(number, NULL, 10) == list[i].number, cell,
                   "has this number in the header");
+            check(strstr(cell, list[i].name) != NULL, cell,
+                  "has the constant's name");
             check(list[i].seen++ == 0, cell, "stands once in the page");
             return;
         }
     check(0, cell, "has a name in the header");
 }
 
-/* The heading of the table of rows: `item (word 0 is 3)`. */
+/* The heading of the table of rows: item (word 0 is 3, `ABO_ROW_ITEM`). */
 static void check_views(char *cells[CELLS], int count)
 {
     static const char says[] = "(word 0 is ";
@@ -211,36 +185,22 @@ static size_t check_row(char *cells[CELLS], int count, size_t next)
     return last + 1;
 }
 
-static FILE *page(const char *path)
-{
-    FILE *f = fopen(path, "r");
-    if (f == NULL) {
-        perror(path);
-        exit(2);
-    }
-    return f;
-}
-
 static void check_rows_page(const char *path)
 {
-    enum { NONE, ROWS, HEADER } table = NONE;
+    enum rows_table table = NO_TABLE;
     char line[1024], *cells[CELLS];
     size_t next = 1;
     FILE *f = page(path);
     while (fgets(line, sizeof line, f) != NULL) {
         int count = cells_of(line, cells);
-        if (count == 0)
-            table = NONE;
-        else if (strcmp(cells[0], "word") == 0) {
-            table = ROWS;
+        table = table_of(table, cells, count);
+        if (count > 0 && strcmp(cells[0], "word") == 0)
             check_views(cells, count);
-        } else if (strcmp(cells[0], "field") == 0)
-            table = HEADER;
-        else if (cells[0][0] == '-')
+        else if (table == NO_TABLE || strspn(cells[0], "0123456789") == 0)
             continue;
-        else if (table == ROWS)
+        else if (table == ROWS_TABLE)
             next = check_row(cells, count, next);
-        else if (table == HEADER)
+        else
             check_numbered(header_fields, COUNT_OF(header_fields), cells[1],
                            cells[0]);
     }
@@ -314,6 +274,152 @@ static void check_found(void)
           "has its end as line 1");
 }
 
+/* The version's parts are those of its text. */
+static void check_version(void)
+{
+    char text[64];
+    snprintf(text, sizeof text, "%d.%d", ABO_VERSION_MAJOR, ABO_VERSION_MINOR);
+    check(strcmp(text, ABO_VERSION) == 0, ABO_VERSION,
+          "is its first part, a full stop, and its second");
+}
+
+/* A name of so many bytes is put, or the header is as it was. */
+static void check_name(size_t len)
+{
+    struct abo_header header, before;
+    char name[ABO_NAME_BYTES + 2], detail[64];
+    size_t i, wrong = 0;
+    snprintf(detail, sizeof detail, "with a name of %u bytes", (unsigned)len);
+    memset(&header, 7, sizeof header);
+    memcpy(&before, &header, sizeof before);
+    memset(name, 'x', len);
+    name[len] = '\0';
+    check(abo_set_name(&header, name) == (len <= ABO_NAME_BYTES),
+          "abo_set_name gives 1 or 0", detail);
+    for (i = 0; i < ABO_NAME_BYTES; i++)
+        wrong += header.name[i] !=
+                 (len > ABO_NAME_BYTES ? 7 : i < len ? 'x' : ' ');
+    check(wrong == 0, "abo_set_name leaves the name", detail);
+    memcpy(header.name, before.name, sizeof header.name);
+    check(memcmp(&header, &before, sizeof header) == 0,
+          "abo_set_name leaves all else", detail);
+}
+
+static int same_answer(const struct abo_answer *a, const struct abo_answer *b)
+{
+    return a->number == b->number && a->line == b->line &&
+           a->byte == b->byte && a->rows == b->rows &&
+           a->warnings == b->warnings && a->needed == b->needed &&
+           a->header.date == b->header.date &&
+           a->header.client == b->header.client &&
+           a->header.from == b->header.from && a->header.to == b->header.to &&
+           memcmp(a->header.name, b->header.name, ABO_NAME_BYTES) == 0;
+}
+
+static int same_written(const struct abo_written *a,
+                        const struct abo_written *b)
+{
+    return a->number == b->number && a->row == b->row &&
+           a->field == b->field && a->bytes == b->bytes;
+}
+
+/* What the header's own functions are tried on: a batch of one item, its text,
+   and a header. */
+enum { SOME_ROWS = 3, SOME_DAY = 20180102, SOME_ROOM = 256 };
+static const uint8_t some_text[] = {'W', 'a', 'g', 'e'};
+
+static void make_batch(union abo_row *rows, struct abo_header *header)
+{
+    memset(rows, 0, SOME_ROWS * sizeof *rows);
+    memset(header, 0, sizeof *header);
+    rows[0].file.row = ABO_ROW_FILE;
+    rows[0].file.kind = 1501;
+    rows[0].file.number = 1001;
+    rows[1].group.row = ABO_ROW_GROUP;
+    rows[1].group.due = SOME_DAY;
+    rows[1].group.payer.prefix = 19;
+    rows[1].group.payer.base = 19;
+    rows[2].item.row = ABO_ROW_ITEM;
+    rows[2].item.payee.base = 5152046;
+    rows[2].item.bank = 800;
+    rows[2].item.amount = 3150000;
+    rows[2].item.priority = ABO_PRIORITY_USUAL;
+    rows[2].item.part[0].length = sizeof some_text;
+    header->date = SOME_DAY;
+    header->client = 1234567890;
+    header->from = 1;
+    header->to = 999;
+    check(abo_set_name(header, "Jablko a syn") == 1, "a name", "is put");
+}
+
+/* abo_write_rows, with this header or with none, is abo_write of the same
+   values: answer and output.  The file that is left in `out` has the bytes that
+   are given back. */
+static size_t check_write_rows(const union abo_row *rows,
+                               const struct abo_header *header, uint64_t sheet,
+                               size_t room, uint64_t due, uint8_t *out)
+{
+    uint8_t other[SOME_ROOM];
+    struct abo_written w, o;
+    memset(out, 7, SOME_ROOM);
+    memset(other, 7, sizeof other);
+    w = abo_write_rows(rows, SOME_ROWS, some_text, sizeof some_text, header,
+                       sheet, SOME_DAY, out, room);
+    o = abo_write((const uint8_t *)rows, SOME_ROWS * ABO_ROW_BYTES, some_text,
+                  sizeof some_text, header ? header->date : 0,
+                  header ? header->name : NULL, header ? ABO_NAME_BYTES : 0,
+                  header ? header->client : 0, header ? header->from : 0,
+                  header ? header->to : 0, sheet, SOME_DAY, other, room);
+    check(o.number == due, "abo_write", "has the number that is due");
+    check(same_written(&w, &o), "abo_write_rows", "answers as abo_write does");
+    check(memcmp(out, other, sizeof other) == 0, "abo_write_rows",
+          "writes what abo_write writes");
+    return w.number == ABO_ACCEPTED ? (size_t)w.bytes : 0;
+}
+
+/* abo_read_rows is abo_read of the same values: answer and rows. */
+static void check_read_rows(const uint8_t *file, size_t len, uint64_t sheet,
+                            size_t count, uint64_t due)
+{
+    union abo_row rows[SOME_ROWS + 1], other[SOME_ROWS + 1];
+    struct abo_answer a, o;
+    memset(rows, 7, sizeof rows);
+    memset(other, 7, sizeof other);
+    a = abo_read_rows(file, len, sheet, SOME_DAY, rows, count);
+    o = abo_read(file, len, sheet, SOME_DAY, (uint8_t *)other,
+                 count * ABO_ROW_BYTES);
+    check(o.number == due, "abo_read", "has the number that is due");
+    check(same_answer(&a, &o), "abo_read_rows", "answers as abo_read does");
+    check(memcmp(rows, other, sizeof rows) == 0, "abo_read_rows",
+          "fills the rows as abo_read does");
+}
+
+static void check_helpers(void)
+{
+    static const size_t names[] = {0, 1, 19, 20, 21};
+    union abo_row rows[SOME_ROWS];
+    struct abo_header header;
+    uint8_t out[SOME_ROOM];
+    size_t i, len;
+    for (i = 0; i < COUNT_OF(names); i++)
+        check_name(names[i]);
+    make_batch(rows, &header);
+    len = check_write_rows(rows, &header, ABO_SHEET_K, SOME_ROOM, ABO_ACCEPTED,
+                           out);
+    check_read_rows(out, len, ABO_SHEET_K, SOME_ROWS + 1, ABO_ACCEPTED);
+    check_read_rows(out, len, ABO_SHEET_K, SOME_ROWS - 1, ABO_NO_ROOM);
+    check_read_rows(out, len, ABO_SHEET_S, SOME_ROWS, ABO_BAD_PAYER_BANK);
+    check_write_rows(rows, &header, ABO_SHEET_K, 1, ABO_NO_ROOM, out);
+    check_write_rows(rows, NULL, ABO_SHEET_K, SOME_ROOM, ABO_NOT_A_BATCH, out);
+    check_write_rows(rows, &header, ABO_SHEET_C, SOME_ROOM, ABO_ACCEPTED, out);
+    len = check_write_rows(rows, NULL, ABO_SHEET_C, SOME_ROOM, ABO_ACCEPTED,
+                           out);
+    check_read_rows(out, len, ABO_SHEET_C, SOME_ROWS, ABO_ACCEPTED);
+    rows[2].item.bank = 0;
+    check_write_rows(rows, &header, ABO_SHEET_K, SOME_ROOM, ABO_NOT_A_BATCH,
+                     out);
+}
+
 /* ABO_EXPLAIN_BYTES is the longer of both lines, with the longest numbers. */
 static void check_longest_line(void)
 {
@@ -344,6 +450,7 @@ int main(int argc, char **argv)
     check_answers();
     check_found();
     check_longest_line();
-    printf("%lu passed, %lu failed\n", passed, failed);
-    return failed != 0;
+    check_version();
+    check_helpers();
+    return last_line();
 }

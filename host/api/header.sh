@@ -1,7 +1,7 @@
 #!/bin/sh
-# The public header: it compiles without a warning as C99, C11, C17, C++11 and C++17, its layout is that of docs/ROWS.md, and its own
-# assertions refuse another layout. The last line is 'N passed, M failed', and the exit status is 0 only if nothing failed.
-# host/target.sh names the variables.
+# The public headers: they compile without a warning as C99, C11, C17, C++11 and C++17, the layout is that of docs/ROWS.md, the names
+# are those of docs/NUMBERS.md, and abo.h's own assertions refuse another layout; abo_say.c compiles as C99, and has words for
+# everything. The last line is 'N passed, M failed', and the exit status is 0 only if nothing failed. host/target.sh names the variables.
 set -u
 cd "$(dirname "$0")/../.." || exit 2
 . host/target.sh
@@ -30,19 +30,31 @@ wrong() { # WHAT SED: a header with this edit is refused in every language
     done
 }
 
-# twice, because a header may be read twice; and first, because it may need no other before it
-printf '#include <abo.h>\n#include <abo.h>\nint main(void) { return 0; }\n' >"$work/alone.c"
-for standard in c99 c11 c17 c++11 c++17; do
-    check "the header alone as $standard" compile "$standard" include -fsyntax-only "$work/alone.c"
-done
-for standard in c99 c11 c++11; do
-    program=$work/header_$standard
-    check "host/api/header.c as $standard" compile "$standard" include -c -o "$program.o" host/api/header.c
+tested() { # NAME STANDARD ARG ..: the program NAME of this folder by this standard, over the archive and abo_say.c, run with the arguments
+    name=$1 by=$2
+    shift 2
+    program=$work/${name}_$by
+    check "host/api/$name.c as $by" compile "$by" include -c -o "$program.o" "host/api/$name.c"
     # linked as C in each language, since it wants no library of C++, and Debian's cross compiler has no static libm to go with that
     # shellcheck disable=SC2086
-    check "host/api/header.c as $standard, linked" $cc $static -o "$program" "$program.o" "$lib"
+    check "host/api/$name.c as $by, linked" $cc $static -o "$program" "$program.o" "$work/abo_say.o" "$lib"
     # shellcheck disable=SC2086
-    add "header as $standard" $run "$program" docs/ROWS.md docs/NUMBERS.md
+    add "$name as $by" $run "$program" "$@"
+}
+
+# twice, because a header may be read twice; and first, because it may need no other before it
+printf '#include <abo.h>\n#include <abo.h>\nint main(void) { return 0; }\n' >"$work/alone.c"
+printf '#include <abo_say.h>\n#include <abo_say.h>\nint main(void) { return 0; }\n' >"$work/alone_say.c"
+for standard in c99 c11 c17 c++11 c++17; do
+    check "the header alone as $standard" compile "$standard" include -fsyntax-only "$work/alone.c"
+    check "abo_say.h alone as $standard" compile "$standard" include -fsyntax-only "$work/alone_say.c"
+done
+for standard in c17 c11 c99; do
+    check "abo_say.c as $standard" compile "$standard" include -c -o "$work/abo_say.o" include/abo_say.c
+done
+for standard in c99 c11 c++11; do
+    tested header "$standard" docs/ROWS.md docs/NUMBERS.md
+    tested say "$standard" include/abo.h docs/ROWS.md
 done
 wrong 'two fields of an item exchanged' 's/uint64_t bank, amount,/uint64_t amount, bank,/'
 wrong 'a field that is missing' 's/uint64_t due;//'
