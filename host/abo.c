@@ -1,8 +1,7 @@
 /*
- * The command-line tool over the library: checks, rewrites, shows and explains ABO (.kpc) payment files.  `abo help` prints
- * the text below.
+ * The command-line tool over the library: checks, rewrites, shows and explains ABO (.kpc) payment files.  `abo help` prints how it is
+ * used (host/abo/help.c).
  */
-#include <errno.h>
 #include <inttypes.h>
 #include <stdio.h>
 #include <stdlib.h>
@@ -10,44 +9,15 @@
 
 #include <abo.h>
 #include "abo/arguments.h"
-#include "abo/input.h"
-#include "abo/refusal.h"
+#include "abo/help.h"
+#include "abo/rewriting.h"
 #include "abo/table.h"
-
-#ifndef ABO_VERSION
-#define ABO_VERSION "1.1"
-#endif
-
-enum status { ACCEPTED = 0, REFUSED = 1, TROUBLE = 2 };
-
-static const char help[] =
-    "abo " ABO_VERSION ": Czech ABO (.kpc) payment files, judged by a bank's sheet\n"
-    "\n"
-    "  abo check   FILE --sheet SHEET --day DAY            is the file accepted, and if not, why and where\n"
-    "  abo rewrite FILE --sheet SHEET --day DAY [-o OUT]   its one canonical spelling, to standard output or OUT\n"
-    "  abo show    FILE --sheet SHEET --day DAY            its account files, groups and items as a table\n"
-    "  abo explain FILE --sheet SHEET --day DAY            the library's answer in one line for programs\n"
-    "  abo help, abo --version\n"
-    "\n"
-    "FILE    the file, of any size; - is standard input\n"
-    "SHEET   K, S, C or E, or its number 1, 2, 3 or 4\n"
-    "DAY     the day that the file is judged on, as in 2026-11-15; a real day of 2000 to 2099\n"
-    "OUT     written only if the file is accepted; - is standard output\n"
-    "\n"
-    "A refusal says the line, counted from 1, and the byte, counted from 0 at the start of the file, and shows the line with a\n"
-    "caret under that byte; bytes that cannot be printed are shown as dots. check prints it to standard output, rewrite and\n"
-    "show to standard error. The number at its end is the library's.\n"
-    "\n"
-    "The exit status is 0 if the file is accepted, with warnings or without; 1 if it is refused; 2 if the command line is wrong\n"
-    "or something cannot be read or written.\n";
-
-/* A file in hand: what was asked, what was read, and what the library made of it. */
-struct job {
-    struct arguments ask;
-    struct input file;
-    struct abo_answer answer;
-    union abo_row *rows;
-};
+#include "common/input.h"
+#include "common/letters.h"
+#include "common/names.h"
+#include "common/output.h"
+#include "common/refusal.h"
+#include "common/sums.h"
 
 static enum status trouble(const char *sentence)
 {
@@ -56,49 +26,62 @@ static enum status trouble(const char *sentence)
     return TROUBLE;
 }
 
-static struct abo_answer read_into(const struct job *j, union abo_row *rows,
-                                   size_t bytes)
-{
-    return abo_read(j->file.bytes, j->file.len, j->ask.sheet, j->ask.today,
-                    (uint8_t *)rows, bytes);
-}
-
 /* With no room lent, the library says 16 and how many rows a file that it accepts has. */
 static bool judge(struct job *j)
 {
-    size_t bytes;
-    say_progress(&j->file, "judging");
-    j->answer = read_into(j, NULL, 0);
+    say_progress(&j->file, "abo", "judging");
+    j->answer = abo_read_rows(j->file.bytes, j->file.len, j->ask->sheet, j->ask->today, NULL, 0);
     if (j->answer.number == ABO_NO_ROOM) {
         bool fits = j->answer.needed <= SIZE_MAX / sizeof *j->rows;
-        bytes = (size_t)j->answer.needed * sizeof *j->rows;
-        j->rows = fits ? malloc(bytes) : NULL;
+        size_t count = (size_t)j->answer.needed;
+        j->rows = fits ? malloc(count * sizeof *j->rows) : NULL;
         if (j->rows == NULL)
             return false;
-        j->answer = read_into(j, j->rows, bytes);
+        j->answer = abo_read_rows(j->file.bytes, j->file.len, j->ask->sheet, j->ask->today, j->rows, count);
     }
     end_progress();
     return true;
 }
 
+static bool many(const struct job *j)
+{
+    return j->ask->count > 1;
+}
+
 static enum status refused(const struct job *j, FILE *to)
 {
-    print_refusal(to, &j->file, j->ask.sheet, &j->answer);
+    print_refusal(to, many(j) ? j->name : NULL, &j->file, j->ask->sheet, &j->answer);
     return REFUSED;
 }
 
-static void print_accepted(const struct job *j)
+/* Where several files are asked about, what is said of one begins with its name. */
+static void begin_line(const struct job *j)
 {
-    printf("accepted, %" PRIu64 " rows, %" PRIu64 " warnings\n", j->answer.rows,
-           j->answer.warnings);
+    if (!many(j))
+        return;
+    put_name(stdout, j->name);
+    fputs(": ", stdout);
+}
+
+static enum status print_accepted(const struct job *j)
+{
+    begin_line(j);
+    fputs("accepted, ", stdout);
+    print_payments(stdout, j->rows, (size_t)j->answer.rows);
+    fputs(", ", stdout);
+    print_count(stdout, j->answer.warnings, "warning");
+    fputc('\n', stdout);
+    return j->ask->strict && j->answer.warnings > 0 ? REFUSED : ACCEPTED;
 }
 
 static enum status check(struct job *j)
 {
     if (j->answer.number != ABO_ACCEPTED)
         return refused(j, stdout);
-    print_accepted(j);
-    return ACCEPTED;
+    enum status status = print_accepted(j);
+    note_utf8(stdout, utf8_texts(j->rows, (size_t)j->answer.rows, j->file.bytes) +
+                          looks_like_utf8(j->answer.header.name, ABO_NAME_BYTES));
+    return status;
 }
 
 static enum status show(struct job *j)
@@ -106,62 +89,24 @@ static enum status show(struct job *j)
     if (j->answer.number != ABO_ACCEPTED)
         return refused(j, stderr);
     print_batch(stdout, &j->file, &j->answer, j->rows);
-    print_accepted(j);
-    return ACCEPTED;
+    return print_accepted(j);
 }
 
 static enum status explain(struct job *j)
 {
     uint8_t line[ABO_EXPLAIN_BYTES];
-    struct abo_text t = abo_explain(j->file.bytes, j->file.len, j->ask.sheet,
-                                    j->ask.today, line, sizeof line);
+    struct abo_text t = abo_explain(j->file.bytes, j->file.len, j->ask->sheet, j->ask->today, line, sizeof line);
     if (t.number != ABO_ACCEPTED)
         return trouble("The library's line is longer than its header says.");
+    begin_line(j);
     fwrite(line, 1, (size_t)t.bytes, stdout);
-    return j->answer.number == ABO_ACCEPTED ? ACCEPTED : REFUSED;
+    bool accepted = j->answer.number == ABO_ACCEPTED && !(j->ask->strict && j->answer.warnings > 0);
+    return accepted ? ACCEPTED : REFUSED;
 }
 
-/* Puts bytes out, to standard output if no name is given or `-`. */
-static enum status put_out(const char *name, const uint8_t *bytes, size_t len)
-{
-    bool standard = name == NULL || strcmp(name, "-") == 0;
-    FILE *to = standard ? stdout : fopen(name, "wb");
-    bool whole = to != NULL && fwrite(bytes, 1, len, to) == len;
-    whole = to != NULL && (standard ? fflush(to) : fclose(to)) == 0 && whole;
-    if (whole)
-        return ACCEPTED;
-    fprintf(stderr, "abo: %s could not be written whole: %s.\n",
-            standard ? "Standard output" : name, strerror(errno));
-    return TROUBLE;
-}
-
-static struct abo_written write_into(const struct job *j, uint8_t *out,
-                                     size_t len)
-{
-    const struct abo_header *h = &j->answer.header;
-    return abo_write((const uint8_t *)j->rows,
-                     (size_t)j->answer.rows * sizeof *j->rows, j->file.bytes,
-                     j->file.len, h->date, h->name, sizeof h->name, h->client,
-                     h->from, h->to, j->ask.sheet, j->ask.today, out, len);
-}
-
-/* What was read can be written on the same sheet and day, so the first call gives 16, the second 0. */
 static enum status rewrite(struct job *j)
 {
-    if (j->answer.number != ABO_ACCEPTED)
-        return refused(j, stderr);
-    struct abo_written w = write_into(j, NULL, 0);
-    if (w.number != ABO_NO_ROOM || w.bytes > SIZE_MAX)
-        return trouble("The library does not write what it has read.");
-    uint8_t *out = malloc((size_t)w.bytes);
-    if (out == NULL)
-        return trouble("There is not enough memory for the canonical file.");
-    w = write_into(j, out, (size_t)w.bytes);
-    enum status status = w.number == ABO_ACCEPTED
-                             ? put_out(j->ask.out, out, (size_t)w.bytes)
-                             : trouble("The library does not write what it has read.");
-    free(out);
-    return status;
+    return j->answer.number == ABO_ACCEPTED ? rewrite_accepted(j) : refused(j, stderr);
 }
 
 static const struct command {
@@ -169,38 +114,61 @@ static const struct command {
     enum status (*run)(struct job *);
 } commands[] = {{"check", check}, {"rewrite", rewrite}, {"show", show}, {"explain", explain}};
 
-/* What a command misses, or NULL.  The library alone says which days are real; it does so before it looks at a file. */
-static const char *missing(const struct command *c, const struct job *j)
+/* What only some commands take. */
+static bool fits(const struct command *c, const struct arguments *a)
 {
-    if (j->ask.file == NULL)
-        return "No file was named. `abo help` says how it is used.";
-    if (j->ask.sheet == 0)
-        return "The option --sheet is missing. `abo help` says how it is used.";
-    if (j->ask.today == 0)
-        return "The option --day is missing. `abo help` says how it is used.";
-    if (j->ask.out != NULL && c->run != rewrite)
-        return "Only rewrite takes -o. `abo help` says how it is used.";
-    if (read_into(j, NULL, 0).number == ABO_BAD_TODAY)
-        return "The day is no real day of 2000 to 2099.";
-    return NULL;
+    bool rewrites = c->run == rewrite;
+    if (!rewrites && (a->out != NULL || a->accept_warnings))
+        return misused("Only rewrite takes ", a->out != NULL ? "-o" : "--accept-warnings", ".");
+    if (rewrites && a->strict)
+        return misused("A file with warnings is not rewritten anyway, so rewrite does not take ", "--strict", ".");
+    if (rewrites && a->count > 1)
+        return misused("One file is rewritten at a time, and ", a->files[1], " is a second one.");
+    return true;
 }
 
-static enum status run(const struct command *c, char **arguments)
+/* The library alone says which days are real; it does so before it looks at a file. */
+static bool complete(const struct arguments *a)
 {
-    struct job j = {{false, NULL, NULL, 0, 0}, {NULL, 0}, {0}, NULL};
+    if (a->count == 0)
+        return misused("No file was ", "named", ".");
+    if (a->sheet == 0 || a->today == 0)
+        return misused("The option ", a->sheet == 0 ? "--sheet" : "--day", " is missing.");
+    if (abo_read(NULL, 0, a->sheet, a->today, NULL, 0).number == ABO_BAD_TODAY)
+        return misused("The day ", a->day_word, " is no real day of 2000 to 2099.");
+    return true;
+}
+
+static enum status run_on(const struct command *c, const struct arguments *a, const char *name)
+{
+    struct job j = {a, name, {NULL, 0}, {0}, NULL};
     enum status status = TROUBLE;
-    if (!take_arguments(&j.ask, arguments))
-        return TROUBLE;
-    if (j.ask.help)
-        return fputs(help, stdout) < 0 ? TROUBLE : ACCEPTED;
-    const char *fault = missing(c, &j);
-    if (fault != NULL)
-        return trouble(fault);
-    if (read_whole(&j.file, j.ask.file))
+    if (read_whole(&j.file, "abo", name))
         status = judge(&j) ? c->run(&j) : trouble("There is not enough memory for the file's rows.");
     free(j.rows);
     free(j.file.bytes);
     return status;
+}
+
+/* Every file is looked at, whatever came before, and the gravest status is the run's. */
+static enum status run(const struct command *c, char **arguments)
+{
+    struct arguments a = {0};
+    enum status gravest = ACCEPTED;
+    if (!take_arguments(&a, arguments))
+        return TROUBLE;
+    if (a.help) {
+        print_help();
+        return ACCEPTED;
+    }
+    if (!fits(c, &a) || !complete(&a))
+        return TROUBLE;
+    for (size_t i = 0; i < a.count; i++) {
+        enum status status = run_on(c, &a, a.files[i]);
+        if (status > gravest)
+            gravest = status;
+    }
+    return gravest;
 }
 
 static enum status answer(char **argument)
@@ -212,17 +180,19 @@ static enum status answer(char **argument)
         if (strcmp(name, commands[i].name) == 0)
             return run(&commands[i], argument + 1);
     if (strcmp(name, "help") == 0 || strcmp(name, "--help") == 0 || strcmp(name, "-h") == 0)
-        return fputs(help, stdout) < 0 ? TROUBLE : ACCEPTED;
-    if (strcmp(name, "--version") == 0)
-        return puts("abo " ABO_VERSION) < 0 ? TROUBLE : ACCEPTED;
-    fprintf(stderr, "abo: %s is no command. `abo help` says how it is used.\n", name);
-    return TROUBLE;
+        print_help();
+    else if (strcmp(name, "--version") == 0)
+        puts("abo " ABO_VERSION);
+    else
+        return misused("", name, " is no command."), TROUBLE;
+    return ACCEPTED;
 }
 
 int main(int argc, char **argv)
 {
+    guard_output();
     enum status status = answer(argv + (argc > 0));
     if ((fflush(stdout) != 0 || ferror(stdout)) && status != TROUBLE)
         status = trouble("Standard output could not be written whole.");
-    return status;
+    return (int)status;
 }

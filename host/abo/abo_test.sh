@@ -1,7 +1,7 @@
 #!/bin/sh
 # The tool host/abo.c, run as a person runs it: over the inputs of host/runs without their first line, generated files, a large
 # one, one refusal for each number, and command lines that are wrong. Its answers are compared with the second program's
-# (host/compare/compare_abo.c). The last line is 'N passed, M failed', and the exit status is 0 only if nothing failed.
+# (host/compare/compare_abo.c), its page for man with its help. The last line is 'N passed, M failed', and the exit status is 0 only if nothing failed.
 #
 #   SEEDS=1000 host/abo/abo_test.sh    how many files are generated (default 40, by an emulator 8); SEED is the first one's seed
 #
@@ -18,7 +18,7 @@ work=$(mktemp -d) || exit 2
 trap 'rm -rf "$work"' EXIT
 file=$work/file
 
-abo() { $run "$build/abo" "$@"; }
+abo() { "$build/abo" "$@"; }
 second() { $run "$build/compare_abo" "$@"; }
 
 tell() { # COMMAND ARG ..: runs the tool; its output, what it says on standard error and its status are kept
@@ -30,42 +30,66 @@ dashed() { # YYYYMMDD: as the tool takes a day
     echo "$1" | sed 's/\(..\)\(..\)$/-\1-\2/'
 }
 
-in_columns() { # no line of a refusal is wider than a terminal, but for the sentence itself
-    [ "$(tail -n +2 "$1" | awk 'length > 80' | wc -l)" -eq 0 ]
+dotted() { # a dot for each letter that is not ASCII, as compare_abo has it; the letters themselves are tested in host/common
+    sed "s/[$(printf '\302')-$(printf '\364')][$(printf '\200')-$(printf '\277')]*/./g"
+}
+
+dotted_day() { # YYYYMMDD: as Czechs write it
+    echo "$1" | sed 's/\(....\)0*\([1-9]*[0-9]\)\(..\)$/\3.\2.\1/'
+}
+
+in_columns() { # no line of a refusal is wider than a terminal, but for its sentences
+    [ "$(tail -n +2 "$1" | grep -v '^note: ' | dotted | awk 'length > 80' | wc -l)" -eq 0 ]
 }
 
 # TEXT NUMBER BYTE: the caret of this refusal stands under the byte: what is shown from there on is what the file has there.
 caret() {
     column=$(sed -n '3s/\^$//p' "$1" | awk '{ print length }')
-    seen=$(sed -n 2p "$1" | cut -c "$((column + 1))-" | cut -c 1-30)
+    seen=$(sed -n 2p "$1" | dotted | cut -c "$((column + 1))-" | cut -c 1-30)
     [ "$2" -eq 3 ] && [ "$3" -eq "$(wc -c <"$file")" ] && wanted='(the file ends here)' ||
         wanted=$(tail -c "+$(($3 + 1))" "$file" | head -c 30 | tr '\r' '\n' | sed -n '1p' | tr -c '\n -~' '.')
     [ "$seen" = "$wanted" ] || { echo "shown '$seen', in the file '$wanted'"; false; }
 }
 
-# The refusal, or the acceptance, that check prints, in the words of explaining.
-plainly='1s/^refused at line \([0-9]*\), byte \([0-9]*\): .* (\([0-9]*\))\.$/refused \3 line \1 byte \2/
-    1s/^accepted, \([0-9]*\) rows, \([0-9]*\) warnings$/accepted rows \1 warnings \2/'
+# The refusal that check prints, in the words of explaining.
+plainly='1s/^refused at line \([0-9]*\), column [0-9]*, byte \([0-9]*\): .* (\([0-9]*\))\.$/refused \3 line \1 byte \2/'
 
 same_answer() { # WHAT SHEET YYYYMMDD: all commands on the file, against the second program
     day=$(dashed "$3")
     second answer "$file" "$2" "$3" "$work"
     due=$?
     for command in check explain rewrite show; do
-        tell "$command" "$file" --sheet "$2" --day "$day"
+        [ "$command" = rewrite ] && whatever=--accept-warnings || whatever=
+        # shellcheck disable=SC2086
+        tell "$command" "$file" --sheet "$2" --day "$day" $whatever
         check "$1: the status of $command is $due" [ "$status" -eq "$due" ]
         mv "$work/out" "$work/$command.out"
         mv "$work/err" "$work/$command.err"
     done
     [ "$due" -eq 2 ] && return
+    [ "$due" -eq 0 ] && said=$work/accepted || said=$work/line
     sed "$plainly" "$work/check.out" | head -n 1 >"$work/check.line"
-    check "$1: check says what it should" cmp "$work/check.line" "$work/line"
+    check "$1: check says what it should" cmp "$work/check.line" "$said"
     check "$1: explain says what it should" cmp "$work/explain.out" "$work/line"
     check "$1: rewrite writes what it should" cmp "$work/rewrite.out" "$work/canonical"
-    grep -E '^    .*[0-9]\.[0-9]' "$work/show.out" | tr -s ' ' >"$work/show.items"
+    grep -E '^    .*[0-9]\.[0-9]' "$work/show.out" | dotted | tr -s ' ' >"$work/show.items"
     tr -s ' ' <"$work/items" >"$work/items.squeezed"
     check "$1: show has every item" cmp "$work/show.items" "$work/items.squeezed"
-    if [ "$due" -eq 1 ]; then same_refusal "$1"; else check "$1: show ends with what check says" same_end; fi
+    if [ "$due" -eq 1 ]; then same_refusal "$1"; else same_acceptance "$1" "$2"; fi
+}
+
+same_acceptance() { # WHAT SHEET: show ends as check does, and warnings count where they are asked to
+    check "$1: show ends with what check says" same_end
+    warnings=$(sed 's/.* //' "$work/line")
+    [ "$warnings" -eq 0 ] && strictly=0 || strictly=1
+    tell rewrite "$file" --sheet "$2" --day "$day"
+    check "$1: rewrite without --accept-warnings: the status is $strictly" [ "$status" -eq "$strictly" ]
+    [ "$strictly" -eq 0 ] && return
+    check "$1: nothing is written" [ ! -s "$work/out" ]
+    check "$1: how many warnings there are" grep -q " is accepted with $warnings warning" "$work/err"
+    check "$1: with --accept-warnings it says how many" grep -q " was accepted with $warnings warning" "$work/rewrite.err"
+    tell check "$file" --sheet "$2" --day "$day" --strict
+    check "$1: --strict counts warnings" [ "$status" -eq 1 ]
 }
 
 same_refusal() { # WHAT: check, rewrite and show tell one refusal, check as its output
@@ -76,7 +100,7 @@ same_refusal() { # WHAT: check, rewrite and show tell one refusal, check as its 
     check "$1: show tells the same" cmp "$work/check.out" "$work/show.err"
 }
 
-same_end() { tail -n 1 "$work/show.out" | cmp - "$work/check.out"; }
+same_end() { tail -n 1 "$work/show.out" | cmp - "$work/check.line"; }
 
 number_of() { # LETTER
     case $1 in K) echo 1 ;; S) echo 2 ;; C) echo 3 ;; E) echo 4 ;; *) echo "$1" ;; esac
@@ -88,6 +112,7 @@ run_of() { # NAME.in: the rewriting program and the tool agree, where the tool's
     name=$(basename "$1" .in)
     line=$(head -c 9 "$1" | tr '\r' '\n' | head -n 1)
     letter=$(printf %s "$line" | cut -c 1)
+    small=$(printf %s "$letter" | tr KSCE ksce)
     rest=$(printf %s "$line" | cut -c 3-)
     today=$(printf %s "$rest" | sed 's/^\(..\)\(..\)\(.*\)$/20\3\2\1/')
     case $line in
@@ -102,11 +127,13 @@ run_of() { # NAME.in: the rewriting program and the tool agree, where the tool's
         return
     fi
     same_answer "$name" "$(number_of "$letter")" "$today"
-    if [ "$status" -eq 2 ] || grep -aq '^refused 16 ' "${1%.in}.out"; then return; fi
-    [ "$status" -eq 0 ] && said=$work/rewrite.out || said=$work/explain.out
+    if [ "$due" -eq 2 ] || grep -aq '^refused 16 ' "${1%.in}.out"; then return; fi
+    [ "$due" -eq 0 ] && said=$work/rewrite.out || said=$work/explain.out
     check "$name: what the rewriting program says" cmp "$said" "${1%.in}.out"
-    tell check "$file" --sheet "$letter" --day "$(dashed "$today")"
+    tell check "$file" --sheet "$letter" --day "$today"
     check "$name: a letter is as good as a number" cmp "$work/out" "$work/check.out"
+    tell check "$file" --sheet "$small" --day "$(dotted_day "$today")"
+    check "$name: and so is a small one" cmp "$work/out" "$work/check.out"
 }
 
 for input in host/runs/*.in; do run_of "$input"; done
@@ -145,58 +172,59 @@ says() { # SHEET LINE-OF-FILE .. EXPECTED: the file, behind a first line, is ref
 }
 
 k='1 1501 001001 8100' c='1 1501 000000 0300' g='2 19 1 010118' i='19 1 0 03000558'
-says C "$c" 'refused at line 3, byte 24: the file ends too early (3).\n  (the file ends here)\n  ^'
-says C "$g" "refused at line 2, byte 5: another kind of line is due here, or the end of the file (3).\n  $g\n  ^"
+says C "$c" 'refused at line 3, column 1, byte 24: the file ends too early (3).\n  (the file ends here)\n  ^'
+says C "$g" "refused at line 2, column 1, byte 5: another kind of line is due here, or the end of the file (3).\n  $g\n  ^"
 says C "$c" "$g" '19 1 x 03000558' \
-    'refused at line 4, byte 43: the bytes or the length of this field are wrong, or a divider is (4).\n  19 1 x 03000558\n       ^'
+    'refused at line 4, column 6, byte 43: the bytes or the length of this field are wrong, or a divider is (4).\n  19 1 x 03000558\n       ^'
 says C "$c" "$g" '19 1' \
-    'refused at line 4, byte 42: the line ends too early, or a divider is missing (4).\n  19 1\n      ^'
+    'refused at line 4, column 5, byte 42: the line ends too early, or a divider is missing (4).\n  19 1\n      ^'
 says C "$c" "$g" '18 1 0 03000558' \
-    'refused at line 4, byte 38: this is no valid account number (5).\n  18 1 0 03000558\n  ^'
+    'refused at line 4, column 1, byte 38: this is no valid account number (5).\n  18 1 0 03000558\n  ^'
 says C "$c" "$g" '19 0 0 03000558' \
-    "refused at line 4, byte 41: the amount is zero or over the sheet's limit (6).\n  19 0 0 03000558\n     ^"
+    "refused at line 4, column 4, byte 41: the amount is zero or over the sheet's limit (6).\n  19 0 0 03000558\n     ^"
 says K '1 1502 001001 8100' \
-    'refused at line 2, byte 61: this kind of account file is not on the sheet (7).\n  1 1502 001001 8100\n    ^'
+    'refused at line 2, column 3, byte 61: this kind of account file is not on the sheet (7).\n  1 1502 001001 8100\n    ^'
 says K '1 1501 001001 0800' \
-    "refused at line 2, byte 73: the payer's bank is not the sheet's (8).\n  1 1501 001001 0800\n                ^"
+    "refused at line 2, column 15, byte 73: the payer's bank is not the sheet's (8).\n  1 1501 001001 0800\n                ^
+note: the file names bank 0800, Česká spořitelna, whose sheet is S; it was judged by sheet K, Komerční banka."
 says K '1 1501 000001 8100' \
-    "refused at line 2, byte 66: the number's first three digits are outside the interval or were used before (9).\n  1 1501 000001 8100\n         ^"
+    "refused at line 2, column 8, byte 66: the number's first three digits are outside the interval or were used before (9).\n  1 1501 000001 8100\n         ^"
 interval=002001
 says K "$k" \
-    "refused at line 1, byte 43: the interval's start is above its end (9).\n  UHL1010118Firma               1234567890002001000000000000\n$(printf '%45s' '')^"
+    "refused at line 1, column 44, byte 43: the interval's start is above its end (9).\n  UHL1010118Firma               1234567890002001000000000000\n$(printf '%45s' '')^"
 interval=
 says K "$k" '2 19 2 010118' "$i" '3 +' \
-    "refused at line 3, byte 83: the group's total is not the sum of its items (10).\n  2 19 2 010118\n       ^"
+    "refused at line 3, column 6, byte 83: the group's total is not the sum of its items (10).\n  2 19 2 010118\n       ^"
 much='19 99999999999999 0 03000558'
 says C "$c" "$g" "$much" "$i" '3 +' \
-    "refused at line 3, byte 29: the sum of the group's items has more than 14 digits (10).\n  $g\n       ^"
+    "refused at line 3, column 6, byte 29: the sum of the group's items has more than 14 digits (10).\n  $g\n       ^"
 says K "$k" '2 19 1 300218' \
-    'refused at line 3, byte 85: the day is not real, or not among the days that the sheet takes (11).\n  2 19 1 300218\n         ^'
+    'refused at line 3, column 8, byte 85: the day is not real, or not among the days that the sheet takes (11).\n  2 19 1 300218\n         ^'
 says C "$c" "$g" '19 1 0 00000558' \
-    "refused at line 4, byte 45: the payee's bank is 0000 (12).\n  19 1 0 00000558\n         ^"
+    "refused at line 4, column 8, byte 45: the payee's bank is 0000 (12).\n  19 1 0 00000558\n         ^"
 says C "$c" "$g" '19 1 0 103000558' \
-    'refused at line 4, byte 45: the ninth or tenth digit from the right is not allowed (13).\n  19 1 0 103000558\n         ^'
+    'refused at line 4, column 8, byte 45: the ninth or tenth digit from the right is not allowed (13).\n  19 1 0 103000558\n         ^'
 says C "$c" "$g" "$i 0 a|b|c|d|e" \
-    "refused at line 4, byte 56: the text breaks the sheet's rules on its start, its parts, their length or bars (14).\n  $i 0 a|b|c|d|e\n                    ^"
+    "refused at line 4, column 19, byte 56: the text breaks the sheet's rules on its start, its parts, their length or bars (14).\n  $i 0 a|b|c|d|e\n                    ^"
 
-# ---- what is shown of a line: dots, and a piece of a long one ----
+# ---- what is shown of a line: letters, a mark where there is none, and a piece of a long one ----
 
 says C "$c" "$g" "$i 0 \\0351\\t\\0001\\0177z" \
-    "refused at line 4, byte 56: the bytes or the length of this field are wrong, or a divider is (4).\n  $i 0 ....z\n                    ^"
+    "refused at line 4, column 19, byte 56: the bytes or the length of this field are wrong, or a divider is (4).\n  $i 0 é���z\n                    ^"
 long=$(printf '%0100d' 0)
 says C "$c" "$g" "$long$long" \
-    "refused at line 4, byte 38: the bytes or the length of this field are wrong, or a divider is (4).\n  $(printf '%072d' 0)..\n  ^"
+    "refused at line 4, column 1, byte 38: the bytes or the length of this field are wrong, or a divider is (4).\n  $(printf '%072d' 0)..\n  ^"
 says C "$long$long" \
-    "refused at line 2, byte 5: another kind of line is due here, or the end of the file (3).\n  $(printf '%072d' 0)..\n  ^"
+    "refused at line 2, column 1, byte 5: another kind of line is due here, or the end of the file (3).\n  $(printf '%072d' 0)..\n  ^"
 says C "$c\\r$g\\r19 0 0 03000558\\r" \
-    "refused at line 4, byte 41: the amount is zero or over the sheet's limit (6).\n  19 0 0 03000558\n     ^"
+    "refused at line 4, column 4, byte 41: the amount is zero or over the sheet's limit (6).\n  19 0 0 03000558\n     ^"
 far='000019-0000000019 000019-0000000019 00000000000001 0000000000 0003000558 0000000000 a|b|c|d|e'
 says C "$c" '2 1 010118' "$far" \
-    "refused at line 4, byte 119: the text breaks the sheet's rules on its start, its parts, their length or bars (14).
+    "refused at line 4, column 85, byte 119: the text breaks the sheet's rules on its start, its parts, their length or bars (14).
   ..$(printf %s "$far" | tail -c 72)\n$(printf '%67s' '')^"
 head_of K | sed "s/000000000000\$/$long/" >"$file"
 tell check "$file" --sheet K --day 2018-01-01
-printf 'refused at line 1, byte 46: %s (4).\n  ..Firma%15s1234567890001999%036d..\n%40s^\n' \
+printf 'refused at line 1, column 47, byte 46: %s (4).\n  ..Firma%15s1234567890001999%036d..\n%40s^\n' \
     'the bytes or the length of this field are wrong, or a divider is' '' 0 '' >"$work/wanted"
 check 'a long line is cut on both sides' diff "$work/wanted" "$work/out"
 same_answer 'a long first line' 1 20180101
@@ -223,7 +251,7 @@ same_answer 'account file 1,001' 3 20180101
 for letter in K S C E; do same_answer "an empty file, $letter" "$(number_of $letter)" 20180101; done
 tell check - --sheet C --day 2018-01-01 </dev/null
 check 'no standard input is an empty file' diff - "$work/out" <<END
-refused at line 1, byte 0: the file ends too early (3).
+refused at line 1, column 1, byte 0: the file ends too early (3).
   (the file ends here)
   ^
 END
@@ -245,12 +273,12 @@ account file 002001, kind 1501
   group due 2018-01-01, a payer for each item, sum 0.01, items 1
     payer  payee  bank  crowns  variable  specific  constant  priority  message, name
     19-19  705    8100    0.01         1         0      0558         5
-accepted, 8 rows, 1 warnings
+accepted, 3 payments, 100.04 crowns, 1 warning
 END
 cp "$work/out" "$work/shown"
 tell show - --day=2018-01-01 --sheet=K <"$file"
 check 'show of standard input' cmp "$work/out" "$work/shown"
-abo rewrite "$file" --sheet K --day 2018-01-01 >"$work/canonical"
+abo rewrite "$file" --sheet K --day 2018-01-01 --accept-warnings >"$work/canonical" 2>"$work/err"
 tell rewrite - --sheet K --day 2018-01-01 <"$work/canonical"
 check 'the canonical file is rewritten as itself' cmp "$work/out" "$work/canonical"
 
@@ -272,7 +300,7 @@ same_answer 'a large file with a fault near its end' 1 20180101
 # ---- the line of progress: on a terminal, for large input only ----
 
 progress() { # FILE: what the tool says with a terminal for its standard error, as one line
-    script -qec "$run $build/abo check $1 --sheet K --day 2018-01-01" /dev/null </dev/null | tr '\r\n' '  '
+    script -qec "$build/abo check $1 --sheet K --day 2018-01-01" /dev/null </dev/null | tr '\r\n' '  '
 }
 if command -v script >/dev/null; then
     check 'progress on a terminal' expr "$(progress "$work/large")" : '.*abo: reading, 2 MiB .*abo: judging, 2 MiB .*accepted, '
@@ -297,7 +325,133 @@ tell rewrite -o - --sheet C "$file" --day 2018-01-01
 check 'a dash is standard output' cmp "$work/out" host/runs/document.out
 cp "$file" "$work/-dashed"
 (cd "$work" && abo check --sheet C --day 2018-01-01 -- -dashed) >"$work/out"
-check 'a name that begins with a dash' grep -qx 'accepted, 3 rows, 0 warnings' "$work/out"
+check 'a name that begins with a dash' grep -qx 'accepted, 1 payment, 50.01 crowns, 0 warnings' "$work/out"
+
+# ---- rewriting never changes in silence ----
+
+long36=$(printf '%036d' 0)
+{ printf 'UHL1\n%s\n2 19 999 311217\n' "$c"; printf '19 2450000 0 03000558 0 %s NP:%s\n3 +\n5 +\n' "$long36" "$long36"; } >"$file"
+echo before >"$work/named"
+tell rewrite "$file" --sheet C --day 2018-01-01 -o "$work/named"
+check 'four warnings: the status is 1' [ "$status" -eq 1 ]
+check 'four warnings: the output stands as it was' [ "$(cat "$work/named")" = before ]
+check 'four warnings: nothing is printed' [ ! -s "$work/out" ]
+check 'four warnings: it says so' diff - "$work/err" <<END
+abo: $file is accepted with 4 warnings, so its rewriting would not be the same file: texts that are too long would be cut, and totals become the sums. Nothing was written. --accept-warnings writes it all the same.
+END
+tell rewrite "$file" --sheet C --day 2018-01-01 -o "$work/named" --accept-warnings
+check 'with --accept-warnings: the status is 0' [ "$status" -eq 0 ]
+check 'with --accept-warnings: how many there were' diff - "$work/err" <<END
+abo: $file was accepted with 4 warnings; what is written is what the bank makes of it.
+END
+tell check "$work/named" --sheet C --day 2018-01-01
+check 'one warning is left, of the past day' grep -qx 'accepted, 1 payment, 24500.00 crowns, 1 warning' "$work/out"
+tell check "$work/named" --sheet C --day 2018-01-01 --strict
+check '--strict: one warning is one too many' [ "$status $(cat "$work/out")" = '1 accepted, 1 payment, 24500.00 crowns, 1 warning' ]
+tell check "$work/named" --sheet C --day 2017-12-31 --strict
+check '--strict: without warnings the status is 0' [ "$status $(cat "$work/out")" = '0 accepted, 1 payment, 24500.00 crowns, 0 warnings' ]
+tell explain "$work/named" --sheet C --day 2018-01-01 --strict
+check '--strict: explain too' [ "$status $(cat "$work/out")" = '1 accepted rows 3 warnings 1' ]
+{ printf 'UHL1 and more\n%s\n' '1 1501 000000 0800'; printf '%s\n' "$g" "$i" '3 +' '5 +'; } >"$file"
+tell rewrite "$file" --sheet C --day 2018-01-01
+check 'what the sheet does not read: the status is 0' [ "$status" -eq 0 ]
+check 'what the sheet does not read is said' diff - "$work/err" <<END
+abo: note: of the first line, what the sheet does not read is not kept.
+abo: note: the account files' bank becomes the sheet's, 0300.
+END
+
+# ---- output that is whole or not there: host/common/output_test.sh tries each step; here the tool as a whole ----
+
+rm -rf "$work/folder"
+mkdir "$work/folder"
+cp "$work/large" "$file"
+echo before >"$work/folder/named"
+cp "$work/canonical" "$work/new"
+abo rewrite "$file" --sheet K --day 2018-01-01 >"$work/new"
+stands() { # the output is the old file or the new one, whole, and nothing is beside it
+    [ "$(ls -A "$work/folder")" = named ] && { [ "$(head -c 7 "$work/folder/named")" = before ] || cmp "$work/folder/named" "$work/new"; }
+}
+(ulimit -f 64 && abo rewrite "$file" --sheet K --day 2018-01-01 -o "$work/folder/named" 2>"$work/err")
+check 'a size limit: the status' [ $? -eq 2 ]
+check 'a size limit: it says so' grep -q 'named could not be written whole: File too large' "$work/err"
+check 'a size limit: the old file stands' [ "$(ls -A "$work/folder") $(cat "$work/folder/named")" = 'named before' ]
+for wait in 0.00 0.01 0.02 0.03 0.04 0.06 0.08 0.1 0.15 0.2; do
+    "$build/abo" rewrite "$file" --sheet K --day 2018-01-01 -o "$work/folder/named" 2>"$work/err" &
+    sleep "$wait"
+    kill -9 $! 2>"$work/err"
+    wait $! 2>"$work/err"
+    check "killed after $wait seconds: the output is the old file or the new one" stands
+done
+abo rewrite "$file" --sheet K --day 2018-01-01 -o "$work/folder/named"
+check 'and then it is the new one' cmp "$work/folder/named" "$work/new"
+ln -s folder/named "$work/link"
+tail -n +2 host/runs/document.in >"$file"
+tell rewrite "$file" --sheet C --day 2018-01-01 -o "$work/link"
+check 'a link is followed, and stays' [ "$(readlink "$work/link")" = folder/named ]
+check 'a link: what it leads to is replaced' cmp "$work/folder/named" host/runs/document.out
+{ echo before; abo rewrite "$file" --sheet C --day 2018-01-01 -o /dev/stdout; } >"$work/out"
+check '/dev/stdout: what was there stays' [ "$(head -n 1 "$work/out") $(tail -n +2 "$work/out" | cmp - host/runs/document.out)" = 'before ' ]
+
+# ---- letters: Windows-1250 as people see it, and texts that are something else ----
+
+{ head_of K; printf '%s\n2 19 1 010118\n%s 0 AV:P\370\355li\232 \236lu\235ou\350k\375 k\371\362\n3 +\n5 +\n' "$k" "$i"; } >"$file"
+tell show "$file" --sheet K --day 2018-01-01
+check 'show has Czech letters' grep -q '"Příliš žluťoučký kůň"$' "$work/out"
+tell check "$file" --sheet K --day 2018-01-01
+check 'check has no note on them' [ "$(cat "$work/out")" = 'accepted, 1 payment, 0.01 crowns, 0 warnings' ]
+{ head_of K; printf '%s\n2 19 1 010118\n%s 0 AV:Příliš|kůň|plain\n3 +\n5 +\n' "$k" "$i"; } >"$file"
+tell check "$file" --sheet K --day 2018-01-01
+check 'check notes UTF-8' diff - "$work/out" <<END
+accepted, 1 payment, 0.01 crowns, 0 warnings
+note: 2 texts look like UTF-8; the bank reads Windows-1250 and counts each byte, so letters with marks would come out as two others.
+END
+tell show "$file" --sheet K --day 2018-01-01
+check 'and show shows what the bank will see' grep -q '"PĹ™Ă�liĹˇ" "kĹŻĹ�" "plain"$' "$work/out"
+says K "$k" "$g" "$i 0 AV:řřřřřřřřřřřřřřřřřř" \
+    "refused at line 4, column 19, byte 110: the text breaks the sheet's rules on its start, its parts, their length or bars (14).
+  $i 0 AV:Ĺ™Ĺ™Ĺ™Ĺ™Ĺ™Ĺ™Ĺ™Ĺ™Ĺ™Ĺ™Ĺ™Ĺ™Ĺ™Ĺ™Ĺ™Ĺ™Ĺ™Ĺ™\n                    ^
+note: 1 text looks like UTF-8; the bank reads Windows-1250 and counts each byte, so letters with marks would come out as two others."
+
+# ---- habits: today, codes of banks, several files ----
+
+tail -n +2 host/runs/sheet_s.in >"$file"
+for sheet in s S 2 0800; do
+    tell check "$file" --sheet "$sheet" --day 1.1.2018
+    check "sheet $sheet" [ "$status" -eq 0 ]
+done
+{ printf 'UHL1\n%s\n2 19 1 %s\n%s\n3 +\n5 +\n' "$c" "$(date -u +%d%m%y)" "$i"; } >"$file"
+TZ=UTC0 abo check "$file" --sheet C --day today >"$work/out"
+check 'today is the day of the clock' [ "$(cat "$work/out")" = 'accepted, 1 payment, 0.01 crowns, 0 warnings' ]
+# of two places that are 26 hours apart, one has another day than UTC
+TZ=WEST12 abo check "$file" --sheet C --day TODAY >"$work/west"
+TZ=EAST-14 abo check "$file" --sheet C --day Today >"$work/east"
+check 'today is the day of the place' refuses cmp "$work/west" "$work/east"
+cp "$file" "$work/b file"
+tail -n +2 host/runs/sheet_s.in >"$file"
+tell check "$file" "$work/b file" "$work/none" --sheet S --day 2018-01-01
+check 'several files: the gravest status' [ "$status" -eq 2 ]
+check 'several files, each with its name' diff - "$work/out" <<END
+$file: accepted, 2 collections, 50.02 crowns, 0 warnings
+$work/b file:1:5: refused at line 1, column 5, byte 4: the line ends too early, or a divider is missing (4).
+  UHL1
+      ^
+note: the file names bank 0300, ČSOB, whose sheet is C; it was judged by sheet S, Česká spořitelna.
+END
+check 'several files: the one that is not there' diff - "$work/err" <<END
+abo: $work/none cannot be read: No such file or directory.
+END
+tell check "$file" "$work/b file" --sheet S --day 2018-01-01
+check 'several files, one refused: the status is 1' [ "$status" -eq 1 ]
+tell explain "$file" "$work/b file" --sheet S --day 2018-01-01
+check 'several files explained' [ "$(cut -d : -f 2 "$work/out")" = ' accepted rows 5 warnings 0
+ refused 4 line 1 byte 4' ]
+{ printf 'UHL1\n'; for kind in 1501 1502 1502 1504; do printf '1 %s 000000 0300\n%s\n%s\n3 +\n5 +\n' $kind "$g" "$i"; done; } >"$file"
+tell check "$file" --sheet C --day 2018-01-01
+check 'kinds of account files by their names' [ "$(cat "$work/out")" = \
+    'accepted, 1 payment, 0.01 crowns, 2 collections, 0.02 crowns, 1 instant payment, 0.01 crowns, 0 warnings' ]
+{ printf 'UHL1\n'; lines 999 "1 1501 @ 0300\n2 19 99999999999999 010118\n19 99999999999999 0 03000558\n3 +\n5 +\n"; } >"$file"
+tell check "$file" --sheet C --day 2018-01-01
+check 'a sum of 17 digits' [ "$(cat "$work/out")" = 'accepted, 999 payments, 998999999999990.01 crowns, 0 warnings' ]
 
 # ---- command lines that are wrong, and trouble with files: status 2, a sentence, no output ----
 
@@ -320,21 +474,33 @@ wrong "The option --shet is not known. $how" check "$file" --shet C --day 2018-0
 wrong "The option --sheets is not known. $how" check "$file" --sheets C --day 2018-01-01
 wrong "The option -x is not known. $how" explain -x "$file" --sheet C --day 2018-01-01
 wrong "The option --day lacks its value. $how" check "$file" --sheet C --day
-wrong "One file is taken at a time, and - is a second one. $how" check "$file" - --sheet C --day 2018-01-01
-for sheet in k X 0 5 11 KS ''; do
-    wrong "The sheet $sheet is none of K, S, C, E and 1, 2, 3, 4. $how" check "$file" --sheet "$sheet" --day 2018-01-01
+wrong "One file is rewritten at a time, and - is a second one. $how" rewrite "$file" - --sheet C --day 2018-01-01
+for option in --sheet=C --day=2018-01-01 --strict; do
+    wrong "The option ${option%%=*} was given twice. $how" check "$file" --strict --sheet C --day 2018-01-01 "$option"
 done
-for day in 20180101 2018-1-1 01-01-2018 2018-01-01x '' 2018/01/01 2O18-01-01; do
-    wrong "The day $day is not one spelled as in 2026-11-15. $how" check "$file" --sheet C --day "$day"
+wrong "The option -o was given twice. $how" rewrite "$file" --sheet C --day 2018-01-01 -o "$work/a" -o "$work/b"
+wrong "A file with warnings is not rewritten anyway, so rewrite does not take --strict. $how" \
+    rewrite "$file" --sheet C --day 2018-01-01 --strict
+wrong "Only rewrite takes --accept-warnings. $how" check "$file" --sheet C --day 2018-01-01 --accept-warnings
+for sheet in X 0 5 11 KS 81 0100 ''; do
+    wrong "The sheet $sheet is none of K, S, C or E, its number 1 to 4, or its bank's code 8100, 0800, 0300 or 6100. $how" \
+        check "$file" --sheet "$sheet" --day 2018-01-01
 done
-for day in 2018-02-29 2018-13-01 2018-00-01 2018-01-00 1999-12-31 2100-01-01; do
-    wrong 'The day is no real day of 2000 to 2099.' check "$file" --sheet C --day "$day"
+for day in 2018-1-1 01-01-2018 2018-01-01x '' 2018/01/01 2O18-01-01 1.1.18 1.1.2018. 201811 tomorrow; do
+    wrong "The day $day is not spelled as in 2026-11-15, 15.11.2026, 20261115 or today. $how" check "$file" --sheet C --day "$day"
+done
+for day in 2018-02-29 29.2.2018 20180229 2018-13-01 2018-00-01 2018-01-00 1999-12-31 2100-01-01; do
+    wrong "The day $day is no real day of 2000 to 2099. $how" check "$file" --sheet C --day "$day"
 done
 wrong "Only rewrite takes -o. $how" check "$file" --sheet C --day 2018-01-01 -o "$work/named"
 wrong "$work/none cannot be read: No such file or directory." check "$work/none" --sheet C --day 2018-01-01
 wrong "$work cannot be read: Is a directory." show "$work" --sheet C --day 2018-01-01
-wrong "$work/no/where could not be written whole: No such file or directory." \
+wrong "$work/no/where could not be written whole: no file can be made beside it (No such file or directory)." \
     rewrite "$file" --sheet C --day 2018-01-01 -o "$work/no/where"
+wrong "$work/new\\nline\\x1b[2J cannot be read: No such file or directory." \
+    check "$work/new$(printf '\nline\033[2J')" --sheet C --day 2018-01-01
+wrong "$work/\\xe9\\xe8 cannot be read: No such file or directory." check "$work/$(printf '\351\350')" --sheet C --day 2018-01-01
+wrong "chek\\x07 is no command. $how" "chek$(printf '\007')"
 if [ -z "$run" ]; then # an emulator may open files of its own in the place of what is closed
     abo check - --sheet C --day 2018-01-01 <&- >"$work/out" 2>"$work/err"
     check 'standard input that is closed' [ "$? $(cat "$work/err")" = '2 abo: Standard input cannot be read: Bad file descriptor.' ]
@@ -358,6 +524,27 @@ for word in help --help -h 'check --help'; do
         check "abo $word tells '$told'" grep -q -e "$told" "$work/out"
     done
 done
+for bank in 'K  8100  Komerční banka' 'S  0800  Česká spořitelna' 'C  0300  ČSOB' 'E  6100  Equa bank'; do
+    check "help names '$bank'" grep -q " $bank\$" "$work/out"
+done
+cp "$work/out" "$work/help"
 tell --version
-check 'the version' grep -Eqx 'abo [0-9]+(\.[0-9]+)*' "$work/out"
+check 'the version' [ "$(cat "$work/out")" = "abo $(sed -n 's/^#define ABO_VERSION "\(.*\)"$/\1/p' include/abo.h)" ]
+
+# ---- the page for man says what help says ----
+
+sed 's/\\-/-/g; s/\\(lq//g; s/\\(rq//g' host/abo/abo.1 >"$work/man"
+check "the page's version" grep -q "^\.TH ABO 1 [0-9-]* \"$(cat "$work/out")\"" "$work/man"
+# shellcheck disable=SC2013
+for option in $(grep -oE -e '(^| |\[)--?[a-z][a-z-]*' "$work/help" | tr -d ' [' | sort -u); do
+    check "the page has $option" grep -qE -e "(^| )$option( |\$)" "$work/man"
+done
+for command in check show explain rewrite; do check "the page has $command" grep -qx "\.B abo $command" "$work/man"; done
+grep -oE ' [KSCE]  [0-9]{4}  .*' "$work/help" | sed 's/^ \(.\)  [0-9]*/\1/' | while read -r letter bank; do
+    grep -qE "^$letter  [1-4]  [0-9]{4}  $bank\$" "$work/man" || echo "$letter $bank"
+done >"$work/lacking"
+check "the page has each sheet" [ ! -s "$work/lacking" ]
+if command -v groff >/dev/null; then
+    check 'the page is well formed' [ -z "$(groff -man -Tutf8 -K utf8 -ww -z host/abo/abo.1 2>&1)" ]
+fi
 last_line

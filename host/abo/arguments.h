@@ -3,17 +3,24 @@
 #define HOST_ABO_ARGUMENTS_H
 
 #include <stdbool.h>
+#include <stddef.h>
 #include <stdint.h>
 
 struct arguments {
-    bool help;
-    const char *file; /* NULL: none was named; `-` is standard input */
-    const char *out;  /* NULL: standard output */
-    uint64_t sheet;   /* 0: none was named */
-    uint64_t today;   /* YYYYMMDD, of any digits; 0: none was named */
+    bool help, strict, accept_warnings;
+    char **files; /* `-` is standard input */
+    size_t count;
+    const char *out;                    /* NULL: standard output */
+    const char *sheet_word, *day_word;  /* as they were given; NULL: not given */
+    uint64_t sheet, today;              /* YYYYMMDD, of any digits */
 };
 
-/* Takes the arguments behind a command, up to the NULL.  Says on standard error what it cannot take. */
+/* Takes the arguments behind a command, up to the NULL, and keeps the names of files in their place.  Says on standard error what
+   it cannot take. */
 bool take_arguments(struct arguments *a, char **argument);
+
+/* "abo: BEFORE WORD BEHIND `abo help` says how it is used." on standard error, the word with its control characters escaped;
+   false. */
+bool misused(const char *before, const char *word, const char *behind);
 
 #endif

@@ -5,10 +5,11 @@
 #include <inttypes.h>
 #include <string.h>
 
-#include "refusal.h"
+#include "../common/letters.h"
+#include "../common/sums.h"
 
 enum column { PAYER, PAYEE, BANK, CROWNS, VARIABLE, SPECIFIC, CONSTANT, PRIORITY, COLUMNS };
-enum { CELL = 48 }; /* room for two numbers of 64 bits and what divides them */
+enum { CELL = SUM_ROOM }; /* room for two numbers of 64 bits and what divides them */
 
 static const char *const titles[COLUMNS] = {
     "payer", "payee", "bank", "crowns", "variable", "specific", "constant", "priority",
@@ -30,7 +31,9 @@ static void spell_account(char *cell, struct abo_account a)
 
 static void spell_crowns(char *cell, uint64_t haler)
 {
-    snprintf(cell, CELL, "%" PRIu64 ".%02" PRIu64, haler / 100, haler % 100);
+    struct sum sum = {0, 0};
+    add_haler(&sum, haler);
+    spell_sum(cell, sum);
 }
 
 static void spell_day(char *cell, uint64_t day)
@@ -87,8 +90,7 @@ static void print_titles(FILE *to, const int width[COLUMNS])
 static void print_text(FILE *to, const uint8_t *bytes, uint64_t len)
 {
     fputc('"', to);
-    for (uint64_t i = 0; i < len; i++)
-        fputc(shown_byte(bytes[i]), to);
+    show_1250(to, bytes, (size_t)len);
     fputc('"', to);
 }
 

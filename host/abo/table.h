@@ -5,7 +5,7 @@
 #include <stdio.h>
 
 #include <abo.h>
-#include "input.h"
+#include "../common/input.h"
 
 /* Prints what abo_read accepted: its answer, the rows it filled and the file that the texts lie in. */
 void print_batch(FILE *to, const struct input *file,

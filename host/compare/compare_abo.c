@@ -3,7 +3,8 @@
  *
  *   compare_abo answer FILE SHEET DAY FOLDER   puts into the folder: `line`, the line of explaining; `canonical`, the canonical
  *                                              file; `items`, a line for each item, as the tool shows it but with one space
- *                                              between words.  The last two are empty if the file is refused
+ *                                              between words, and a dot for each letter above 126; `accepted`, what check says.
+ *                                              The last three are empty if the file is refused
  *   compare_abo make SHEET KIND BYTES          a valid file of about so many bytes (bench/files.h names the kinds)
  *   compare_abo generate SEED FILE             puts the file of a seed there; prints the sheet and the day to read it with
  *
@@ -106,6 +107,51 @@ static void items(const struct asked *a, FILE *to)
             print_item(to, a, a->rows.data + at);
 }
 
+/* Crowns of any size, without the tool's way of adding. */
+static void print_crowns(FILE *to, unsigned __int128 haler)
+{
+    char digits[50];
+    int count = 0;
+    for (unsigned __int128 rest = haler / 100; rest > 0 || count == 0; rest /= 10)
+        digits[count++] = (char)('0' + (int)(rest % 10));
+    while (count > 0)
+        fputc(digits[--count], to);
+    fprintf(to, ".%02d", (int)(haler % 100));
+}
+
+/* How many items account files of a kind have, and their sum. */
+static uint64_t items_of(const struct asked *a, uint64_t kind, unsigned __int128 *sum)
+{
+    uint64_t count = 0, file = 0;
+    *sum = 0;
+    for (size_t at = 0; at < a->rows.len; at += ABO_ROW_BYTES) {
+        const uint8_t *row = a->rows.data + at;
+        if (word_of(row, 0, 0) == ABO_ROW_FILE)
+            file = word_of(row, 0, 1);
+        if (word_of(row, 0, 0) != ABO_ROW_ITEM || file != kind)
+            continue;
+        *sum += word_of(row, 0, 6);
+        count++;
+    }
+    return count;
+}
+
+static void accepted(const struct asked *a, FILE *to)
+{
+    static const char *const one[] = {"payment", "collection", "priority payment", "instant payment"};
+    fprintf(to, "accepted");
+    for (uint64_t kind = 1501; kind <= 1504; kind++) {
+        unsigned __int128 sum;
+        uint64_t count = items_of(a, kind, &sum);
+        if (count == 0)
+            continue;
+        fprintf(to, ", %" PRIu64 " %s%s, ", count, one[kind - 1501], count > 1 ? "s" : "");
+        print_crowns(to, sum);
+        fprintf(to, " crowns");
+    }
+    fprintf(to, ", %" PRIu64 " warning%s\n", a->answer.warnings, a->answer.warnings == 1 ? "" : "s");
+}
+
 /* Puts into a file of the folder what is to be said, or nothing. */
 static bool put(const struct asked *a, const char *folder, const char *name,
                 void (*say)(const struct asked *, FILE *))
@@ -130,7 +176,8 @@ static int answer(char **argument)
     uint64_t number = a.answer.number;
     bool whole = put(&a, argument[3], "line", explain) &&
                  put(&a, argument[3], "canonical", number == 0 ? rewrite : NULL) &&
-                 put(&a, argument[3], "items", number == 0 ? items : NULL);
+                 put(&a, argument[3], "items", number == 0 ? items : NULL) &&
+                 put(&a, argument[3], "accepted", number == 0 ? accepted : NULL);
     text_free(&a.file);
     text_free(&a.rows);
     return !whole || number == 1 || number == 2 ? 2 : number == 0 ? 0 : 1;

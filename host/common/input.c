@@ -8,6 +8,8 @@
 #include <string.h>
 #include <unistd.h>
 
+#include "names.h"
+
 enum { MEBIBYTE = 1 << 20, FIRST_ROOM = 1 << 16 };
 
 static int shown; /* characters of the line of progress that stands there now */
@@ -19,12 +21,12 @@ void end_progress(void)
     shown = 0;
 }
 
-void say_progress(const struct input *in, const char *doing)
+void say_progress(const struct input *in, const char *program, const char *doing)
 {
     if (in->len < MEBIBYTE || !isatty(fileno(stderr)))
         return;
     end_progress();
-    shown = fprintf(stderr, "abo: %s, %zu MiB", doing, in->len / MEBIBYTE);
+    shown = fprintf(stderr, "%s: %s, %zu MiB", program, doing, in->len / MEBIBYTE);
     fflush(stderr);
 }
 
@@ -41,7 +43,7 @@ static bool grow(struct input *in, size_t *room)
 }
 
 /* Reads in portions of a mebibyte at most, so that a slow pipe shows its progress.  Gives back NULL or what went wrong. */
-static const char *take_all(struct input *in, FILE *from)
+static const char *take_all(struct input *in, const char *program, FILE *from)
 {
     size_t room = 0, said = 0, got;
     do {
@@ -53,21 +55,20 @@ static const char *take_all(struct input *in, FILE *from)
         in->len += got;
         if (in->len - said >= MEBIBYTE) {
             said = in->len;
-            say_progress(in, "reading");
+            say_progress(in, program, "reading");
         }
     } while (got > 0);
     return ferror(from) ? strerror(errno) : NULL;
 }
 
-bool read_whole(struct input *in, const char *name)
+bool read_whole(struct input *in, const char *program, const char *name)
 {
     bool standard = strcmp(name, "-") == 0;
     FILE *from = standard ? stdin : fopen(name, "rb");
-    const char *fault = from == NULL ? strerror(errno) : take_all(in, from);
+    const char *fault = from == NULL ? strerror(errno) : take_all(in, program, from);
     end_progress();
     if (fault != NULL)
-        fprintf(stderr, "abo: %s cannot be read: %s.\n",
-                standard ? "Standard input" : name, fault);
+        tell_fault(program, name, "Standard input", "cannot be read", fault);
     if (from != NULL && !standard)
         fclose(from);
     return fault == NULL;

@@ -1,0 +1,25 @@
+/* A file in hand, and its rewriting: never changed in silence. */
+#ifndef HOST_ABO_REWRITING_H
+#define HOST_ABO_REWRITING_H
+
+#include <abo.h>
+#include "../common/input.h"
+#include "arguments.h"
+
+/* The gravest comes last. */
+enum status { ACCEPTED = 0, REFUSED = 1, TROUBLE = 2 };
+
+/* What was asked, what was read, and what the library made of it. */
+struct job {
+    const struct arguments *ask;
+    const char *name;
+    struct input file;
+    struct abo_answer answer;
+    union abo_row *rows;
+};
+
+/* Writes the canonical spelling of a file that was accepted, without warnings or with --accept-warnings, and says on standard error
+   what of the file it does not keep. */
+enum status rewrite_accepted(const struct job *j);
+
+#endif

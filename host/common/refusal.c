@@ -1,0 +1,122 @@
+#include "refusal.h"
+
+#include <inttypes.h>
+#include <string.h>
+
+#include <abo_say.h>
+#include "letters.h"
+#include "names.h"
+#include "place.h"
+
+/* A line without its end. */
+struct line {
+    const uint8_t *bytes;
+    size_t len, at; /* `at` is where it starts in the file */
+};
+
+static struct line line_of(const struct input *file, uint64_t number)
+{
+    struct abo_found f = abo_line(file->bytes, file->len, number);
+    struct line l = {file->bytes + f.at, (size_t)f.len, (size_t)f.at};
+    return l;
+}
+
+static bool starts(const struct line *l, const char *with)
+{
+    size_t len = strlen(with);
+    return l->len >= len && memcmp(l->bytes, with, len) == 0;
+}
+
+static bool ends_early(const struct input *file, const struct abo_answer *a)
+{
+    return a->number == ABO_BAD_ORDER && a->byte == file->len;
+}
+
+/* What the number says, or more closely where the place or the sheet tells more. */
+static const char *reason(const struct input *file, const struct line *l, uint64_t sheet, const struct abo_answer *a)
+{
+    bool warns = sheet == ABO_SHEET_C || sheet == ABO_SHEET_E;
+    if (ends_early(file, a))
+        return "the file ends too early";
+    if (a->number == ABO_BAD_FIELD && a->byte == l->at + l->len)
+        return "the line ends too early, or a divider is missing";
+    if (a->number == ABO_BAD_NUMBER)
+        return a->line == 1 ? "the interval's start is above its end"
+                            : "the number's first three digits are outside the interval or were used before";
+    if (a->number == ABO_BAD_TOTAL)
+        return warns ? "the sum of the group's items has more than 14 digits" : "the group's total is not the sum of its items";
+    if (a->number == ABO_TOO_MANY)
+        return starts(l, "1 ") ? "this account file is one more than a file may have" : "this item is one more than the sheet takes";
+    return abo_say_number(a->number);
+}
+
+/* The sheet whose bank the file's first account file names, if that is known; else 0. */
+static uint64_t named_sheet(const struct input *file)
+{
+    enum { CODE = 4 };
+    struct line l = line_of(file, 2);
+    const struct abo_sheet_words *words;
+    if (!starts(&l, "1 ") || l.len < CODE + 1 || l.bytes[l.len - CODE - 1] != ' ')
+        return 0;
+    for (uint64_t sheet = 1; (words = abo_say_sheet(sheet)) != NULL; sheet++)
+        if (memcmp(l.bytes + l.len - CODE, words->code, CODE) == 0)
+            return sheet;
+    return 0;
+}
+
+/* A file may be in order, and only be judged by another bank's rules. */
+static void note_other_sheet(FILE *to, const struct input *file, uint64_t sheet)
+{
+    uint64_t other = named_sheet(file);
+    const struct abo_sheet_words *words = abo_say_sheet(other), *asked = abo_say_sheet(sheet);
+    if (words == NULL || asked == NULL || other == sheet)
+        return;
+    fprintf(to, "note: the file names bank %s, %s, whose sheet is %c; it was judged by sheet %c, %s.\n", words->code, words->bank,
+            words->letter, asked->letter, asked->bank);
+}
+
+size_t utf8_texts(const union abo_row *rows, size_t count, const uint8_t *file)
+{
+    size_t texts = 0;
+    for (size_t i = 0; i < count; i++) {
+        const struct abo_item_row *item = &rows[i].item;
+        if (rows[i].word[ABO_FIELD_ROW] != ABO_ROW_ITEM)
+            continue;
+        for (unsigned k = 0; k < ABO_PARTS; k++)
+            texts += looks_like_utf8(file + item->part[k].place, (size_t)item->part[k].length);
+        texts += looks_like_utf8(file + item->name.place, (size_t)item->name.length);
+    }
+    return texts;
+}
+
+void note_utf8(FILE *to, size_t texts)
+{
+    if (texts > 0)
+        fprintf(to,
+                "note: %zu text%s like UTF-8; the bank reads Windows-1250 and counts each byte, so letters with marks would come out "
+                "as two others.\n",
+                texts, texts == 1 ? " looks" : "s look");
+}
+
+void print_refusal(FILE *to, const char *name, const struct input *file,
+                   uint64_t sheet, const struct abo_answer *a)
+{
+    struct line l = line_of(file, a->line);
+    size_t at = (size_t)a->byte - l.at;
+    if (a->line == 0) { /* the sheet or the day, before the file is looked at */
+        fprintf(to, "refused: %s (%" PRIu64 ").\n", abo_say_number(a->number), a->number);
+        return;
+    }
+    if (name != NULL) {
+        put_name(to, name);
+        fprintf(to, ":%" PRIu64 ":%zu: ", a->line, at + 1);
+    }
+    fprintf(to, "refused at line %" PRIu64 ", column %zu, byte %" PRIu64 ": %s (%" PRIu64 ").\n", a->line, at + 1, a->byte,
+            reason(file, &l, sheet, a), a->number);
+    if (ends_early(file, a))
+        fputs("  (the file ends here)\n  ^\n", to);
+    else
+        show_place(to, l.bytes, l.len, at, 1);
+    note_other_sheet(to, file, sheet);
+    note_utf8(to, looks_like_utf8(l.bytes, l.len));
+}

@@ -1,0 +1,22 @@
+/* A refused file told to a person: a sentence with its place, the line with a caret, and what else the file lets one guess. */
+#ifndef HOST_COMMON_REFUSAL_H
+#define HOST_COMMON_REFUSAL_H
+
+#include <stdio.h>
+
+#include <abo.h>
+#include "input.h"
+
+/* Tells an answer of abo_read that is neither 0 nor 16, as
+       refused at line 2, column 15, byte 74: the payer's bank is not the sheet's (8).
+   With `name` not NULL, the sentence begins with it as NAME:LINE:COLUMN. */
+void print_refusal(FILE *to, const char *name, const struct input *file,
+                   uint64_t sheet, const struct abo_answer *answer);
+
+/* How many message parts and names of the rows look like UTF-8; they lie in the file that was read. */
+size_t utf8_texts(const union abo_row *rows, size_t count, const uint8_t *file);
+
+/* A note where texts look like UTF-8, since the bank reads them as Windows-1250 and counts each of their bytes. */
+void note_utf8(FILE *to, size_t texts);
+
+#endif
