@@ -14,8 +14,7 @@ shows() { # STATUS PROGRAM ARG ..: the command as it is typed, then what it prin
     shift 2
     echo
     echo "\$ build/$program $(echo "$*" | sed "s|$out/||g")"
-    # shellcheck disable=SC2086
-    $run "$build/$program" "$@" 2>&1
+    "$build/$program" "$@" 2>&1
     [ $? -eq "$due" ] || exit 1
 }
 

@@ -1,7 +1,7 @@
 /*
  * A ledger of wages and invoices, and the batch that it becomes: rows for the
  * library, and for each field the bytes of the ledger that it came from.
- * The format of a ledger is described at the top of orderbook.c.
+ * help.c describes the format of a ledger.
  */
 #ifndef ORDERBOOK_LEDGER_H
 #define ORDERBOOK_LEDGER_H
@@ -11,44 +11,38 @@
 #include <stdint.h>
 
 #include <abo.h>
+#include "../common/input.h"
+#include "recode.h"
 
 /* The header's fields are numbered from 1; the date is the command line's. */
-enum { HEADER_FIELDS = ABO_HEADER_TO + 1 };
+enum { HEADER_FIELDS = ABO_HEADER_TO + 1, FAULT_ROOM = 512 };
 
 struct span {
     size_t at, len;
 };
 
 struct ledger {
-    const uint8_t *bytes; /* also the bytes that the rows' texts lie in */
-    size_t len;
+    struct recoded text; /* the rows' texts lie in its bytes too */
+    bool names, firm; /* whether names of payees, and the firm's, are written */
     union abo_row *rows;
     struct span (*spans)[ABO_ROW_WORDS];
     size_t count, room;
+    struct abo_header header; /* without its date */
     struct span head[HEADER_FIELDS];
-    const uint8_t *name;
-    size_t name_len;
-    uint8_t padded[ABO_NAME_BYTES];
-    uint64_t client, from, to;
     struct abo_account payer; /* of the groups that follow */
     struct span payer_span;
-    bool names;       /* whether names go into the rows */
-    size_t names_out; /* how many did not */
-    const char *fault;
+    bool payer_waits; /* no group has come behind the payer line yet */
+    bool collects;    /* the last account file's kind takes money in */
+    size_t names_out; /* how many names do not go into the file */
+    size_t lines;     /* that are neither blank nor comments */
+    char fault[FAULT_ROOM];
     struct span fault_span;
 };
 
-/* YYYY-MM-DD as the number YYYYMMDD. Only the form is tested here; whether it
- * is a real day is for the library to say. */
-bool day_of(const uint8_t *bytes, size_t len, uint64_t *day);
-
-/* One digit or more, as far as 64 bits hold them. */
-bool digits_of(const uint8_t *bytes, size_t len, uint64_t *number);
-
 /* False if a line cannot be understood: then fault says why, and fault_span
- * where. names says whether the sheet has a place for names. */
-bool ledger_take(struct ledger *l, const uint8_t *bytes, size_t len,
-                 bool names);
+ * where. What goes into the file depends on the sheet. */
+bool ledger_take(struct ledger *l, const struct input *from,
+                 enum encoding encoding, uint64_t sheet);
 
 /* Where the field of a row came from; row 0 is the header. A row that is
  * missing would have stood at the ledger's end. */

@@ -1,93 +1,291 @@
 #!/bin/sh
 # The order book on the ledgers and bank files of host/ledger. What it says in a case and its exit status are those of CASE.expected,
-# and the file that it writes is CASE.kpc, byte by byte; where it refuses, it leaves no file. The last line is 'N passed, M failed', and
-# the exit status is 0 only if nothing failed. host/target.sh names the variables.
+# and the file that it writes is CASE.kpc, byte by byte; where it refuses, it leaves no file. lines.expected has a ledger of a few lines in
+# each case, commands.expected a command line. The last line is 'N passed, M failed', and the exit status is 0 only if nothing failed.
+# host/target.sh names the variables.
 set -u
+# what the system says of faults is in English
+LC_ALL=C
+export LC_ALL
 cd "$(dirname "$0")/../.." || exit 2
 . host/target.sh
 . host/tally.sh
 build_test orderbook || exit 2
 work=$build/ledger
+rm -rf "$work"
 mkdir -p "$work" || exit 2
 cases=host/ledger
+day=2026-11-15
 
-book() { $run "$build/orderbook" "$@"; }
+book() { "$build/orderbook" "$@"; }
+
+tell() { # ARG ..: what it says is kept in out and err, and its status
+    book "$@" >"$work/out" 2>"$work/err"
+    status=$?
+}
 
 run_case() { # CASE ARG ..: what it says, and its status behind it, are CASE.expected
     case=$1
     shift
-    book "$@" >"$work/$case.out" 2>"$work/$case.err"
-    status=$?
-    { cat "$work/$case.out" "$work/$case.err" && echo "status $status"; } >"$work/$case.said"
+    tell "$@"
+    { cat "$work/out" "$work/err" && echo "status $status"; } >"$work/$case.said"
     check "$case: what it says" diff "$cases/$case.expected" "$work/$case.said"
 }
 
-write_case() { # CASE LEDGER SHEET DAY: the file is CASE.kpc, or there is none
-    rm -f "$work/$1.kpc"
-    run_case "$1" "$cases/$2.txt" --sheet "$3" --day "$4" -o "$work/$1.kpc"
-    if [ -f "$cases/$1.kpc" ]; then
-        check "$1: the file" cmp "$cases/$1.kpc" "$work/$1.kpc"
+write_case() { # CASE LEDGER SHEET ARG ..: the file is CASE.kpc, or there is none
+    name=$1 ledger=$2 sheet=$3
+    shift 3
+    run_case "$name" "$cases/$ledger.txt" --sheet "$sheet" --day "$day" -o "$work/$name.kpc" "$@"
+    if [ -f "$cases/$name.kpc" ]; then
+        check "$name: the file" cmp "$cases/$name.kpc" "$work/$name.kpc"
     else
-        check "$1: no file is left behind" [ ! -e "$work/$1.kpc" ]
+        check "$name: no file is left behind" [ ! -e "$work/$name.kpc" ]
     fi
 }
 
+writes() { # FILE ARG ..: it accepts, and what goes to standard output is the file
+    written=$1
+    shift
+    tell "$@"
+    [ "$status" -eq 0 ] && cmp "$work/out" "$written" || { cat "$work/err"; false; }
+}
+
+refused() { # STATUS SENTENCE ARG ..: it ends so, says this in its first line, and writes nothing to standard output
+    due=$1 sentence=$2
+    shift 2
+    tell "$@"
+    [ "$status" -eq "$due" ] && [ "$(head -n 1 "$work/err")" = "orderbook: $sentence" ] && [ ! -s "$work/out" ] ||
+        { echo "status $status" && cat "$work/err"; false; }
+}
+
+expected() { # FILE MARK NUMBER: the lines of the case of that number, without comments
+    awk -v mark="$2" -v number="$3" 'substr($0, 1, length(mark)) == mark { count++ } count == number && !/^#/' "$cases/$1.expected"
+}
+
+same_as_expected() { # FILE MARK NUMBER: what was said is what the case has
+    expected "$1" "$2" "$3" | diff - "$work/said"
+}
+
+# ---- ledgers that become files, and files that are read again ----
+
 for sheet in K S C E; do
-    write_case "pond_$sheet" pond $sheet 2026-11-15
+    write_case "pond_$sheet" pond $sheet
+    cp "$work/out" "$work/first"
     # what was written is shown the same when it is read from the disk
-    check "pond_$sheet: it is read again" book --read "$work/pond_$sheet.kpc" --sheet $sheet --day 2026-11-15
-    printf '%s\n' "$said" >"$work/again"
-    head -n "$(wc -l <"$work/again")" "$work/pond_$sheet.out" >"$work/table"
-    check "pond_$sheet: it is read as the same" cmp "$work/table" "$work/again"
+    tell --read "$work/pond_$sheet.kpc" --sheet $sheet --day "$day"
+    check "pond_$sheet: it is read again" [ "$status" -eq 0 ]
+    head -n "$(wc -l <"$work/out")" "$work/first" >"$work/table"
+    check "pond_$sheet: it is read as the same" cmp "$work/table" "$work/out"
+done
+write_case bad_account_K bad_account K
+write_case bad_message_C bad_message C
+write_case bad_day_K bad_day K
+# the same ledgers where they are no fault: another sheet carries the message, and C only warns of the day, in two places
+write_case message_E bad_message E
+write_case past_day_C bad_day C
+
+# ---- lines that could mean two things, letters, and refusals by field and sheet ----
+
+front() { # none, head or due: what stands before a case's own lines
+    [ "$1" = none ] && return
+    printf 'firm Rybnik Pond s.r.o.\nclient 1234567890\ninterval 001 002\npayer 174-1999738514\n'
+    [ "$1" = head ] || printf 'file 1501 001001\ndue 2026-11-20\n'
+}
+
+number=0
+grep '^== ' "$cases/lines.expected" >"$work/lines"
+while read -r mark front sheet line; do
+    number=$((number + 1))
+    { front "$front"; printf '%b\n' "$line"; } >"$work/line.txt"
+    tell - --sheet "$sheet" --day "$day" <"$work/line.txt"
+    {
+        printf '%s\n' "$mark $front $sheet $line"
+        tr -d '\r' <"$work/out" | iconv -f CP1250 -t UTF-8
+        cat "$work/err"
+        echo "status $status"
+    } >"$work/said"
+    check "lines, case $number" same_as_expected lines '== ' "$number"
+done <"$work/lines"
+check 'lines: all were tried' [ "$number" -eq "$(grep -c '^== ' "$cases/lines.expected")" ]
+
+# one item or account file too many
+awk 'BEGIN {
+    print "firm R\nclient 1\ninterval 0 999\npayer 19-19\nfile 1501 000001\ndue 2026-11-20"
+    for (i = 0; i < 1001; i++) print "wage Z 19-19/0800 5 vs=1"
+}' >"$work/items"
+run_case items_S - --sheet S --day "$day" <"$work/items"
+awk 'BEGIN {
+    print "firm R\nclient 1\ninterval 0 999\npayer 19-19"
+    for (i = 0; i < 1001; i++) print "file 1501 000001\ndue 2026-11-20\nwage Z 19-19/0800 5 vs=1"
+}' >"$work/files"
+run_case files_E - --sheet E --day "$day" <"$work/files"
+awk 'BEGIN {
+    print "firm R\nclient 1\ninterval 0 999\npayer 19-19\nfile 1501 000001\ndue 2026-11-20"
+    for (i = 0; i < 100000; i++) print "wage Z 19-19/0800 5 vs=1"
+}' >"$work/items"
+run_case items_E - --sheet E --day "$day" <"$work/items"
+
+# ---- encodings ----
+
+for sheet in C K; do
+    write_case "czech_$sheet" czech $sheet
+    printf '\357\273\277' | cat - $cases/czech.txt >"$work/marked"
+    check "a byte order mark is passed over on $sheet" writes $cases/czech_$sheet.kpc "$work/marked" --sheet $sheet --day "$day"
+done
+cp "$work/err" "$work/table"
+for encoding in cp1250 Windows-1250; do
+    check "a ledger by --encoding $encoding" \
+        writes $cases/czech_K.kpc $cases/czech_1250.txt --sheet K --day "$day" --encoding $encoding
+    check "a ledger by --encoding $encoding: the table" cmp "$work/table" "$work/err"
+done
+check 'utf-8 by its name' writes $cases/czech_K.kpc $cases/czech.txt --sheet K --day "$day" --encoding=UTF-8
+iconv -f CP1250 -t UTF-8 $cases/czech_C.kpc >"$work/utf8.kpc"
+tell --read "$work/utf8.kpc" --sheet C --day "$day"
+check 'a file whose texts look like UTF-8 is shown with a note' grep -q '^note: 7 texts look like UTF-8' "$work/out"
+run_case windows_1250 $cases/czech_1250.txt --sheet K --day "$day"
+run_case not_1250 $cases/czech.txt --sheet K --day "$day" --encoding cp1250
+iconv -f UTF-8 -t UTF-16 $cases/czech.txt >"$work/utf16"
+check 'UTF-16 is known' refused 2 'the ledger is UTF-16: save it as UTF-8.' "$work/utf16" --sheet K --day "$day"
+for byte in 81 83 88 90 98; do
+    { front due; printf 'wage Z 19-19/0800 5 vs=1 a%b\n' "\\0$(printf '%o' "0x$byte")"; } >"$work/line.txt"
+    check "the byte 0x$byte is no letter" \
+        refused 2 "the message goes into the file. Here stands the byte 0x$byte, which is no letter of Windows-1250." \
+        "$work/line.txt" --sheet C --day "$day" --encoding cp1250
 done
 
-write_case bad_account_K bad_account K 2026-11-15
-write_case bad_message_C bad_message C 2026-11-15
-write_case bad_day_K bad_day K 2026-11-15
+# ---- the command line ----
 
-# The same ledgers where they are no fault: another sheet carries the message, and C only warns of the day.
-write_case message_E bad_message E 2026-11-15
-write_case past_day_C bad_day C 2026-11-15
+number=0
+grep '^\$' "$cases/commands.expected" >"$work/commands"
+while read -r mark arguments; do
+    number=$((number + 1))
+    # shellcheck disable=SC2086
+    tell $arguments </dev/null
+    { echo "$mark${arguments:+ $arguments}"; cat "$work/out" "$work/err"; echo "status $status"; } >"$work/said"
+    check "commands, case $number" same_as_expected commands '$' "$number"
+done <"$work/commands"
+check 'commands: all were tried' [ "$number" -eq "$(grep -c '^\$' "$cases/commands.expected")" ]
+for sheet in 2 s 0800; do
+    check "sheet $sheet is S" writes $cases/pond_S.kpc $cases/pond.txt --sheet $sheet --day "$day"
+done
+for spelled in 15.11.2026 20261115; do
+    check "the day $spelled" writes $cases/pond_K.kpc --sheet=K --day=$spelled -- $cases/pond.txt
+done
+# whatever today is, its name is not a fault of the command line
+check 'the day today' [ "$(book $cases/pond.txt --sheet C --day today 2>&1 | grep -c 'no day')" -eq 0 ]
+check 'a ledger on standard input' writes $cases/pond_K.kpc - --sheet K --day "$day" <$cases/pond.txt
+check 'the table then goes to standard error' [ "$(tail -n 1 "$work/err")" = 'Written: 518 bytes.' ]
+check 'a name that would do something to a terminal is escaped' \
+    refused 2 'a\x1b[31m\n. cannot be read: No such file or directory.' "$(printf 'a\033[31m\n.')" --sheet K --day "$day"
 
-# What only the library finds in a ledger: structure, lengths, days.
-write_case no_account_file_K no_account_file K 2026-11-15
-write_case five_parts_K five_parts K 2026-11-15
-write_case long_firm_K long_firm K 2026-11-15
-write_case no_item_K no_item K 2026-11-15
-write_case priority_S priority S 2026-11-15
-write_case unreal_day_E unreal_day E 2026-11-15
-write_case czech_C czech C 2026-11-15
-write_case czech_1250_C czech_1250 C 2026-11-15
+version=$(sed -n 's/^#define ABO_VERSION "\(.*\)"$/\1/p' include/abo.h)
+check 'the version' [ "$(book --version)" = "orderbook $version" ]
 
-# Lines that cannot be understood.
-write_case bad_amount_K bad_amount K 2026-11-15
-write_case no_client_K no_client K 2026-11-15
+for help in --help -h; do
+    tell $help
+    check "$help: the status" [ "$status" -eq 0 ]
+    check "$help: nothing on standard error" [ ! -s "$work/err" ]
+done
+cp "$work/out" "$work/help"
+for word in --sheet --day --read --encoding -o vs ks ss priority firm client interval payer file due wage invoice 8100 0800 0300 6100 \
+    15.11.2026 20261115 today 20.11.2026; do
+    check "the help names $word" grep -qw -e "$word" "$work/help"
+done
+sed -n '/For example:/,$p' "$work/help" | tail -n +3 >"$work/example"
+tell - --sheet K --day "$day" <"$work/example"
+check "the help's example is a ledger" grep -q '^The bank accepts it: 2 payments, 29330.20 crowns, 0 warnings.$' "$work/err"
 
-# Sheets and days as they are given.
-book $cases/pond.txt --sheet 2 --day 2026-11-15 >"$work/out" 2>"$work/table"
-check 'sheet 2 is sheet S' cmp "$work/out" $cases/pond_S.kpc
-write_case sheet_seven pond 7 2026-11-15
-write_case sheet_letter pond X 2026-11-15
-write_case day_unreal pond K 2026-02-30
-write_case day_early pond K 1999-12-31
-write_case day_spelling pond K 15.11.2026
-write_case day_after_due pond S 2026-11-17
+# ---- output that is whole or not there: host/common/output_test.sh tries each step; here the order book as a whole ----
 
-# Files of a bank that are refused.
-run_case read_total --read $cases/bad_total.kpc --sheet K --day 2026-11-15
-run_case read_early_end --read $cases/early_end.kpc --sheet K --day 2026-11-15
-run_case read_empty --read /dev/null --sheet K --day 2026-11-15
-run_case read_other_sheet --read $cases/pond_S.kpc --sheet E --day 2026-11-15
+folder=$work/folder
+mkdir "$folder"
+fresh() { # a folder with a ledger and an old file in it
+    rm -rf "$folder"
+    mkdir "$folder"
+    cp $cases/pond.txt "$folder/led.txt"
+    echo old >"$folder/old.kpc"
+}
+stands() { # NAME ..: the ledger and the old file are as they were, and nothing is beside them but these
+    cmp $cases/pond.txt "$folder/led.txt" && [ "$(cat "$folder/old.kpc")" = old ] &&
+        [ "$(ls -A "$folder" | tr '\n' ' ')" = "$(printf '%s\n' led.txt old.kpc "$@" | sort | tr '\n' ' ')" ] || { ls -lA "$folder"; false; }
+}
 
-# Without -o the file goes to standard output.
-book $cases/pond.txt --sheet C --day 2026-11-15 >"$work/out" 2>"$work/table"
-check 'standard output is the file' cmp "$work/out" $cases/pond_C.kpc
-check 'standard error is the table' cmp "$work/table" "$work/pond_C.out"
+# by whatever name, the ledger is not written to
+lost='leads to the file that is read, which would be lost. `orderbook --help` says how it is used.'
+fresh
+ln -s led.txt "$folder/symbolic"
+ln "$folder/led.txt" "$folder/hard"
+for name in led.txt ../folder/led.txt symbolic hard; do
+    check "-o $name is the ledger" refused 2 "$folder/$name $lost" "$folder/led.txt" --sheet K --day "$day" -o "$folder/$name"
+    check "-o $name: the ledger stands" stands symbolic hard
+done
+check '-o is the ledger on standard input' refused 2 "$folder/led.txt $lost" - --sheet K --day "$day" -o "$folder/led.txt" <"$folder/led.txt"
+book "$folder/led.txt" --sheet K --day "$day" >>"$folder/led.txt" 2>"$work/err"
+check 'the end of the ledger is no output either' [ $? -eq 2 ]
+check 'the ledger stands' stands symbolic hard
 
-# The command line.
-run_case no_ledger --sheet K --day 2026-11-15
-run_case twice $cases/pond.txt --sheet K --sheet S --day 2026-11-15
-run_case not_there $cases/nowhere.txt --sheet K --day 2026-11-15
-run_case itself $cases/pond.txt --sheet K --day 2026-11-15 -o $cases/pond.txt
+# a file that is not written in one go, stopped in its middle
+awk 'BEGIN {
+    print "firm R\nclient 1\ninterval 0 999\npayer 19-19\nfile 1501 000001\ndue 2026-11-20"
+    for (i = 0; i < 20000; i++) print "wage Z 19-19/0800 5 vs=1"
+}' >"$work/items"
+book "$work/items" --sheet E --day "$day" >"$work/new.kpc" 2>"$work/err"
+fresh
+(ulimit -f 64 && book "$work/items" --sheet E --day "$day" -o "$folder/old.kpc" >/dev/null 2>"$work/err")
+check 'a size limit: the status' [ $? -eq 2 ]
+check 'a size limit: it says so' [ "$(cat "$work/err")" = "orderbook: $folder/old.kpc could not be written whole: File too large." ]
+check 'a size limit: the old file stands' stands
+tell "$folder/led.txt" --sheet S --day 2026-11-17 -o "$folder/old.kpc"
+check 'a refusal: the old file stands' stands
+tell "$folder/led.txt" --sheet K --day "$day" -o "$folder"
+check 'a folder: the status' [ "$status" -eq 2 ]
+check 'a folder: it says so' [ "$(cat "$work/err")" = "orderbook: $folder could not be written whole: Is a directory." ]
+check 'a folder: nothing is in it' stands
+if [ -c /dev/full ]; then
+    tell "$folder/led.txt" --sheet K --day "$day" -o /dev/full
+    check 'a full device: the status' [ "$status" -eq 2 ]
+    check 'a full device: it says so' [ "$(cat "$work/err")" = 'orderbook: /dev/full could not be written whole: No space left on device.' ]
+    book "$folder/led.txt" --sheet K --day "$day" -o "$folder/new.kpc" >/dev/full 2>"$work/err"
+    check 'a table that is lost: the status' [ $? -eq 2 ]
+    check 'a table that is lost: the file is whole' cmp $cases/pond_K.kpc "$folder/new.kpc"
+fi
+check '/dev/stdout is the file, and not the table too' writes $cases/pond_K.kpc "$folder/led.txt" --sheet K --day "$day" -o /dev/stdout
+ln -s old.kpc "$folder/link"
+tell "$folder/led.txt" --sheet K --day "$day" -o "$folder/link"
+check 'a link is followed' cmp $cases/pond_K.kpc "$folder/old.kpc"
+check 'a link stays' [ "$(readlink "$folder/link")" = old.kpc ]
+
+# killed while it reads, writes the table or the file: the old file stands, or the new one does
+fresh
+whole() { # the old file or the new one, and nothing beside it
+    cmp -s "$work/new.kpc" "$folder/old.kpc" && echo old >"$folder/old.kpc"
+    stands
+}
+for wait in 0.00 0.02 0.04 0.08 0.16; do
+    "$build/orderbook" "$work/items" --sheet E --day "$day" -o "$folder/old.kpc" >/dev/null 2>"$work/err" &
+    sleep "$wait"
+    kill -9 $! 2>"$work/err"
+    wait $! 2>"$work/err"
+    check "killed after $wait seconds: the output is the old file or the new one" whole
+done
+
+# a file that may not be written to; root may, so another user tries
+mine=$(mktemp -d) || exit 2
+trap 'chmod -R u+w "$mine" && rm -rf "$mine"' EXIT
+chmod 755 "$mine"
+for program in "$build/orderbook" "$build/x86-64/orderbook"; do [ ! -f "$program" ] || cp "$program" "$mine/orderbook"; done
+cp $cases/pond.txt "$mine/led.txt"
+mkdir -m 777 "$mine/theirs"
+echo old >"$mine/theirs/old.kpc"
+chmod 444 "$mine/theirs/old.kpc" "$mine/led.txt"
+as_other() { # COMMAND ..
+    if [ "$(id -u)" -eq 0 ]; then setpriv --reuid=65534 --regid=65534 --clear-groups "$@"; else "$@"; fi
+}
+# shellcheck disable=SC2086
+as_other $run "$mine/orderbook" "$mine/led.txt" --sheet K --day "$day" -o "$mine/theirs/old.kpc" >"$work/out" 2>"$work/err"
+check 'a file that is not to be written to: the status' [ $? -eq 2 ]
+check 'a file that is not to be written to: it says so' \
+    [ "$(cat "$work/err")" = "orderbook: $mine/theirs/old.kpc could not be written whole: Permission denied." ]
+check 'a file that is not to be written to: it stands' [ "$(cat "$mine/theirs/old.kpc") $(ls -A "$mine/theirs")" = 'old old.kpc' ]
 
 last_line

@@ -7,7 +7,9 @@
 #include <inttypes.h>
 #include <string.h>
 
-#include "say.h"
+#include <abo_say.h>
+#include "../common/letters.h"
+#include "../common/sums.h"
 
 enum { NUMBER_ROOM = 48, PAYEE_WIDTH = 22, AMOUNT_WIDTH = 18 };
 
@@ -26,22 +28,17 @@ struct table {
     size_t name_width; /* of the longest name, 0 if there is none */
 };
 
-static void show_crowns(FILE *out, uint64_t haler)
+static void show_crowns(FILE *out, struct sum sum)
 {
-    char text[NUMBER_ROOM];
-    snprintf(text, sizeof text, "%" PRIu64 ".%02" PRIu64, haler / 100,
-             haler % 100);
+    char text[SUM_ROOM];
+    spell_sum(text, sum);
     fprintf(out, "%*s", AMOUNT_WIDTH, text);
 }
 
-static size_t columns_of(const struct table *t, struct abo_place text)
-{
-    return say_columns(t->file + text.place, (size_t)text.length);
-}
-
+/* A byte takes a column. */
 static void show_text(const struct table *t, struct abo_place text)
 {
-    say_text(t->out, t->file + text.place, (size_t)text.length);
+    show_1250(t->out, t->file + text.place, (size_t)text.length);
 }
 
 /* The name, then the parts of the message up to the last not empty. Blanks go
@@ -51,7 +48,7 @@ static void show_texts(const struct table *t, const struct abo_item_row *item)
     unsigned last = ABO_PARTS;
     while (last > 0 && item->part[last - 1].length == 0)
         last--;
-    size_t used = columns_of(t, item->name);
+    size_t used = (size_t)item->name.length;
     if (used > 0)
         fputs("  ", t->out);
     show_text(t, item->name);
@@ -72,11 +69,13 @@ static void show_texts(const struct table *t, const struct abo_item_row *item)
 static void show_item(const struct table *t, const struct abo_item_row *item)
 {
     char payee[NUMBER_ROOM + 8];
+    struct sum amount = {0, 0};
     int used = account_text(payee, item->payee);
     snprintf(payee + used, sizeof payee - (size_t)used, "/%04" PRIu64,
              item->bank);
     fprintf(t->out, "  %-*s", PAYEE_WIDTH, payee);
-    show_crowns(t->out, item->amount);
+    add_haler(&amount, item->amount);
+    show_crowns(t->out, amount);
     fprintf(t->out, "  %10" PRIu64 "  %10" PRIu64 "      %04" PRIu64
             "  %8" PRIu64, item->variable, item->specific, item->constant,
             item->priority);
@@ -108,44 +107,45 @@ static void show_group(const struct table *t,
     fprintf(t->out, "  message\n");
 }
 
-static size_t widest_name(const struct table *t, const union abo_row *rows,
-                          size_t count)
+static size_t widest_name(const union abo_row *rows, size_t count)
 {
     size_t widest = 0;
-    for (size_t i = 0; i < count; i++) {
-        if (rows[i].word[ABO_FIELD_ROW] != ABO_ROW_ITEM)
-            continue;
-        size_t columns = columns_of(t, rows[i].item.name);
-        if (columns > widest)
-            widest = columns;
-    }
+    for (size_t i = 0; i < count; i++)
+        if (rows[i].word[ABO_FIELD_ROW] == ABO_ROW_ITEM &&
+            rows[i].item.name.length > widest)
+            widest = (size_t)rows[i].item.name.length;
     /* the heading wants its room too */
     return widest > 0 && widest < strlen("name") ? strlen("name") : widest;
+}
+
+static void show_total(FILE *out, struct sum total)
+{
+    fprintf(out, "  %-*s", PAYEE_WIDTH, "total");
+    show_crowns(out, total);
+    fputc('\n', out);
 }
 
 void show_table(FILE *out, const union abo_row *rows, size_t count,
                 const uint8_t *file)
 {
-    struct table t = {out, file, 0};
-    t.name_width = widest_name(&t, rows, count);
-    uint64_t total = 0;
+    struct table t = {out, file, widest_name(rows, count)};
+    struct sum total = {0, 0};
     for (size_t i = 0; i < count; i++) {
         const union abo_row *row = &rows[i];
         uint64_t kind = row->word[ABO_FIELD_ROW];
         if (kind == ABO_ROW_FILE)
-            fprintf(out, "account file %" PRIu64 " number %06" PRIu64 "\n",
-                    row->file.kind, row->file.number);
+            fprintf(out, "account file %" PRIu64 " number %06" PRIu64
+                    ", %s\n", row->file.kind, row->file.number,
+                    abo_say_items(row->file.kind));
         if (kind == ABO_ROW_GROUP)
             show_group(&t, &row->group);
         if (kind != ABO_ROW_ITEM)
             continue;
         show_item(&t, &row->item);
-        total += row->item.amount;
+        add_haler(&total, row->item.amount);
         if (i + 1 == count || row[1].word[ABO_FIELD_ROW] != ABO_ROW_ITEM) {
-            fprintf(out, "  %-*s", PAYEE_WIDTH, "total");
-            show_crowns(out, total);
-            fputc('\n', out);
-            total = 0;
+            show_total(out, total);
+            total = (struct sum){0, 0};
         }
     }
 }
