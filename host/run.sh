@@ -18,7 +18,7 @@ if [ -z "$run" ]; then files=150000 step=1 times=1; else files=4000 step=5 times
 files=${FILES:-$files}
 seed=${SEED:-1}
 step=${STEP:-$step}
-all='header api installed demo_test abo_test orderbook_test corpus stack attack compare_read compare_write compare_explain compare_line many'
+all='header api installed first_run demo_test letters_test output_test abo_test orderbook_test corpus stack attack compare_read compare_write compare_explain compare_line many'
 
 program() { # NAME ARG ..: builds a test that is a program, and runs it
     build_test "$1" || return
@@ -30,8 +30,10 @@ program() { # NAME ARG ..: builds a test that is a program, and runs it
 
 run_test() { # NAME
     case $1 in
-    header | api | installed) sh "host/api/$1.sh" ;;
+    header | api | installed | first_run) sh "host/api/$1.sh" ;;
     demo_test) sh host/demo_test.sh ;;
+    letters_test) build_test native/letters_test && "$build/native/letters_test" ;;
+    output_test) sh host/common/output_test.sh ;;
     abo_test) sh host/abo/abo_test.sh ;;
     orderbook_test) sh host/orderbook/orderbook_test.sh ;;
     many) sh host/compare/many_test.sh "$((files * times))" "$seed" ;;

@@ -13,6 +13,11 @@
   - no two programs have one name, as build/NAME is made of the NAME.c of any folder
   - no proof names a line of the source by its number, as the next edit moves it
   - no law, definition or function is there that nothing uses, and no name is brought in for nothing (tools/laws.py finds them)
+  - docs/WORKING.md says of each file of tools/ what it is for
+  - docs/RULES.md names each file and each public definition of the rules and each field of a sheet, always as Module.name; what it names
+    so is there
+  - its table of the sheets has the values of their records, its table of numbers those of include/abo.h, and its whole run is the rewriting
+    program's own
 """
 import pathlib
 import re
@@ -180,7 +185,95 @@ def unused():
         check(False, sentence)
 
 
-for look in (the_list, the_drawing, first_lines, functions, files, edits, links, paths, c_files, the_tests, unused):
+def modules(*crates):
+    """The files of definitions of these crates, by the names of their modules."""
+    specs = (path for crate in crates for path in sorted((ROOT / f"crates/{crate}/specs").glob("*.antt")))
+    return {path.stem: laws.File(path) for path in specs if path.name != "Lib.antt"}
+
+
+def the_rules():
+    page = (ROOT / "docs/RULES.md").read_text()
+    said = set(re.findall(r"(?<![\w/])([A-Z]\w*\.(?!(?:antt|md)\b)[A-Za-z]\w*)", page))
+    structs = re.findall(r"^pub struct (\w+) \{(.*?)^\}", (ROOT / "crates/sheet/src/lib.rt").read_text(), re.M | re.S)
+    fields = {f"{struct}.{name}" for struct, body in structs for name in re.findall(r"^    pub (\w+):", body, re.M)}
+    rules, others = modules("paper", "sheet"), modules("base", "reader")
+    there = fields | {f"{module}.{name}" for module, file in {**rules, **others}.items() for name in (*file.says, *file.parts)}
+    owed = fields | {f"{module}.{name}" for module, file in rules.items() for name in file.shown}
+    check(len(fields) > 30 and len(owed) > 300, "tools/house.py does not find the definitions of the rules")
+    for name in sorted(said | owed):
+        check(name in there, f"docs/RULES.md names {name}, which is not there")
+        check(name in said, f"docs/RULES.md does not name {name}")
+    for module in rules:
+        check(f"/specs/{module}.antt`" in page, f"docs/RULES.md does not say what {module}.antt states")
+    for path in sorted(set(re.findall(r"`(crates/[^`]+)`", page))):
+        check((ROOT / path).exists(), f"docs/RULES.md names {path}, which is not there")
+    bare = {name for file in rules.values() for name in file.shown if re.search(r"[a-z][A-Z]", name)}
+    for name in sorted(bare & set(re.findall(r"`(\w+)`", page))):
+        check(False, f"docs/RULES.md names {name} without its module")
+
+
+def means(cell, value):
+    """Does a cell of the table of the sheets say what a record does?"""
+    if value in ("true", "false"):
+        return cell == {"true": "yes", "false": "no"}[value]
+    if value.startswith("any"):
+        return cell == "any"
+    digits = cell.replace(",", "")
+    return value == (str(int(digits)) if digits.isdigit() else str(ord(cell)) if len(cell) == 1 else cell)
+
+
+def the_sheets():
+    text = (ROOT / "crates/sheet/specs/Sheets.antt").read_text()
+    found = re.findall(r"^(\w+) =\s+record \{(.*?)\}", text, re.M | re.S)
+    records = {name: dict(re.findall(r"(\w+) = (\w+)", body)) for name, body in found}
+    page = (ROOT / "docs/RULES.md").read_text()
+    rows = [[cell.strip() for cell in line.split("|")[1:-1]] for line in page.splitlines() if line.startswith("|")]
+    letters = next((row[1:-1] for row in rows if row[-1] == "field"), [])
+    sheets = [name for name in records if "text" in records[name]]
+    check(sheets and sheets == [f"sheet{letter}" for letter in letters], "docs/RULES.md does not have the sheets in a table")
+    left = set().union(*records.values()) - {"text"}
+    for row in rows:
+        struct, _, field = row[-1].strip("`").partition(".")
+        if struct not in ("Sheet", "Style"):
+            continue
+        left.discard(field)
+        for sheet, cell in zip(sheets, row[1:-1]):
+            record = records[sheet] if struct == "Sheet" else records[records[sheet]["text"]]
+            value = record.get(field, "not there")
+            check(means(cell, value), f"docs/RULES.md: {row[-1]} of {sheet} is {value}, not {cell}")
+    for field in sorted(left):
+        check(False, f"docs/RULES.md: the table of the sheets has no row of {field}")
+
+
+def the_numbers():
+    page = (ROOT / "docs/RULES.md").read_text()
+    header = (ROOT / "include/abo.h").read_text()
+    pairs = r"\b(ABO_\w+) = (\d+)"
+    here = {name: number for number, name in re.findall(r"^\| (\d+) \| `(ABO_\w+)` \|", page, re.M)}
+    there = dict(re.findall(pairs, re.search(r"enum abo_number \{(.*?)\};", header, re.S).group(1)))
+    for name in sorted({*here, *there}):
+        check(here.get(name) == there.get(name), f"docs/RULES.md: {name} is {here.get(name)} and in include/abo.h {there.get(name)}")
+    for name in sorted(set(re.findall(r"\bABO_\w+", page))):
+        check(name in dict(re.findall(pairs, header)), f"docs/RULES.md names {name}, which include/abo.h does not have")
+
+
+def the_whole_run():
+    page = (ROOT / "docs/RULES.md").read_text()
+    for name in ("stdin", "stdout"):
+        text = (ROOT / f"crates/rewrite/{name}").read_bytes().decode().replace("\r", "")
+        check(f"```\n{text}```" in page, f"docs/RULES.md does not have crates/rewrite/{name} as it is")
+
+
+def the_tools():
+    said = set(re.findall(r"^\| `([\w.]+\.(?:sh|py|c))` \|", (ROOT / "docs/WORKING.md").read_text(), re.M))
+    there = {path.name for path in (ROOT / "tools").iterdir() if path.is_file()}
+    for name in sorted(said | there):
+        check(name in said and name in there, f"docs/WORKING.md and the folder of tools do not agree on {name}")
+
+
+looks = [the_list, the_drawing, first_lines, functions, files, edits, links, paths, c_files, the_tests, unused, the_tools]
+looks += [the_rules, the_sheets, the_numbers, the_whole_run]
+for look in looks:
     look()
 for sentence in faults:
     print(f"failed: {sentence}")
