@@ -18,7 +18,7 @@ if [ -z "$run" ]; then files=150000 step=1 times=1; else files=4000 step=5 times
 files=${FILES:-$files}
 seed=${SEED:-1}
 step=${STEP:-$step}
-all='header api installed first_run demo_test letters_test output_test abo_test orderbook_test corpus stack attack compare_read compare_write compare_explain compare_line many'
+all='header boundary api installed first_run demo_test letters_test output_test abo_test orderbook_test corpus stack attack compare_read compare_write compare_explain compare_line many'
 
 program() { # NAME ARG ..: builds a test that is a program, and runs it
     build_test "$1" || return
@@ -37,6 +37,7 @@ run_test() { # NAME
     abo_test) sh host/abo/abo_test.sh ;;
     orderbook_test) sh host/orderbook/orderbook_test.sh ;;
     many) sh host/compare/many_test.sh "$((files * times))" "$seed" ;;
+    boundary) program boundary ;;
     corpus) program fuzz host/fuzz/corpus/* ;;
     stack) program stack 0 "$seed" "$step" ;;
     attack | compare_explain | compare_line) program "$1" "$((files / 2))" "$seed" "$step" ;;

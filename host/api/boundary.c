@@ -1,0 +1,224 @@
+/*
+ * The boundary that no proof crosses: the order of a call's arguments and the places of an answer's fields, as C sees them.  Each call is
+ * made with arguments that all differ, and each word of its answer is looked up at its offset and held against what the second program
+ * answers.  That the arguments tell each other apart is tested too: the second program answers otherwise where two are exchanged.
+ */
+#include <stdbool.h>
+#include <stdio.h>
+#include <stdlib.h>
+#include <string.h>
+
+#include <abo.h>
+#include "../../peer/peer.h"
+#include "../call/lines.h"
+
+enum { ROWS = 6, ROOM = 4096 };
+
+static unsigned long passed, failed;
+
+static void check(bool good, const char *what, const char *detail)
+{
+    if (good) {
+        passed++;
+        return;
+    }
+    failed++;
+    printf("failed: %s: %s\n", what, detail);
+}
+
+/* The word of a struct at an offset, whatever its members are called. */
+static uint64_t word_at(const void *from, size_t offset)
+{
+    uint64_t word;
+    memcpy(&word, (const uint8_t *)from + offset, sizeof word);
+    return word;
+}
+
+/* Which words of each kind of answer were anything but 0. */
+enum kind { ANSWER, WRITTEN, TEXT, FOUND, KINDS };
+enum { MOST_WORDS = 10 };
+static const size_t words_of[KINDS] = {10, 4, 2, 3};
+static bool seen[KINDS][MOST_WORDS];
+
+static void check_words(enum kind kind, const char *what, const void *answer, const uint64_t *due)
+{
+    char detail[100];
+    for (size_t i = 0; i < words_of[kind]; i++) {
+        seen[kind][i] = seen[kind][i] || due[i] != 0;
+        snprintf(detail, sizeof detail, "byte %zu has %llu, and %llu is due", i * 8,
+                 (unsigned long long)word_at(answer, i * 8), (unsigned long long)due[i]);
+        check(word_at(answer, i * 8) == due[i], what, detail);
+    }
+}
+
+/* ---- Reading ---- */
+
+static void check_read(const char *what, const char *file, uint64_t sheet, uint64_t today, size_t room)
+{
+    static uint8_t rows[ROOM], due_rows[ROOM];
+    size_t len = strlen(file);
+    memset(rows, 0xa5, sizeof rows);
+    memset(due_rows, 0xa5, sizeof due_rows);
+    struct abo_answer a = abo_read((const uint8_t *)file, len, sheet, today, rows, room);
+    struct peer_answer p = peer_read((const uint8_t *)file, len, sheet, today, due_rows, room);
+    const uint64_t due[] = {p.number,   p.line,        p.byte,          p.rows,        p.warnings,
+                            p.needed,   p.header.date, p.header.client, p.header.from, p.header.to};
+    check_words(ANSWER, what, &a, due);
+    check(memcmp((const uint8_t *)&a + sizeof due, p.header.name, 20) == 0, what, "the name lies behind ten words");
+    check(memcmp(rows, due_rows, sizeof rows) == 0, what, "the rows are the second program's");
+}
+
+static const char accepted[] = "UHL1311217Jablko a syn s.r.o. 1234567890007912000000000000\n"
+                               "1 1501 008001 8100\n"
+                               "2 19-19 1110 020118\n"
+                               "705 1001 42 0103000558 17 AV:led\n"
+                               "5152046 106 43 0203000308 18\n"
+                               "705 3 44 03000558\n"
+                               "3 +\n"
+                               "5 +\n";
+
+static void check_reading(void)
+{
+    check_read("an accepted file", accepted, ABO_SHEET_K, 20180101, ROOM);
+    check_read("an accepted file, with no room", accepted, ABO_SHEET_K, 20180101, 2 * ABO_ROW_BYTES);
+    check_read("a file of another sheet", accepted, ABO_SHEET_S, 20180101, ROOM);
+    check_read("a file on another day", accepted, ABO_SHEET_K, 20180103, ROOM);
+    check_read("a day in the sheet's place", accepted, 20180101, ABO_SHEET_K, ROOM);
+    check_read("no day", accepted, ABO_SHEET_K, 1, ROOM);
+}
+
+/* ---- Writing ---- */
+
+struct asked {
+    uint64_t date, client, from, to, sheet, today;
+};
+
+static const struct asked asked = {20171231, 1234567890, 7, 912, ABO_SHEET_K, 20180101};
+static const char name[] = "Jablko a syn s.r.o. ", texts[] = "led a mraz";
+static union abo_row rows[ROWS];
+
+static void make_rows(void)
+{
+    memset(rows, 0, sizeof rows);
+    rows[0].file = (struct abo_file_row){.row = ABO_ROW_FILE, .kind = 1501, .number = 8001};
+    rows[1].group = (struct abo_group_row){.row = ABO_ROW_GROUP, .due = 20180102};
+    for (size_t i = 2; i < ROWS; i++)
+        rows[i].item = (struct abo_item_row){.row = ABO_ROW_ITEM,
+                                             .payer = {19, 19},
+                                             .payee = {0, 705},
+                                             .bank = 300 + i,
+                                             .amount = 1000 + i,
+                                             .variable = 40 + i,
+                                             .specific = 50 + i,
+                                             .constant = 60 + i,
+                                             .priority = 3 + i,
+                                             .part = {{i, 3}, {i + 1, 2}, {0, 0}, {i, 1}}};
+}
+
+static struct peer_written by_peer(const struct asked *a, size_t count, uint8_t *out, size_t room)
+{
+    return peer_write((const uint8_t *)rows, count * sizeof *rows, (const uint8_t *)texts, sizeof texts - 1, a->date,
+                      (const uint8_t *)name, sizeof name - 1, a->client, a->from, a->to, a->sheet, a->today, out, room);
+}
+
+static void check_write(const char *what, const struct asked *a, size_t count, size_t room)
+{
+    static uint8_t out[ROOM], due_out[ROOM];
+    memset(out, 0xa5, sizeof out);
+    memset(due_out, 0xa5, sizeof due_out);
+    struct abo_written w =
+        abo_write((const uint8_t *)rows, count * sizeof *rows, (const uint8_t *)texts, sizeof texts - 1, a->date,
+                  (const uint8_t *)name, sizeof name - 1, a->client, a->from, a->to, a->sheet, a->today, out, room);
+    struct peer_written p = by_peer(a, count, due_out, room);
+    const uint64_t due[] = {p.number, p.row, p.field, p.bytes};
+    check_words(WRITTEN, what, &w, due);
+    check(memcmp(out, due_out, sizeof out) == 0, what, "the output is the second program's");
+}
+
+/* Two numbers exchanged are answered otherwise, so that a call which mixes them up is found out. */
+static void check_told_apart(void)
+{
+    static uint8_t out[ROOM], other[ROOM];
+    uint64_t words[6];
+    char detail[60];
+    struct peer_written whole = by_peer(&asked, ROWS, out, ROOM);
+    check(whole.number == ABO_ACCEPTED, "writing", "the batch is written");
+    for (size_t i = 0; i < 6; i++)
+        for (size_t k = i + 1; k < 6; k++) {
+            struct asked swapped;
+            memcpy(words, &asked, sizeof words);
+            uint64_t kept = words[i];
+            words[i] = words[k];
+            words[k] = kept;
+            memcpy(&swapped, words, sizeof words);
+            memset(other, 0, sizeof other);
+            struct peer_written p = by_peer(&swapped, ROWS, other, ROOM);
+            snprintf(detail, sizeof detail, "numbers %zu and %zu are told apart", i, k);
+            check(p.number != whole.number || p.bytes != whole.bytes || memcmp(out, other, (size_t)whole.bytes) != 0,
+                  "writing", detail);
+            check_write("writing, two numbers exchanged", &swapped, ROWS, ROOM);
+        }
+}
+
+static void check_writing(void)
+{
+    check_write("a batch", &asked, ROWS, ROOM);
+    check_write("a batch with no room", &asked, ROWS, 10);
+    check_write("a batch without items", &asked, 2, ROOM);
+    check_told_apart();
+    rows[4].item.constant = 10000;
+    check_write("a batch with a wrong constant symbol", &asked, ROWS, ROOM);
+    make_rows();
+    struct asked other = asked;
+    other.sheet = ABO_SHEET_E;
+    check_write("a priority on another sheet", &other, ROWS, ROOM);
+}
+
+/* ---- Explaining, and finding a line ---- */
+
+static void check_explain(const char *what, uint64_t sheet, uint64_t today, size_t room)
+{
+    uint8_t out[ABO_EXPLAIN_BYTES], due_out[ABO_EXPLAIN_BYTES];
+    memset(out, 0xa5, sizeof out);
+    memset(due_out, 0xa5, sizeof due_out);
+    struct abo_text t = abo_explain((const uint8_t *)accepted, sizeof accepted - 1, sheet, today, out, room);
+    struct peer_text p = peer_explain((const uint8_t *)accepted, sizeof accepted - 1, sheet, today, due_out, room);
+    const uint64_t due[] = {p.number, p.bytes};
+    check_words(TEXT, what, &t, due);
+    check(memcmp(out, due_out, sizeof out) == 0, what, "the line is the second program's");
+}
+
+static void check_lines(void)
+{
+    struct lines l = {0};
+    split_lines(&l, (const uint8_t *)accepted, sizeof accepted - 1);
+    for (uint64_t line = 0; line <= l.count + 1; line++) {
+        struct abo_found f = abo_line((const uint8_t *)accepted, sizeof accepted - 1, line), g = line_numbered(&l, line);
+        const uint64_t due[] = {g.found, g.at, g.len};
+        check_words(FOUND, "a line", &f, due);
+    }
+    free(l.list);
+}
+
+/* A field that is 0 in every answer would be tested by nothing. */
+static void check_all_seen(void)
+{
+    for (int kind = 0; kind < KINDS; kind++)
+        for (size_t i = 0; i < words_of[kind]; i++)
+            check(seen[kind][i], "an answer's word", "is something else than 0 in some answer");
+}
+
+int main(void)
+{
+    make_rows();
+    check_reading();
+    check_writing();
+    check_explain("an explanation", ABO_SHEET_K, 20180101, ABO_EXPLAIN_BYTES);
+    check_explain("an explanation with no room", ABO_SHEET_K, 20180101, 7);
+    check_explain("an explanation of a refusal", ABO_SHEET_S, 20180101, ABO_EXPLAIN_BYTES);
+    check_explain("a day in the sheet's place", 20180101, ABO_SHEET_K, ABO_EXPLAIN_BYTES);
+    check_lines();
+    check_all_seen();
+    printf("%lu passed, %lu failed\n", passed, failed);
+    return failed != 0;
+}
