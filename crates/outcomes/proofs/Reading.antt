@@ -22,7 +22,9 @@ use Rattle.paper.specs.Rows.{rowSize, rowsIn, thingsIn, linesRows, rowsBytes}
 use Rattle.paper.specs.Reading.{ReadAnswer, refusedAt, needs, acceptedAs, rowCount, answered, readWith, readAnswer, filled, rowsWith, rowsAfter}
 use Rattle.exact.proofs.Main.{exact}
 use Rattle.faults.proofs.Main.{refused}
-use Rattle.rowlaws.proofs.Main.{row-bytes, batch-returns}
+use Rattle.rowlaws.proofs.Main.{row-bytes, rows-return}
+use Rattle.rowlaws.proofs.Main as rowlaws
+use Rattle.paper.proofs.Trees.{batch-things}
 use Rattle.named.proofs.Main.{judge-named}
 use Rattle.outcomes.specs.Outcomes.{ReadsAs}
 
@@ -67,12 +69,12 @@ module _ (sheet : ℕ) (sh : Sheet) (named : sheetOf sheet ≡ known.Sheet sh) (
   rows-filled h b w e l = rows-known ∙ rw e (pick-false _ _ (le-ltb room (rowCount b) l))
 
   pub rows-hold : (h : Header) (b : Batch) (w : ℕ) → judge sh today f ≡ Accepted h b w → rowCount b ≤ room → length f < 2 ^ 64
-      → batchOf (thingsIn f (rowsIn (take (rowSize * rowCount b) (rowsAfter sheet today f lent)))) ≡ b
+      → things b ≡ thingsIn f (rowsIn (take (rowSize * rowCount b) (rowsAfter sheet today f lent)))
   rows-hold h b w e l small =
       let front : take (rowSize * rowCount b) (rowsAfter sheet today f lent) ≡ rowsBytes (linesRows sh today false (linesOf 0 f)) =
       ap (λ (s : List ℕ). take (rowSize * rowCount b) s) (rows-filled h b w e l)
       ∙ take-at (rowsBytes (linesRows sh today false (linesOf 0 f))) (drop (rowSize * rowCount b) lent) (rowSize * rowCount b) (row-bytes sh today f h b w e) in
-      rw front (batch-returns sh today f h b w e small)
+      rw front (sym (ap (λ (rs : List (List ℕ)). thingsIn f rs) (rows-return sh today f h b w e small) ∙ rowlaws.rows-hold sh today f h b w e))
 
   -- ---- accepted exactly if it spells
 
@@ -102,8 +104,8 @@ module _ (sheet : ℕ) (sh : Sheet) (named : sheetOf sheet ≡ known.Sheet sh) (
       (λ l. not-needs (rowCount b′) h (rowCount b) w (sym (says-needs h′ b′ w′ e l) ∙ r .answer))
       (λ l.
       let (i, k, v) = same-answer h′ h (rowCount b′) (rowCount b) w′ w (sym (says-accepted h′ b′ w′ e l) ∙ r .answer) in
-      let t : batchOf (thingsIn f (rowsIn (take (rowSize * rowCount b′) (rowsAfter sheet today f lent)))) ≡ b = rw k (r .holds) in
-      let same : b′ ≡ b = sym (rows-hold h′ b′ w′ e l small) ∙ t in
+      let t : things b ≡ thingsIn f (rowsIn (take (rowSize * rowCount b′) (rowsAfter sheet today f lent))) = rw k (r .holds) in
+      let same : b′ ≡ b = sym (batch-things b′) ∙ ap batchOf (rows-hold h′ b′ w′ e l small ∙ sym t) ∙ batch-things b in
       exact sh today f h b w .0 (rw (← i, ← same, ← v) e))
 
   -- With room for its rows, a file is accepted as a batch with a header and warnings exactly if it spells them.

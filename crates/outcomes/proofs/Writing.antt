@@ -50,7 +50,7 @@ draft-late sh today h ts n row field e = rw e at (draft-is-late sh today h ts)
 -- ---- a refusal has a number
 
 -- a draft that is a file, or is refused with some number
-abbrev Numbered : Draft → Type 0
+abbrev pub Numbered : Draft → Type 0
 Numbered (drafted s) = Unit {0}
 Numbered (refusal n row field) = 1 ≤ n
 
@@ -64,7 +64,7 @@ known-numbered known.Nothing today h ts = omega arith
 known-numbered (known.Sheet sh) today h ts =
     either Numbered (realDay today) (λ e. late-numbered (draftOf sh today h ts) (draft-is-late sh today h ts)) (λ e. omega arith)
 
-draft-numbered : (sheet today : ℕ) (h : Header) (rows texts : List ℕ) → Numbered (draft sheet today h rows texts)
+pub draft-numbered : (sheet today : ℕ) (h : Header) (rows texts : List ℕ) → Numbered (draft sheet today h rows texts)
 unfolding draft
 draft-numbered sheet today h rows texts = known-numbered (sheetOf sheet) today h (thingsIn texts (rowsIn rows))
 

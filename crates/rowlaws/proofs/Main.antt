@@ -5,11 +5,10 @@ use mathlib.Core.List.{List}
 use Prim.Native.Nat.{ℕ, _*_, _^_, _<_}
 use lib.ListN.{length}
 use Rattle.sheet.specs.declared.Sheet.{Sheet}
-use Rattle.paper.specs.Batch.{Batch, Header, things, batchOf}
+use Rattle.paper.specs.Batch.{Batch, Header, things}
 use Rattle.paper.specs.Lines.{Line, linesOf}
 use Rattle.paper.specs.Judge.{Accepted, judge}
 use Rattle.paper.specs.Rows.{rowsIn, thingsIn, linesRows, rowsBytes}
-use Rattle.paper.proofs.Trees.{batch-things}
 use Rattle.line.proofs.Places.{lines-stand}
 use Rattle.exact.proofs.Main.{exact}
 use Rattle.rowlaws.specs.Sizes.{Long, Smalls}
@@ -42,9 +41,6 @@ module _ (sh : Sheet) (today : ℕ) (f : List ℕ) (h : Header) (b : Batch) (w :
   pub rows-small : length f < 2 ^ 64 → Smalls (linesRows sh today false (linesOf 0 f))
   rows-small l = batch-small f _ b all-rows (exact sh today f h b w .0 accepted .rules .3) l
 
-  -- so that the rows are got back from their bytes, and the batch from them.
+  -- so that the rows are got back from their bytes.
   pub rows-return : length f < 2 ^ 64 → rowsIn (rowsBytes (linesRows sh today false (linesOf 0 f))) ≡ linesRows sh today false (linesOf 0 f)
   rows-return l = rows-back _ (row-words sh today false (linesOf 0 f)) (rows-small l)
-
-  pub batch-returns : length f < 2 ^ 64 → batchOf (thingsIn f (rowsIn (rowsBytes (linesRows sh today false (linesOf 0 f))))) ≡ b
-  batch-returns l = ap (λ (rs : List (List ℕ)). batchOf (thingsIn f rs)) (rows-return l) ∙ ap batchOf rows-hold ∙ batch-things b
