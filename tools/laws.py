@@ -18,6 +18,8 @@ STANDING = {
     # the demands, and what users quote of them
     "demands/proofs/Demands": "*",
     "demands/proofs/Corollaries": "*",
+    # functions that make the calls as a user does, so that the calls' promises are used
+    "demands/src/lib": "*",
     # document 01's cases and its sample run, computed from the definitions
     "paper/proofs/Cases": "*",
     "paper/proofs/WholeRun": "*",
@@ -194,7 +196,7 @@ def unused_names(files):
 def unused_functions(files):
     code = [f for f in files.values() if f.code]
     called = "\n".join(line.split("//")[0] for f in code for line in f.lines)
-    for file in code:
+    for file in (f for f in code if STANDING.get(f.key) != "*"):
         for number, line in enumerate(file.lines):
             found = re.match(r"\s*(?:pub )?fn (\w+)", line)
             if found and found.group(1) != "main" and len(re.findall(rf"\b{found.group(1)}\b", called)) == 1:

@@ -1,2 +1,4 @@
+pub mod Twice
+pub mod Round
 pub mod Demands
 pub mod Corollaries

@@ -1,1 +1,167 @@
-// The three demands on the library, as theorems. No code.
+// The demands, kept by functions that make the shipped calls: a call made twice answers alike, and what is written is read back.
+use explain::AboText;
+use read::AboAnswer;
+use reader::AboLine;
+use write::AboWritten;
+ghost use mathlib.Core.Path.{_≡_};
+ghost use Prim.Native.Nat.{_≤_, _<_};
+ghost use lib.ListN.{length, take};
+ghost use Rattle.paper.specs.Reading.{readAnswer, rowsAfter};
+ghost use Rattle.read.specs.Told.{told as toldRead};
+ghost use Rattle.write.specs.Told.{headerOf};
+ghost use Rattle.outcomes.specs.Outcomes.{ComesBack};
+
+// two answers of reading
+pub struct TwoReadings {
+    pub first: AboAnswer,
+    pub second: AboAnswer,
+}
+
+// Reads a file twice, into rows that were lent alike.
+pub fn read_twice(file: &[u8], sheet: u64, today: u64, a: &mut [u8], b: &mut [u8]) -> TwoReadings
+    requires { ⌜ now a ≡ now b ⌝ }
+    ensures { λ r. ⌜ r .first ≡ r .second ⌝ }
+    ensures { λ _. ⌜ now (a .exit) ≡ now (b .exit) ⌝ }
+{
+    let first = abo::abo_read(file, sheet, today, a);
+    let second = abo::abo_read(file, sheet, today, b);
+    TwoReadings { first, second }
+}
+
+// two answers of writing
+pub struct TwoWritings {
+    pub first: AboWritten,
+    pub second: AboWritten,
+}
+
+// a header as writing takes it, but for its name
+pub struct Head {
+    pub date: u64,
+    pub client: u64,
+    pub from: u64,
+    pub to: u64,
+}
+
+// Writes a batch twice, into outputs that were lent alike.
+pub fn write_twice(
+    rows: &[u8],
+    texts: &[u8],
+    head: Head,
+    name: &[u8],
+    sheet: u64,
+    today: u64,
+    a: &mut [u8],
+    b: &mut [u8],
+) -> TwoWritings
+    requires { ⌜ now a ≡ now b ⌝ }
+    ensures { λ r. ⌜ r .first ≡ r .second ⌝ }
+    ensures { λ _. ⌜ now (a .exit) ≡ now (b .exit) ⌝ }
+{
+    let first = abo::abo_write(
+        rows,
+        texts,
+        head.date,
+        name,
+        head.client,
+        head.from,
+        head.to,
+        sheet,
+        today,
+        a,
+    );
+    let second = abo::abo_write(
+        rows,
+        texts,
+        head.date,
+        name,
+        head.client,
+        head.from,
+        head.to,
+        sheet,
+        today,
+        b,
+    );
+    TwoWritings { first, second }
+}
+
+// two answers of explaining
+pub struct TwoTexts {
+    pub first: AboText,
+    pub second: AboText,
+}
+
+// Explains a file twice, into outputs that were lent alike.
+pub fn explain_twice(file: &[u8], sheet: u64, today: u64, a: &mut [u8], b: &mut [u8]) -> TwoTexts
+    requires { ⌜ now a ≡ now b ⌝ }
+    ensures { λ r. ⌜ r .first ≡ r .second ⌝ }
+    ensures { λ _. ⌜ now (a .exit) ≡ now (b .exit) ⌝ }
+{
+    let first = abo::abo_explain(file, sheet, today, a);
+    let second = abo::abo_explain(file, sheet, today, b);
+    TwoTexts { first, second }
+}
+
+// two answers of finding a line
+pub struct TwoLines {
+    pub first: AboLine,
+    pub second: AboLine,
+}
+
+// Finds a line twice.
+pub fn line_twice(file: &[u8], line: u64) -> TwoLines
+    ensures { λ r. ⌜ r .first ≡ r .second ⌝ }
+{
+    let first = abo::abo_line(file, line);
+    let second = abo::abo_line(file, line);
+    TwoLines { first, second }
+}
+
+// the answers of writing, and of reading what was written
+pub struct Returned {
+    pub written: AboWritten,
+    pub read: AboAnswer,
+}
+
+// Reads the first bytes of an output.
+fn read_front(out: &[u8], len: u64, sheet: u64, today: u64, back: &mut [u8]) -> AboAnswer
+    requires { ⌜ len ≤ length (now out) ⌝ }
+    ensures { λ r. ⌜ toldRead r ≡ readAnswer sheet today (take len (now (out .entry))) (now (back .entry)) ⌝ }
+    ensures { λ _. ⌜ now (back .exit) ≡ rowsAfter sheet today (take len (now (out .entry))) (now (back .entry)) ⌝ }
+    ensures { λ _. ⌜ length (now (out .entry)) < 18446744073709551616 ⌝ }
+{
+    let n = len as usize;
+    abo::abo_read(&out[..n], sheet, today, back)
+}
+
+// Writes a batch, and reads the written file on the same sheet and day; of a batch that is refused, no bytes.
+pub fn write_and_read(
+    rows: &[u8],
+    texts: &[u8],
+    head: Head,
+    name: &[u8],
+    sheet: u64,
+    today: u64,
+    out: &mut [u8],
+    back: &mut [u8],
+) -> Returned
+    ensures { λ r. ⌜ (r .written .number ≡ 0 → ComesBack sheet today (headerOf (head .date) (now (name .entry)) (head .client) (head .from) (head .to)) (now (rows .entry)) (now (texts .entry)) (take (r .written .bytes) (now (out .exit))) (now (back .entry)) (toldRead (r .read)) (now (back .exit))) ⌝ }
+{
+    let written = abo::abo_write(
+        rows,
+        texts,
+        head.date,
+        name,
+        head.client,
+        head.from,
+        head.to,
+        sheet,
+        today,
+        out,
+    );
+    if written.number != 0 {
+        let read = read_front(out, 0, sheet, today, back);
+        return Returned { written, read };
+    }
+    let read = read_front(out, written.bytes, sheet, today, back);
+    Returned { written, read }
+}

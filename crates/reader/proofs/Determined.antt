@@ -1,4 +1,4 @@
--- The contracts of a reader's step and of the line of a number leave one answer each. Assumes nothing.
+-- The contract of a reader's step leaves one answer, and an answer of finding a line is known by what it tells. Assumes nothing.
 use mathlib.Core.Path.{_≡_, sym, ap, subst, _∙_}
 use mathlib.Core.Bool.{Bool, true, false}
 use mathlib.Core.List.{List, [], _∷_}
@@ -10,7 +10,7 @@ use Rattle.line.specs.declared.Cut.{Cut}
 use Rattle.line.proofs.Only.{cuts-one}
 use Rattle.reader.specs.declared.AboLine.{AboLine}
 use Rattle.reader.specs.declared.Found.{Found}
-use Rattle.reader.specs.Named.{LineAnswer, told, lineAnswer}
+use Rattle.reader.specs.Named.{LineAnswer, told}
 use Rattle.reader.specs.Finding.{Says, Finds, cutOf}
 
 -- ---- what stands at a place
@@ -42,11 +42,6 @@ module _ (f : List ℕ) (at : ℕ) where
 abbrev answerFor : LineAnswer → AboLine
 answerFor r = record { found = r .found; at = r .at; len = r .len }
 
-module _ (number : ℕ) (file : List ℕ) where
-  -- what the contract says of the answer a
-  abbrev pub Allowed : AboLine → Type 0
-  Allowed a = told a ≡ lineAnswer number file
-
-  -- two answers that it allows are equal
-  pub determined : (a b : AboLine) → Allowed a → Allowed b → a ≡ b
-  determined a b x y = ap answerFor (x ∙ sym y)
+-- two answers that tell the same are the same
+pub told-one : (a b : AboLine) → told a ≡ told b → a ≡ b
+told-one a b e = ap answerFor e

@@ -1,0 +1,24 @@
+-- The words in which the demands are stated, each from the file that defines it. Assumes nothing.
+pub use lib.ListN.{length}
+-- the sheets and the days
+pub use Rattle.sheet.specs.declared.Sheet.{Sheet}
+pub use Rattle.sheet.specs.declared.Known.the-variants as known
+pub use Rattle.sheet.specs.Sheets.{sheetOf}
+pub use Rattle.paper.specs.Days.{realDay}
+-- document 01: the batch, what a file spells, its first fault, the canonical file
+pub use Rattle.paper.specs.Batch.{Batch, Header}
+pub use Rattle.paper.specs.Spells.{Spells}
+pub use Rattle.paper.specs.Judge.{Refused}
+pub use Rattle.paper.specs.FirstFault.{FirstFault}
+pub use Rattle.paper.specs.Canonical.{canon}
+-- .. and what the contracts of the calls name: the answers of reading and of writing, and the bytes that they leave
+pub use Rattle.paper.specs.Rows.{rowSize}
+pub use Rattle.paper.specs.Reading.{refusedAt, rowCount, readAnswer, rowsAfter}
+pub use Rattle.paper.specs.Writing.{Draft, refusal, draft, writtenIn, outputAfter}
+pub use Rattle.reader.specs.Named.{lineAnswer}
+-- an answer together with the bytes that are left
+pub use Rattle.outcomes.specs.Outcomes.{ReadsAs, Hold, WritesAs}
+pub use Rattle.whole.specs.Carries.{Refuses, headRead, pastWarnings}
+-- a refusal of a file, and the line that holds its byte
+pub use Rattle.named.specs.Numbers.{Judged}
+pub use Rattle.shown.specs.Holding.{Holds}

@@ -1,0 +1,47 @@
+-- What a call's contract says of it, said of two calls on equal bytes: equal answers, and equal bytes left. Assumes nothing.
+use mathlib.Core.Path.{_≡_, sym, ap, _∙_}
+use mathlib.Core.List.{List}
+use Prim.Native.Nat.{ℕ}
+use lib.ListN.{length}
+use Rattle.paper.specs.Reading.{readAnswer, rowsAfter}
+use Rattle.paper.specs.Writing.{Draft, writtenIn, outputAfter}
+use Rattle.read.specs.declared.AboAnswer.{AboAnswer}
+use Rattle.read.specs.Told.{told as toldRead}
+use Rattle.read.proofs.Determined as read
+use Rattle.write.specs.declared.AboWritten.{AboWritten}
+use Rattle.write.specs.Told.{told as toldWritten}
+use Rattle.write.proofs.Determined as write
+use Rattle.explain.specs.declared.AboText.{AboText}
+use Rattle.explain.specs.Told.{told as toldText, textAnswer}
+use Rattle.explain.proofs.Determined as explain
+use Rattle.reader.specs.declared.AboLine.{AboLine}
+use Rattle.reader.specs.Named.{told as toldLine, lineAnswer}
+use Rattle.reader.proofs.Determined as reader
+
+-- ---- reading: l and m are the rows lent
+
+pub read-alike : (sheet today : ℕ) (f l m : List ℕ) (a b : AboAnswer) → l ≡ m
+    → toldRead a ≡ readAnswer sheet today f l → toldRead b ≡ readAnswer sheet today f m → a ≡ b
+read-alike sheet today f l m a b e x y = read.told-one a b (x ∙ ap (λ (z : List ℕ). readAnswer sheet today f z) e ∙ sym y)
+
+pub rows-alike : (sheet today : ℕ) (f l m r q : List ℕ) → l ≡ m
+    → r ≡ rowsAfter sheet today f l → q ≡ rowsAfter sheet today f m → r ≡ q
+rows-alike sheet today f l m r q e x y = x ∙ ap (λ (z : List ℕ). rowsAfter sheet today f z) e ∙ sym y
+
+-- ---- writing and explaining: l and m are the outputs lent, d what is to be written
+
+pub written-alike : (d : Draft) (l m : List ℕ) (a b : AboWritten) → l ≡ m
+    → toldWritten a ≡ writtenIn (length l) d → toldWritten b ≡ writtenIn (length m) d → a ≡ b
+written-alike d l m a b e x y = write.told-one a b (x ∙ ap (λ (z : List ℕ). writtenIn (length z) d) e ∙ sym y)
+
+pub explained-alike : (d : Draft) (l m : List ℕ) (a b : AboText) → l ≡ m
+    → toldText a ≡ textAnswer (writtenIn (length l) d) → toldText b ≡ textAnswer (writtenIn (length m) d) → a ≡ b
+explained-alike d l m a b e x y = explain.told-one a b (x ∙ ap (λ (z : List ℕ). textAnswer (writtenIn (length z) d)) e ∙ sym y)
+
+pub output-alike : (d : Draft) (l m o p : List ℕ) → l ≡ m → o ≡ outputAfter l d → p ≡ outputAfter m d → o ≡ p
+output-alike d l m o p e x y = x ∙ ap (λ (z : List ℕ). outputAfter z d) e ∙ sym y
+
+-- ---- finding a line
+
+pub line-alike : (line : ℕ) (f : List ℕ) (a b : AboLine) → toldLine a ≡ lineAnswer line f → toldLine b ≡ lineAnswer line f → a ≡ b
+line-alike line f a b x y = reader.told-one a b (x ∙ sym y)
