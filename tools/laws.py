@@ -124,6 +124,8 @@ class File:
         if not found:
             return False
         group, names, module, alias, path = found.groups()
+        if path and path.endswith(".*"):
+            return True  # all that a module below passes on
         if group:
             for item in names.split(", "):
                 there, _, here = item.partition(" as ")

@@ -7,6 +7,7 @@ use mathlib.Core.List.{List}
 use mathlib.Core.Logic.{_↔_}
 use Prim.Native.Nat.{ℕ, _/_, _^_, _≤_, _<_}
 pub mod Words
+use Words.*
 use Rattle.abo.proofs.abo_read.Statement as read-contract
 use Rattle.abo.proofs.abo_read.Met as read-call
 use Rattle.abo.proofs.abo_write.Statement as write-contract
