@@ -32,6 +32,7 @@ pub mod Rows
 pub mod Reading
 -- "Canonical spelling", and writing, whole
 pub mod Carried
+pub mod FirstWrong
 pub mod Canonical
 pub mod Writing
 -- "A whole run"
