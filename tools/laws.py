@@ -32,6 +32,8 @@ STANDING = {
     "calendar/proofs/Next": ("next-number", "next-real"),
     "calendar/proofs/Order": ("order", "one-day"),
     "sheet/proofs/Laws": ("letter-same",),
+    # each verdict of 20 and of 21 by itself; the demands speak of writing's whole answer
+    "firstwrong/proofs/Main": ("header-proper", "rows-proper", "header-carried", "rows-carried"),
     # contracts that are no equations leave one answer all the same
     "reader/proofs/Determined": ("finds-one",),
     "rewriting/proofs/Front": ("determined",),

@@ -1,0 +1,4 @@
+pub mod Verdicts
+pub mod Proper
+pub mod Carried
+pub mod Main
