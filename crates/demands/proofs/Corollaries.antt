@@ -1,9 +1,9 @@
--- What users quote of the demands, for a known sheet and a real day. Assumes nothing.
+-- What users quote of the demands. Assumes nothing.
 use mathlib.Core.Path.{_≡_}
 use mathlib.Core.Bool.{true}
 use mathlib.Core.List.{List}
 use mathlib.Core.Logic.{_↔_}
-use Prim.Native.Nat.{ℕ, suc, _≤_}
+use Prim.Native.Nat.{ℕ, suc, _/_, _≤_, _<_}
 use lib.ListN.{length}
 use Rattle.sheet.specs.declared.Sheet.{Sheet}
 use Rattle.sheet.specs.declared.Known.the-variants as known
@@ -15,9 +15,10 @@ use Rattle.paper.specs.Lines.{linesOf}
 use Rattle.paper.specs.Spells.{Spells, dues}
 use Rattle.paper.specs.Judge.{Refused, Accepted, judge}
 use Rattle.paper.specs.FirstFault.{FirstFault}
-use Rattle.paper.specs.Reading.{rowCount}
+use Rattle.paper.specs.Rows.{rowSize}
+use Rattle.paper.specs.Reading.{rowCount, readAnswer}
 use Rattle.paper.specs.Canonical.{canon}
-use Rattle.paper.specs.Writing.{drafted, draftOf}
+use Rattle.paper.specs.Writing.{drafted, draftOf, draft, writtenIn}
 use Rattle.paper.specs.Explaining.{refusedLine, acceptedLine, explanation}
 use Rattle.paper.specs.Rewriting.{rewritten}
 use Rattle.exact.proofs.Main as exact
@@ -25,9 +26,50 @@ use Rattle.faults.proofs.Main as faults
 use Rattle.named.proofs.Main as places
 use Rattle.whole.specs.Carries.{Carries, headRead, pastWarnings, Exactly}
 use Rattle.whole.proofs.Main as whole
+use Rattle.numbers.specs.Gives.{NoSheet, NoDay, Spelled, FileOf}
+use Rattle.numbers.proofs.Reading as read-numbers
+use Rattle.numbers.proofs.Writing as write-numbers
 use Rattle.uncut.specs.Severe.{severe}
 use Rattle.uncut.proofs.Main as uncut
 use Rattle.explain.proofs.Laws as explain
+
+-- ---- 1, 2 and 16, whatever the sheet's number and the day
+
+module _ (sheet today : ℕ) (f lent : List ℕ) where
+  -- Reading gives 1 exactly if the number names no sheet,
+  pub read-1 : readAnswer sheet today f lent .number ≡ 1 ↔ NoSheet sheet
+  read-1 = read-numbers.number-1 sheet today f lent
+
+  -- 2 exactly if it names one and today is no real day,
+  pub read-2 : readAnswer sheet today f lent .number ≡ 2 ↔ NoDay sheet today
+  read-2 = read-numbers.number-2 sheet today f lent
+
+  -- 16 exactly if the file spells a batch of more rows than are lent,
+  pub read-16 : readAnswer sheet today f lent .number ≡ 16
+      ↔ ((h : Header) × (n : ℕ) × (w : ℕ) × Spelled sheet today f h n w × (length lent / rowSize < n))
+  read-16 = read-numbers.number-16 sheet today f lent
+
+  -- and then its rows are needed.
+  pub read-needed : (h : Header) (n w : ℕ) → Spelled sheet today f h n w → length lent / rowSize < n → readAnswer sheet today f lent .needed ≡ n
+  read-needed = read-numbers.needed-16 sheet today f lent
+
+module _ (sheet today : ℕ) (h : Header) (rows texts : List ℕ) (room : ℕ) where
+  -- Writing gives 1 and 2 exactly then,
+  pub write-1 : writtenIn room (draft sheet today h rows texts) .number ≡ 1 ↔ NoSheet sheet
+  write-1 = write-numbers.number-1 sheet today h rows texts room
+
+  pub write-2 : writtenIn room (draft sheet today h rows texts) .number ≡ 2 ↔ NoDay sheet today
+  write-2 = write-numbers.number-2 sheet today h rows texts room
+
+  -- 16 exactly if there is a file to be written, of more bytes than are lent,
+  pub write-16 : writtenIn room (draft sheet today h rows texts) .number ≡ 16 ↔ ((n : ℕ) × FileOf sheet today h rows texts n × (room < n))
+  write-16 = write-numbers.number-16 sheet today h rows texts room
+
+  -- and then its bytes are needed.
+  pub write-needed : (n : ℕ) → FileOf sheet today h rows texts n → room < n → writtenIn room (draft sheet today h rows texts) .bytes ≡ n
+  write-needed = write-numbers.needed-16 sheet today h rows texts room
+
+-- ---- for a known sheet and a real day
 
 module _ (sheet : ℕ) (sh : Sheet) (named : sheetOf sheet ≡ known.Sheet sh) (today : ℕ) where
   module _ (f : List ℕ) (h : Header) (b : Batch) (w : ℕ) (s : Spells sh today f h b w) where

@@ -31,6 +31,8 @@ use Rattle.shown.proofs.Main as shown
 use Rattle.outcomes.proofs.Reading as reading
 use Rattle.outcomes.proofs.Written as written
 use Rattle.outcomes.proofs.Kept as kept
+use Rattle.numbers.proofs.Reading as read-numbers
+use Rattle.numbers.proofs.Writing as write-numbers
 
 -- ---- Demand 1: every call meets its contract for every input, made twice it answers alike, and a refusal changes nothing that was lent
 
@@ -71,7 +73,16 @@ pub refusal-shown : (sheet today : ℕ) (f lent : List ℕ) → Judged (readAnsw
     → Holds (lineAnswer (readAnswer sheet today f lent .line) f) (readAnswer sheet today f lent .byte)
 refusal-shown = shown.read-shown
 
--- ---- the other two speak of a known sheet and a real day
+-- ---- Demands 2 and 3, every number: an answer is given exactly if its case holds, whatever the sheet's number and the day
+
+pub reading-gives : (sheet today : ℕ) (f lent : List ℕ) (a : ReadAnswer) → readAnswer sheet today f lent ≡ a ↔ ReadGives sheet today f (length lent / rowSize) a
+reading-gives = read-numbers.reads
+
+pub writing-gives : (sheet today : ℕ) (h : Header) (rows texts out : List ℕ) (a : WriteAnswer)
+    → writtenIn (length out) (draft sheet today h rows texts) ≡ a ↔ WriteGives sheet today h rows texts (length out) a
+writing-gives sheet today h rows texts out = write-numbers.writes sheet today h rows texts (length out)
+
+-- ---- what follows speaks of a known sheet and a real day
 
 module _ (sheet : ℕ) (sh : Sheet) (named : sheetOf sheet ≡ known.Sheet sh) (today : ℕ) (day : realDay today ≡ true) where
   -- ---- Demand 2, reading
@@ -108,7 +119,16 @@ module _ (sheet : ℕ) (sh : Sheet) (named : sheetOf sheet ≡ known.Sheet sh) (
         ↔ ((b : Batch) (f : List ℕ) (w : ℕ) → Hold rows texts b → Spells sh today f (headRead sh h) b w → ⊥)
     refused-exactly = written.refused-exactly sheet sh named today day h rows texts
 
-    -- with 20 or 21.
+    -- with 20 exactly if row and field are the first that break a rule of "The batch" (the header is row 0),
+    pub improper : (row field : ℕ) → draft sheet today h rows texts ≡ refusal 20 row field ↔ FirstWrong (properRules sh h (thingsIn texts (rowsIn rows))) row field
+    improper = write-numbers.draft-improper sheet today h rows texts sh named day
+
+    -- with 21 exactly if no such rule is broken, and row and field are the first that the sheet does not carry on that day,
+    pub uncarried : (row field : ℕ) → draft sheet today h rows texts ≡ refusal 21 row field
+        ↔ AllMet (properRules sh h (thingsIn texts (rowsIn rows))) × FirstWrong (carriedRules sh today h (thingsIn texts (rowsIn rows))) row field
+    uncarried = write-numbers.draft-uncarried sheet today h rows texts sh named day
+
+    -- and with no other number.
     pub refused-by : (n row field : ℕ) → draft sheet today h rows texts ≡ refusal n row field → (20 ≤ n) × (n ≤ 21)
     refused-by = written.refused-by sheet sh named today day h rows texts
 

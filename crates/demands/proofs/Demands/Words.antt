@@ -11,14 +11,17 @@ pub use Rattle.paper.specs.Spells.{Spells}
 pub use Rattle.paper.specs.Judge.{Refused}
 pub use Rattle.paper.specs.FirstFault.{FirstFault}
 pub use Rattle.paper.specs.Canonical.{canon}
+pub use Rattle.paper.specs.FirstWrong.{AllMet, FirstWrong, properRules, carriedRules}
 -- .. and what the contracts of the calls name: the answers of reading and of writing, and the bytes that they leave
-pub use Rattle.paper.specs.Rows.{rowSize}
-pub use Rattle.paper.specs.Reading.{refusedAt, rowCount, readAnswer, rowsAfter}
-pub use Rattle.paper.specs.Writing.{Draft, refusal, draft, writtenIn, outputAfter}
+pub use Rattle.paper.specs.Rows.{rowSize, rowsIn, thingsIn}
+pub use Rattle.paper.specs.Reading.{ReadAnswer, refusedAt, rowCount, readAnswer, rowsAfter}
+pub use Rattle.paper.specs.Writing.{Draft, refusal, draft, WriteAnswer, writtenIn, outputAfter}
 pub use Rattle.reader.specs.Named.{lineAnswer}
 -- an answer together with the bytes that are left
 pub use Rattle.outcomes.specs.Outcomes.{ReadsAs, Hold, WritesAs}
 pub use Rattle.whole.specs.Carries.{Refuses, headRead, pastWarnings}
+-- when each number is given
+pub use Rattle.numbers.specs.Gives.{ReadGives, WriteGives}
 -- a refusal of a file, and the line that holds its byte
 pub use Rattle.named.specs.Numbers.{Judged}
 pub use Rattle.shown.specs.Holding.{Holds}
