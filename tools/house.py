@@ -13,6 +13,7 @@
   - no two programs have one name, as build/NAME is made of the NAME.c of any folder
   - no proof names a line of the source by its number, as the next edit moves it
   - no law, definition or function is there that nothing uses, and no name is brought in for nothing (tools/laws.py finds them)
+  - docs/PROOFS.md lists the files whose words say what is proved, and no other, with the lines that they have (tools/laws.py follows the words)
   - docs/WORKING.md says of each file of tools/ what it is for
   - docs/RULES.md names each file and each public definition of the rules and each field of a sheet, always as Module.name; what it names
     so is there
@@ -264,6 +265,23 @@ def the_whole_run():
         check(f"```\n{text}```" in page, f"docs/RULES.md does not have crates/rewrite/{name} as it is")
 
 
+def the_words():
+    page = (ROOT / "docs/PROOFS.md").read_text()
+    table = page[page.index("## What a sceptic must read"):].split("\n\n")[2]
+    listed = set()
+    for row in (line.split("|") for line in table.splitlines() if line.startswith("| `")):
+        paths = [path for name in re.findall(r"`(crates/[^`]+)`", row[1]) for path in sorted(ROOT.glob(name))]
+        count = sum(path.read_text().count("\n") for path in paths)
+        check(row[2].strip() == f"{count:,}", f"docs/PROOFS.md: {row[1].strip()} have {count:,} lines, not {row[2].strip()}")
+        listed |= {str(path.relative_to(ROOT / "crates").with_suffix("")) for path in paths}
+    spoken = laws.spoken(laws.load())
+    check(len(spoken) > 30, "tools/laws.py does not find the words of the demands")
+    said = {key for key in listed if "/specs/" in key and not key.endswith("/Lib")}
+    for key in sorted(spoken | said):
+        check(key in said, f"docs/PROOFS.md does not list crates/{key}.antt, whose words say what is proved")
+        check(key in spoken, f"docs/PROOFS.md lists crates/{key}.antt, of whose words none is needed")
+
+
 def the_tools():
     said = set(re.findall(r"^\| `([\w.]+\.(?:sh|py|c))` \|", (ROOT / "docs/WORKING.md").read_text(), re.M))
     there = {path.name for path in (ROOT / "tools").iterdir() if path.is_file()}
@@ -271,7 +289,7 @@ def the_tools():
         check(name in said and name in there, f"docs/WORKING.md and the folder of tools do not agree on {name}")
 
 
-looks = [the_list, the_drawing, first_lines, functions, files, edits, links, paths, c_files, the_tests, unused, the_tools]
+looks = [the_list, the_drawing, first_lines, functions, files, edits, links, paths, c_files, the_tests, unused, the_tools, the_words]
 looks += [the_rules, the_sheets, the_numbers, the_whole_run]
 for look in looks:
     look()

@@ -233,6 +233,29 @@ def tidy(file, unused):
     return "\n".join(lines) + "\n"
 
 
+def spoken(files):
+    """the files of definitions whose words say what is proved: those of the demands' statements and of the contracts of the calls and of
+    the functions that make them, and from there on down"""
+    todo = []
+    for key in ("demands/proofs/Demands", "demands/proofs/Corollaries"):
+        stated = (line.split("-- ")[0] for line in files[key].lines if not re.match(r"\s*[^\s:]+( [^\s:]+)* = ", line))
+        todo += named(files, files[key], set().union(*map(words, stated)))
+    for line in files["demands/proofs/Demands/Words"].lines:
+        found = re.match(r"pub use (\S+?)\.\{(.*?)\}$", line)
+        todo += [(key_of(found.group(1)), name) for name in found.group(2).split(", ")] if found else []
+    for key in ("abo/src/lib.rt", "demands/src/lib.rt"):
+        promised = (line for line in files[key].lines if line.strip().startswith(("requires", "ensures")))
+        todo += named(files, files[key], set().union(*map(words, promised)))
+    seen = set()
+    while todo:
+        key, name = todo.pop()
+        if key in files and "/specs/" in key and (key, name) not in seen:
+            seen.add((key, name))
+            whole = files[key].parts.get(name, name)  # of a field or a case, what it belongs to
+            todo += named(files, files[key], files[key].says[whole] - {name})
+    return {key for key, _ in seen}
+
+
 def sentences(files, looks):
     for sentence, look in looks:
         for file, number, name in look(files):
