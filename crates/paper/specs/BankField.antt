@@ -29,11 +29,11 @@ readBank ranked s =
     pick (eqb (n / 10000 % 10000) 0) (fault 12)
     (pick (ltb 999999999 n) (fault 13) (ninth ranked (n / 100000000) (n / 10000 % 10000) (n % 10000)))
 
--- "The batch": payee bank 1 to 9999, constant symbol below 10 ^ 4, priority 3 to 9
+-- "The batch": a payee bank is 1 to 9999
 unfoldable pub bankProper : ℕ → Bool
 bankProper b = pick (ltb b 1) false (leb b 9999)
 
--- a priority is 3 to 9
+-- "The batch": a priority is 3 to 9
 unfoldable pub priorityProper : ℕ → Bool
 priorityProper p = pick (ltb p 3) false (leb p 9)
 

@@ -22,7 +22,7 @@ isText x = pick (ltb x 32) false (pick (eqb x 127) false (leb x 255))
 unfoldable pub isDigit : ℕ → Bool
 isDigit x = pick (ltb x 48) false (leb x 57)
 
--- a space, a dash, a comma, `|` and `+`, each as a text of one byte
+-- a space, between fields ("Lines"); like the next three, a text of one byte
 abbrev pub space : List ℕ
 space = 32 ∷ []
 
@@ -38,7 +38,7 @@ comma = 44 ∷ []
 abbrev pub bar : List ℕ
 bar = 124 ∷ []
 
--- `AV:`, `NP:` and ` NP:`
+-- `AV:`, before a message ("Lines", tail)
 abbrev pub av : List ℕ
 av = 65 ∷ 86 ∷ 58 ∷ []
 
@@ -50,11 +50,11 @@ np = 78 ∷ 80 ∷ 58 ∷ []
 abbrev pub mark : List ℕ
 mark = 32 ∷ np
 
--- "Lines": a field runs to the next space or the line's end; what follows begins with that space, or is nothing
+-- "Lines": a field runs to the next space or the line's end
 abbrev pub fieldOf : List ℕ → List ℕ
 fieldOf s = before space s
 
--- "Lines": what is left of the line behind a field
+-- "Lines": what is left of the line behind a field; it begins with that space, or is nothing
 abbrev pub restOf : List ℕ → List ℕ
 restOf s = drop (seek space s) s
 

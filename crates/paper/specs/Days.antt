@@ -43,7 +43,7 @@ realDay d =
     (pick (ltb (dayOf d) 1) false
     (leb (dayOf d) (monthDays (yearOf d) (monthOf d)))))))
 
--- the days of the first n years from 2000 on, and of the first m months of year y
+-- the days of the first n years from 2000 on
 unfoldable pub yearsDays : ℕ → ℕ
 yearsDays zero = 0
 yearsDays (suc n) = yearsDays n + pick (leap (2000 + n)) 366 365

@@ -65,7 +65,7 @@ tail sh at s k = pick (sh .fixedtail) (fixedTail (sh .text) k at s) (openTail (s
 
 -- ---- the whole line
 
--- bytes and places of the four parts and the name
+-- the bytes of the four parts
 abbrev pub partBytes : Texts → List (List ℕ)
 partBytes t = map (λ (p : Piece). p .bytes) (t .parts)
 

@@ -26,7 +26,7 @@ revOn (x ∷ a) m = revOn a (x ∷ m)
 
 -- ---- what is due after some lines, with the batch so far (lists are kept last one first) and the warnings so far
 
--- the lines that opened an account file and a group; the total with its line and byte
+-- the line that opened an account file: its kind and number
 pub record FileHead : Type 0 where
   pub kind : ℕ
   pub number : ℕ

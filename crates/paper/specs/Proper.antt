@@ -69,7 +69,7 @@ mayStop needGroup = false
 mayStop needItem = false
 mayStop any = true
 
--- the rows before: account files, items of the last account file, whether the last group is single, and its sum
+-- what may come next, and of the rows before: account files, items of the last account file, whether the last group is single, and its sum
 pub record Before : Type 0 where
   pub stage : Stage
   pub files : ℕ
@@ -81,13 +81,15 @@ pub record Before : Type 0 where
 abbrev pub atTop : Before
 atTop = record { stage = needFile; files = 0; items = 0; single = false; sum = 0 }
 
--- what stands before the next row, behind an account file's row, a group's and an item's
+-- what stands before the next row, behind an account file's
 abbrev pub afterFile : Before → Before
 afterFile b = record { stage = needGroup; files = b .files + 1; items = 0; single = false; sum = 0 }
 
+-- .. behind a group's
 abbrev pub afterGroup : Before → Account → Before
 afterGroup b payer = record { stage = needItem; files = b .files; items = b .items; single = isNobody payer; sum = 0 }
 
+-- .. behind an item's
 abbrev pub afterItem : Before → Item → Before
 afterItem b x = record { stage = any; files = b .files; items = b .items + 1; single = b .single; sum = b .sum + x .amount }
 

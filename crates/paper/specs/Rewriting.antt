@@ -14,7 +14,7 @@ use Rattle.paper.specs.Judge.{Answer, Refused, Accepted, judge}
 use Rattle.paper.specs.Canonical.{canon}
 use Rattle.paper.specs.Explaining.{refusedLine}
 
--- the input's first line, and what stands behind its end; it ends as a file's lines do
+-- the input's first line without its end; it ends as a file's lines do
 unfoldable pub firstLine : List ℕ → List ℕ
 firstLine [] = []
 firstLine (b ∷ s) = pick (eqb b 10) [] (pick (eqb b 13) [] (b ∷ firstLine s))

@@ -120,12 +120,12 @@ Each sh today (t ∷ ts) (d ∷ ds) w = (v : ℕ) × (u : ℕ) × Says sh today 
 
 -- ---- the rules over several lines
 
--- how many items groups and account files have
+-- how many items groups have
 unfoldable pub groupItems : List Group → ℕ
 groupItems [] = 0
 groupItems (g ∷ gs) = length (g .items) + groupItems gs
 
--- .. and account files
+-- how many items account files have
 unfoldable pub fileItems : List AccountFile → ℕ
 fileItems [] = 0
 fileItems (f ∷ fs) = groupItems (f .groups) + fileItems fs

@@ -97,11 +97,11 @@ module _ (y : Style) where
 unfoldable pub lacks : List ℕ → List ℕ → Bool
 lacks ps s = eqb (seek ps s) (length s)
 
--- "The batch": a part and a name have 0 to 35 text bytes, and a part no `|`
+-- "The batch": a name has 0 to 35 text bytes
 unfoldable pub nameProper : List ℕ → Bool
 nameProper n = pick (ltb 35 (length n)) false (all isText n)
 
--- "The batch": a part, besides, holds no `|`
+-- "The batch": so has a part, and it holds no `|`
 unfoldable pub partProper : List ℕ → Bool
 partProper p = pick (nameProper p) (lacks bar p) false
 
@@ -113,7 +113,7 @@ partCarried y i p = pick (pick (ltb i (y .most)) true (null p)) (pick (y .names)
 unfoldable pub nameCarried : Style → List ℕ → Bool
 nameCarried y n = pick (y .names) true (null n)
 
--- the same of all parts, the first being part i
+-- all parts are as "The batch" says
 unfoldable pub partsProper : List (List ℕ) → Bool
 partsProper [] = true
 partsProper (p ∷ ps) = pick (partProper p) (partsProper ps) false

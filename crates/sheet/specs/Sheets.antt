@@ -21,11 +21,11 @@ styleS = record { av = false; may = false; names = false; cuts = false; most = 1
 abbrev pub styleC : Style
 styleC = record { av = true; may = true; names = true; cuts = true; most = 4 }
 
--- more days than 2000 to 2099 have: no day is too far ahead ("Due date": S and E)
+-- as many days as 2000 to 2099 have, so that no day is too far ahead ("Due date": S and E)
 abbrev pub anyDay : ℕ
 anyDay = 36525
 
--- as many items as 1,000 account files of 99,999 can have: no file has more ("Numbers returned", 15: only S has a limit of its own)
+-- as many items as 1,000 account files of 99,999 have, so that no file has too many ("Numbers returned", 15: only S has a limit of its own)
 abbrev pub anyItems : ℕ
 anyItems = 99999000
 
