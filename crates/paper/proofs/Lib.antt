@@ -1,7 +1,5 @@
-pub mod Cases
 pub mod Lists
 pub mod LineSays
 pub mod Starts
 pub mod Trees
 pub mod Verdicts
-pub mod WholeRun

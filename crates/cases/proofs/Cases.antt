@@ -4,18 +4,16 @@ use Prim.Native.String.{String}
 use mathlib.Core.Bool.{true, false}
 use mathlib.Core.List.{[], _∷_}
 use mathlib.Core.Path.{_≡_, refl}
-use Rattle.base.specs.Pick.{pick}
-use Rattle.base.specs.Seek.{all, starts, seek}
 use Rattle.sheet.specs.declared.Sheet.{Sheet}
 use Rattle.sheet.specs.Sheets.{sheetK, sheetC, sheetE}
-use Rattle.paper.specs.Read.{Field, value, fault, given}
-use Rattle.paper.specs.Bytes.{bytes, isText, isDigit, null}
-use Rattle.paper.specs.Numerals.{digitsOn, digits}
-use Rattle.paper.specs.Days.{leap, monthDays, realDay, yearsDays, monthsDays, dayNumber, real, shortDay, longDay, readDay, past, dueAllowed, readDue}
-use Rattle.paper.specs.Accounts.{Account, account, weighted, nonZero, accountOk, ruled, twoParts, onePart, readAccount}
-use Rattle.paper.specs.Amounts.{withComma, readAmount, amountProper, readItemAmount}
-use Rattle.paper.specs.BankField.{Bank, ninth, readBank}
-use Rattle.paper.specs.Texts.{piece, Texts, others, cut, over, overs, pad, opens, finish, messageEnd, message, marked, readText}
+use Rattle.paper.specs.Read.{Field, value, fault}
+use Rattle.paper.specs.Bytes.{bytes}
+use Rattle.paper.specs.Days.{realDay, readDay, readDue}
+use Rattle.paper.specs.Accounts.{Account, account, readAccount}
+use Rattle.paper.specs.Amounts.{readItemAmount}
+use Rattle.paper.specs.BankField.{Bank, readBank}
+use Rattle.paper.specs.Texts.{piece, Texts, readText}
+use Rattle.cases.specs.Asked.{judged}
 
 -- a field on a sheet
 abbrev pub accountOn : Sheet → String → Field Account
@@ -64,8 +62,5 @@ pub table :
     × (dueOn sheetK 20180101 "010119" ≡ fault 11)
     -- an empty message and the name Jan
     × (readText (sheetC .text) 0 (bytes "AV: NP:Jan") ≡ value (named 7 "Jan"))
-unfolding pick all starts seek given isText isDigit null digitsOn digits
-    leap monthDays realDay yearsDays monthsDays dayNumber real shortDay longDay readDay past dueAllowed readDue
-    weighted nonZero accountOk ruled twoParts onePart readAccount withComma readAmount amountProper readItemAmount ninth readBank
-    others cut over overs pad opens finish messageEnd message marked readText
+unfolding judged
 table = (refl, refl, refl, refl, refl, refl, refl, refl, refl, refl, refl, refl, refl, refl, refl, refl, refl, refl, refl, refl, refl)

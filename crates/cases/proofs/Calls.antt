@@ -1,0 +1,61 @@
+-- Worked examples of docs/DECISIONS.md, points 25, 32 and 33: whole answers of reading, rewriting and explaining, computed over the definitions.
+-- Assumes nothing.
+use Prim.Native.Nat.{ℕ}
+use mathlib.Core.List.{List, [], _++_}
+use mathlib.Core.Path.{_≡_, refl}
+use lib.ListN.{replicate}
+use Rattle.sheet.specs.declared.Sheet.{Sheet}
+use Rattle.paper.specs.Bytes.{bytes}
+use Rattle.paper.specs.Batch.{noHeader}
+use Rattle.paper.specs.Rows.{blanks}
+use Rattle.paper.specs.Reading.{refusedAt, needs, acceptedAs, readAnswer}
+use Rattle.paper.specs.Writing.{drafted}
+use Rattle.paper.specs.Explaining.{explanation}
+use Rattle.paper.specs.Rewriting.{rewriting}
+use Rattle.sheet.specs.Sheets.{sheetK as K, sheetS as S, sheetC as C, sheetE as E}
+use Rattle.cases.specs.Asked.{today, rewrites}
+use Rattle.cases.specs.Frame.{frame, endedBy, group, item, header}
+
+-- the frame as a file
+abbrev file : Sheet → List ℕ
+file sh = endedBy "\n" (frame sh)
+
+-- Point 25, reading: 1, then 2, then the file, last 16 with the rows needed. Each refusal returns no row, no warning and C's header.
+pub answers :
+    (readAnswer 1 today (file K) (blanks 576) ≡ acceptedAs (header K) 3 0)
+    × (readAnswer 3 today (group C "2 19-19 5002 311217" .file) (blanks 600) ≡ acceptedAs noHeader 3 2)
+    × (readAnswer 4 today (file E) (blanks 575) ≡ needs 3)
+    × (readAnswer 2 today (item S "706" .file) [] ≡ refusedAt 5 4 98)
+    × (readAnswer 5 20180229 [] [] ≡ refusedAt 1 0 0)
+    × (readAnswer 0 today (file K) (blanks 576) ≡ refusedAt 1 0 0)
+    × (readAnswer 1 20180229 [] [] ≡ refusedAt 2 0 0)
+    × (readAnswer 1 21000101 (file K) (blanks 576) ≡ refusedAt 2 0 0)
+unfolding rewrites
+answers = (refl, refl, refl, refl, refl, refl, refl, refl)
+
+-- Point 32, the rewriting program: its input's first byte alone is 1, so is no input; the rest of that line is 2. The line may end in any way or lack its end.
+-- More than 8,192 bytes are 16, before the file is looked at.
+pub runs :
+    (rewriting [] ≡ bytes "refused 1 line 0 byte 0\n")
+    × (rewriting (bytes "k 290223") ≡ bytes "refused 1 line 0 byte 0\n")
+    × (rewriting (bytes "K") ≡ bytes "refused 2 line 0 byte 0\n")
+    × (rewriting (bytes "K010118") ≡ bytes "refused 2 line 0 byte 0\n")
+    × (rewriting (bytes "K 290223") ≡ bytes "refused 2 line 0 byte 0\n")
+    × (rewriting (bytes "K 010118 \nUHL1") ≡ bytes "refused 2 line 0 byte 0\n")
+    × (rewriting (bytes "K 010118") ≡ bytes "refused 3 line 1 byte 0\n")
+    × (rewriting (bytes "C 010118\r\nUHL1") ≡ bytes "refused 3 line 2 byte 4\n")
+    × (rewriting (bytes "C 010118\rUHL1\n706") ≡ bytes "refused 3 line 2 byte 5\n")
+    × (rewriting (bytes "C 010118\n\rUHL1") ≡ bytes "refused 3 line 1 byte 0\n")
+    × (rewriting (bytes "C 010118\nx" ++ replicate 8182 120) ≡ bytes "refused 3 line 1 byte 0\n")
+    × (rewriting (bytes "C 010118\nx" ++ replicate 8183 120) ≡ bytes "refused 16 line 0 byte 0\n")
+    × (rewriting (bytes "C 0x0118\nx" ++ replicate 8183 120) ≡ bytes "refused 2 line 0 byte 0\n")
+unfolding rewrites
+runs = (refl, refl, refl, refl, refl, refl, refl, refl, refl, refl, refl, refl, refl)
+
+-- Point 33: an explanation tells rows and warnings of what is accepted, and the refusal of what is not.
+pub explanations :
+    (explanation 3 today (group C "2 19-19 5002 311217" .file) ≡ drafted (bytes "accepted rows 3 warnings 2\n"))
+    × (explanation 1 today [] ≡ drafted (bytes "refused 3 line 1 byte 0\n"))
+    × (explanation 9 today [] ≡ drafted (bytes "refused 1 line 0 byte 0\n"))
+unfolding rewrites
+explanations = (refl, refl, refl)
