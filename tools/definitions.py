@@ -1,119 +1,354 @@
 #!/usr/bin/env python3
-"""Edits a definition of document 01 on each side, reading, writing and canonical, and looks that a demand falls with it: the prover must
-refuse the crate of theorems that is named, and nothing below it. All crates below are copied with it and proved anew as far as the
-definition reaches; what it does not reach is taken over from what `rt check` proved (tools/kept.py), which comes first. The last line is
+"""Edits definitions of document 01, one for each kind of line and field, and looks that theorems fall with each: the prover must refuse the
+crate that is named, a crate of theorems that a demand stands on or a table of worked examples (crates/cases), and nothing below it. All
+crates below are copied with it and proved anew as far as the definition reaches; what it does not reach is taken over from what `rt check`
+proved (tools/kept.py), which comes first. One check for each processor is made at a time (RT_JOBS says otherwise). The last line is
 'N passed, M failed'.
 
 A fall counts only if the same crates, copied in the same way, are proved without the edit, and if the first that the prover says is that a
 fact fails.
 """
+import concurrent.futures
+import os
 import pathlib
 import re
 import shutil
 import sys
 import tempfile
+import time
 
 from kept import Modules, below, complaints, copy, is_fact, is_ours, is_proved, is_refused, rt_check, stands_on
 
-# the title, what would be wrong, the file below crates/, what it says and would say, and the crate of theorems that must fall
+# What is edited, and what would be wrong; the file of crates/paper/specs, what it says and would say; and the crate that must fall, with
+# cases the one table that is proved there.
 WRONG = [
+    # ---- reading: lines
     (
-        "reading",
+        "the ends of lines, read",
+        "CR LF would be two ends",
+        "Lines",
+        "(pick (startsLF bs) (behind i rest) (ended i rest))",
+        "(ended i rest)",
+        "cases/Lines",
+    ),
+    (
+        "the first line, read",
+        "its rest would have 11 bytes",
+        "FirstLine",
+        "pick (eqb n 12) true",
+        "pick (eqb n 11) true",
+        "lineback",
+    ),
+    (
+        "an account file's line, read",
+        "K's interval would be a range of six digits",
+        "FileLine",
+        "series n = n / 1000",
+        "series n = n",
+        "cases/Heads",
+    ),
+    (
+        "a group's line, read",
+        "two spaces would announce a payer",
+        "GroupLine",
+        "(leb 3 (spaceCount s))",
+        "(leb 2 (spaceCount s))",
+        "lineback",
+    ),
+    (
+        "an item's line, read",
+        "a symbol on C would begin a text",
+        "ItemLine",
+        "pick (pick bare (pick (isValue (readSymbol (fieldOf s))) false true) false)",
+        "pick bare",
+        "cases/Items",
+    ),
+    (
+        "a closing line, read",
+        "a `+` that the sheet does not take would be told at the line's start",
+        "ClosingLine",
+        "(no 4 1)",
+        "(no 4 0)",
+        "cases/Lines",
+    ),
+    (
+        "a whole file, read",
         "15 would come at account file 1,000",
-        "paper/specs/Judge.antt",
+        "Judge",
         "isFull sh (atFile h fs w) k = leb 1000 (length fs)",
         "isFull sh (atFile h fs w) k = leb 999 (length fs)",
         "exact",
     ),
+    # ---- reading: fields
     (
-        "writing",
-        "a priority would be carried on every sheet",
-        "paper/specs/Carried.antt",
+        "a number, read",
+        "it might have one digit more",
+        "Numerals",
+        "(ltb most (length s))",
+        "(ltb (suc most) (length s))",
+        "cases/Items",
+    ),
+    (
+        "an account, read",
+        "two weights would be swapped",
+        "Accounts",
+        "10 ∷ 9 ∷ 7 ∷",
+        "10 ∷ 7 ∷ 9 ∷",
+        "cases/Cases",
+    ),
+    (
+        "an amount, read",
+        "one digit might stand behind the comma",
+        "Amounts",
+        "(digits 2 2 (drop",
+        "(digits 1 2 (drop",
+        "cases/Cases",
+    ),
+    (
+        "a bank field, read",
+        "13 for the tenth digit would come before 12",
+        "BankField",
+        "pick (eqb (n / 10000 % 10000) 0) (fault 12)\n    (pick (ltb 999999999 n) (fault 13) (ninth",
+        "pick (ltb 999999999 n) (fault 13)\n    (pick (eqb (n / 10000 % 10000) 0) (fault 12) (ninth",
+        "cases/Order",
+    ),
+    (
+        "a day, read",
+        "the last day that a sheet takes would be refused",
+        "Days",
+        "(leb (dayNumber d - dayNumber today) ahead)",
+        "(ltb (dayNumber d - dayNumber today) ahead)",
+        "cases/Cases",
+    ),
+    (
+        "a text, read",
+        "its bytes behind the 35th would not be tested",
+        "Texts",
+        "pick (all isText t)",
+        "pick (all isText (take 35 t))",
+        "cases/Items",
+    ),
+    (
+        "parts and name, read",
+        "a name would begin behind `NP:` with no space before it",
+        "Texts",
+        "(seek mark m) (length m)",
+        "(seek np m) (length m)",
+        "cases/Items",
+    ),
+    # ---- the canonical spelling
+    (
+        "the first line, canonical",
+        "the interval's ends would be swapped",
+        "FirstLine",
+        "(fixed 3 (h .from) ++ (fixed 3 (h .to) ++ fixed 12 0))",
+        "(fixed 3 (h .to) ++ (fixed 3 (h .from) ++ fixed 12 0))",
+        "lineback",
+    ),
+    (
+        "an account file's line, canonical",
+        "BANK would be C's on every sheet",
+        "FileLine",
+        "fixed 4 (sh .bank)",
+        "fixed 4 300",
+        "cases/Writing",
+    ),
+    (
+        "a group's line, canonical",
+        "two spaces would stand in single groups of K and C, and one in those of S and E",
+        "GroupLine",
+        "(pick always (32 ∷ []) [])",
+        "(pick always [] (32 ∷ []))",
+        "lineback",
+    ),
+    (
+        "an item's line, canonical",
+        "the symbol 0 would be missing before a text",
+        "ItemLine",
+        "(32 ∷ (decimal specific ++ (32 ∷ spellText (sh .text) parts name))))",
+        "(pick (eqb specific 0) [] (32 ∷ decimal specific) ++ (32 ∷ spellText (sh .text) parts name)))",
+        "cases/Writing",
+    ),
+    (
+        "a closing line, canonical",
+        "it would have no space",
+        "ClosingLine",
+        "spellClose digit = digit ∷ 32 ∷ 43 ∷ []",
+        "spellClose digit = digit ∷ 43 ∷ []",
+        "lineback",
+    ),
+    (
+        "a number, canonical",
+        "0 would have no digit",
+        "Numerals",
+        "pick (ltb n 10) ((48 + n) ∷ s)",
+        "pick (ltb n 1) s",
+        "cases/Writing",
+    ),
+    (
+        "an account, canonical",
+        "the prefix 0 would be spelled",
+        "Accounts",
+        "spellAccount a = pick (eqb (a .prefix) 0)",
+        "spellAccount a = pick (eqb (a .base) 0)",
+        "cases/Writing",
+    ),
+    (
+        "a bank field, canonical",
+        "the priority would stand there without a 0 before it",
+        "BankField",
+        "(fixed 10 (priority * 100000000",
+        "(fixed 9 (priority * 100000000",
+        "cases/Writing",
+    ),
+    (
+        "a day, canonical",
+        "the month would come before the day",
+        "Days",
+        "dayOf d * 10000 + monthOf d * 100",
+        "monthOf d * 10000 + dayOf d * 100",
+        "cases/Writing",
+    ),
+    (
+        "a text, canonical",
+        "empty parts at its end would be spelled on S",
+        "Texts",
+        "(joined (trim parts))",
+        "(joined parts)",
+        "cases/Writing",
+    ),
+    # ---- rows, and what a sheet carries
+    (
+        "an item's row",
+        "its amount would stand in the place of its bank",
+        "Rows",
+        "∷ x .bank ∷ x .amount ∷",
+        "∷ x .amount ∷ x .bank ∷",
+        "rowlaws",
+    ),
+    (
+        "an item, carried",
+        "any priority would be on every sheet",
+        "Carried",
         "priorityCarried (sh .priority) (x .priority)",
         "priorityCarried true (x .priority)",
         "linesound",
     ),
     (
-        "items",
+        "an account file, carried",
+        "a number that repeats another's first three digits would be on K",
+        "Carried",
+        "(series number ∷ seen) ts))",
+        "seen ts))",
+        "whole",
+    ),
+    (
+        "the rules of rows, listed",
         "the first row that breaks a rule would be item 100,001 of an account file",
-        "paper/specs/FirstWrong.antt",
+        "FirstWrong",
         "ltb (length (itemsOfFile before)) 99999",
         "ltb (length (itemsOfFile before)) 100000",
         "firstwrong",
     ),
     (
-        "order",
+        "the order of rules, listed",
         "a payee would be tested before the payer",
-        "paper/specs/FirstWrong.antt",
+        "FirstWrong",
         "    ∷ rule k 1 (itemPayerProper (inSingle before) (x .payer))\n    ∷ rule k 3 (accountProper (x .payee))\n",
         "    ∷ rule k 3 (accountProper (x .payee))\n    ∷ rule k 1 (itemPayerProper (inSingle before) (x .payer))\n",
         "firstwrong",
     ),
     (
-        "sum",
-        "a group's sum would go on from the group before it",
-        "paper/specs/Proper.antt",
+        "a group's sum, in rows",
+        "it would go on from the group before it",
+        "Proper",
         "items = b .items; single = isNobody payer; sum = 0 }",
         "items = b .items; single = isNobody payer; sum = b .sum }",
         "firstwrong",
     ),
-    (
-        "canonical",
-        "the header's interval would be spelled with its ends swapped",
-        "paper/specs/FirstLine.antt",
-        "(fixed 3 (h .from) ++ (fixed 3 (h .to) ++ fixed 12 0))",
-        "(fixed 3 (h .to) ++ (fixed 3 (h .from) ++ fixed 12 0))",
-        "lineback",
-    ),
 ]
 
 
-def ask(tree, crate, kept):
-    """What the prover says of a crate and all below it, each from its source."""
-    words = ["--incremental", str(kept)]
-    for name in below(crate)[1:]:
-        words += ["--lib", f"{name}:{','.join(filter(is_ours, stands_on(name)))}={tree / name / 'src/lib.rt'}"]
-    status, said = rt_check(tree / crate, *words)
-    return status, said.replace(f"{tree}/", "")
+def link(folder, to):
+    """The same modules in another folder. The prover puts a new file in the place of a module that has changed, so links will do."""
+    shutil.copytree(folder, to, copy_function=os.link)
 
 
-def falls(work, modules, file, old, new, crate):
-    """What is wrong with the edit or with what the prover says of it, or None; and the place where a fact fails."""
-    tree, kept = work / "crates", work / "kept"
-    for name in below(crate):
-        copy(name, tree / name)
-    modules.put(below(crate), kept)
-    status, said = ask(tree, crate, kept)
-    if not is_proved(status, said):
-        return f"{crate} is not proved without the edit: {said[-300:]}", None
-    path = tree / file
-    text = path.read_text(encoding="utf-8")
-    if text.count(old) != 1:
-        return f"what it takes out stands {text.count(old)} times in {file}", None
-    path.write_text(text.replace(old, new), encoding="utf-8")
-    status, said = ask(tree, crate, kept)
-    found = complaints(said)
-    if not is_refused(status, said) or not found:
-        return f"{crate} is not refused (exit {status}): {said[-300:]}", None
-    others = [place for place, _ in found if not place.startswith(f"{crate}/")]
-    others += [f for f in re.findall(r"^fn (\w+)::\w+.*: not proved", said, re.M) if f != crate]
-    if others:
-        return f"what is refused is not only {crate}: {others[0]}", None
-    place, words = found[0]
-    return None if is_fact(words) else f"refused, but not because a fact fails: {place}: {words[:300]}", place
+class Fallen:
+    """A crate that edits must make fall, or a table of one: copied with all crates below, over the modules that their proofs left."""
+
+    def __init__(self, name, work, modules):
+        self.crate, _, self.table = name.partition("/")
+        self.work = work / name.replace("/", ".")
+        self.plain, self.kept = self.work / "plain", self.work / "kept"
+        for one in below(self.crate):
+            copy(one, self.plain / one)
+        if self.table:
+            self.leave_table()
+        link(modules, self.kept)
+        status, said = self.ask(self.plain, self.kept)
+        self.wrong = None if is_proved(status, said) else f"{name} is not proved without the edit: {said[-300:]}"
+
+    def leave_table(self):
+        proofs = self.plain / self.crate / "proofs"
+        for path in proofs.glob("*.antt"):
+            if path.stem != self.table:
+                path.unlink()
+        (proofs / "Lib.antt").write_text(f"pub mod {self.table}\n")
+
+    def ask(self, tree, kept):
+        """What the prover says of the crate and all below it, each from its source."""
+        words = ["--incremental", str(kept)]
+        for name in below(self.crate)[1:]:
+            words += ["--lib", f"{name}:{','.join(filter(is_ours, stands_on(name)))}={tree / name / 'src/lib.rt'}"]
+        status, said = rt_check(tree / self.crate, *words)
+        return status, said.replace(f"{tree}/", "")
+
+    def tried(self, label, file, old, new):
+        """What is wrong with the edit or with what the prover says of it, or None; and the place where a fact fails."""
+        if self.wrong:
+            return self.wrong, None
+        place = self.work / label
+        tree, kept = place / "crates", place / "kept"
+        shutil.copytree(self.plain, tree)
+        link(self.kept, kept)
+        path = tree / file
+        text = path.read_text(encoding="utf-8")
+        if text.count(old) != 1:
+            return f"what it takes out stands {text.count(old)} times in {file}", None
+        path.write_text(text.replace(old, new), encoding="utf-8")
+        status, said = self.ask(tree, kept)
+        shutil.rmtree(place)
+        found = complaints(said)
+        if not is_refused(status, said) or not found:
+            return f"{self.crate} is not refused (exit {status}): {said[-300:]}", None
+        others = [at for at, _ in found if not at.startswith(f"{self.crate}/")]
+        others += [f for f in re.findall(r"^fn (\w+)::\w+.*: not proved", said, re.M) if f != self.crate]
+        if others:
+            return f"what is refused is not only {self.crate}: {others[0]}", None
+        at, words = found[0]
+        return None if is_fact(words) else f"refused, but not because a fact fails: {at}: {words[:300]}", at
 
 
 def main():
     passed = 0
-    with tempfile.TemporaryDirectory() as folder:
+    jobs = int(os.environ.get("RT_JOBS", os.cpu_count() or 1))
+    with tempfile.TemporaryDirectory() as folder, concurrent.futures.ThreadPoolExecutor(jobs) as pool:
         work = pathlib.Path(folder).resolve()
-        modules = Modules(work / "learnt")
-        for title, idea, file, old, new, crate in WRONG:
-            wrong, place = falls(work / title, modules, file, old, new, crate)
-            fell = f"{title}: {idea}: {crate} is not proved any more, as it must be (first at {place})"
-            print(f"failed: {title}: {wrong}" if wrong else fell, flush=True)
+        names = sorted({name for *_, name in WRONG})
+        modules = work / "modules"
+        Modules(work / "learnt").put({one for name in names for one in below(name.partition("/")[0])}, modules)
+        fallen = dict(zip(names, pool.map(lambda name: Fallen(name, work, modules), names)))
+
+        def one(number):
+            _, _, file, old, new, name = WRONG[number]
+            began = time.time()
+            return *fallen[name].tried(str(number), f"paper/specs/{file}.antt", old, new), time.time() - began
+
+        for (title, idea, *_, name), (wrong, at, seconds) in zip(WRONG, pool.map(one, range(len(WRONG)))):
+            fell = f"{title}: {idea}: {name} is not proved any more, as it must be (first at {at}; {seconds:.1f} s)"
+            print(f"failed: {title}: {idea}: {wrong}" if wrong else fell, flush=True)
             passed += wrong is None
-            shutil.rmtree(work / title)
     print(f"{passed} passed, {len(WRONG) - passed} failed")
     return 0 if passed == len(WRONG) else 1
 

@@ -18,7 +18,7 @@ FUNCTION = re.compile(r"^( *)(?:pub )?(?:extern \"C\" )?fn (\w+)")
 FACT = re.compile(r"no proof of|the goal does not follow|give a proof of that|it is not proved that")
 # .. or it is an equation, or what the function ensures, and another one is proved; but not where a proof written out by hand has other
 # steps than the program.
-DIFFER = re.compile(r"the two types (first )?differ|expected type `[^`]*(≡|Path)[^`]*`, but this has type `[^`]*≡|expected type `([^` ]*\.)?[Rr]eads\.Post ")
+DIFFER = re.compile(r"the two types (first )?differ|the two types are `Path |expected type `[^`]*(≡|Path)[^`]*`, but this has type `[^`]*≡|expected type `([^` ]*\.)?[Rr]eads\.Post ")
 STEPS = re.compile(r"types\.Kit|prog\.Wp")
 # Said of all that stands on something refused.
 FOLLOWS = re.compile(r"was not admitted|which (is|are) not proved")
