@@ -49,9 +49,10 @@ pub first-fields :
     × (first S "UHL1010118RYBNIKY             1234567890 00900000000000000" gives 4 at 40)
     × (first E "UHL1010118RYBNIKY             123456789000090-000000000000" gives 4 at 43)
     × (first K "UHL1010118RYBNIKY             1234567890901900000000000000" gives 9 at 43)
+    × (first K "UHL1010118RYBNIKY             1234567890000000000000000000" heads headed 20180101 "RYBNIKY             " 1234567890 0 0)
     × (first S "UHL1010118RYBNIKY             1234567890901900000000000000" heads headed 20180101 "RYBNIKY             " 1234567890 901 900)
 unfolding judged
-first-fields = (refl, refl, refl, refl, refl, refl, refl, refl, refl)
+first-fields = (refl, refl, refl, refl, refl, refl, refl, refl, refl, refl)
 
 -- Point 10: on C anything follows `UHL1`, control bytes too.
 pub first-of-c :
@@ -76,6 +77,7 @@ pub openings :
     × (opening C "1 01501 000000 0300" gives 4 at 2)
     × (opening E "1  1501 000000 6100" gives 4 at 2)
     × (opening K "1 1501 00000 8100" gives 4 at 7)
+    × (opening C "1 1501 0000000 0300" gives 4 at 7)
     × (opening K "1 1501  000000 8100" gives 4 at 7)
     × (opening C "1 1501" gives 4 at 6)
     × (opening C "1 1501 000000" gives 4 at 13)
@@ -89,11 +91,12 @@ pub openings :
     × (opening C "1 1501 000000 0300 x" gives 4 at 18)
     -- K: the first three digits of the number lie in the interval 000 to 900, and come once
     × (opening K "1 1501 901000 8100" gives 9 at 7)
+    × (judged K (first K "UHL1010118RYBNIKY             1234567890001900000000000000" .file) ≡ Refused 9 2 66)
     × (opening K "1 1501 900999 8100" reads filed 1501 900999 warned 0)
     × (behind K "1 1501 000999 8100" gives 9 at 7)
     × (behind K "1 1501 001000 8000" gives 8 at 14)
 unfolding judged
-openings = (refl, refl, refl, refl, refl, refl, refl, refl, refl, refl, refl, refl, refl, refl, refl, refl, refl, refl, refl, refl, refl, refl, refl, refl, refl, refl, refl)
+openings = (refl, refl, refl, refl, refl, refl, refl, refl, refl, refl, refl, refl, refl, refl, refl, refl, refl, refl, refl, refl, refl, refl, refl, refl, refl, refl, refl, refl, refl)
 
 -- Points 14 and 15, the payer of a group: on K and C all spaces of the line say whether its field is there, and on S and E it always is. Only zeros
 -- are no payer on K and E, and an account on S and C.

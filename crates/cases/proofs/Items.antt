@@ -40,6 +40,7 @@ pub amounts :
     × (item E "705 000000000050,01 42 03000558" gives 4 at 4)
     × (item C "705 50,01 42 03000558" gives 4 at 4)
     × (item E "705 5,00,1 42 03000558" gives 4 at 4)
+    × (item E "705 5,001 42 03000558" gives 4 at 4)
     × (item E "705 1000000000000 42 03000558" gives 6 at 4)
     × (item E "705 10000000000,00 42 03000558" gives 6 at 4)
     × (item K "705 000000000005001 42 03000558" gives 4 at 4)
@@ -47,7 +48,7 @@ pub amounts :
     × (item E "705 0,00 42 03000558" gives 6 at 4)
     × (item K "705 5001" gives 4 at 8)
 unfolding judged
-amounts = (refl, refl, refl, refl, refl, refl, refl, refl, refl, refl, refl, refl, refl)
+amounts = (refl, refl, refl, refl, refl, refl, refl, refl, refl, refl, refl, refl, refl, refl)
 
 -- The variable symbol has 1 to 10 digits. Point 12: on K, C and E a space behind the bank field announces a symbol or a text, and one behind the
 -- symbol a text; nothing there is 4 at the line's end.
@@ -63,9 +64,10 @@ pub symbols :
     × (item C "705 5001 42 03000558 17 " gives 4 at 24)
     × (item E "705 5001 42 03000558 17 " gives 4 at 24)
     × (item K "705 5001 42 03000558 0000000017" reads texts 17 [] "" warned 0)
+    × (item E "705 5001 42 03000558 7" reads texts 7 [] "" warned 0)
     × (item E "705 5001 42 03000558 00000000017" gives 4 at 21)
 unfolding judged
-symbols = (refl, refl, refl, refl, refl, refl, refl, refl, refl, refl, refl, refl)
+symbols = (refl, refl, refl, refl, refl, refl, refl, refl, refl, refl, refl, refl, refl)
 
 -- Point 20, the bank field: 8 to 10 digits, else 4; then 12 for the bank 0000, then 13 for the tenth digit, on K too, and for the ninth, which on K is
 -- the priority.

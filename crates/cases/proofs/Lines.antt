@@ -120,8 +120,9 @@ pub too-many :
     × (step S today 9 (line 70 (bytes "x")) (afterItems 500 300 200) ≡ stop (Refused 15 9 70))
     × (step S today 9 (line 70 (bytes "x")) (afterItems 500 300 199) ≡ stop (Refused 4 9 70))
     × (step S today 9 (line 70 (bytes "1 x")) (afterItems 500 300 200) ≡ stop (Refused 3 9 70))
+    × (step S today 9 (line 70 (bytes "3 x")) (afterItems 500 300 200) ≡ stop (Refused 4 9 72))
     × (step C today 9 (line 70 (bytes "x")) (afterItems 500 300 200) ≡ stop (Refused 4 9 70))
     × (step E today 9 (line 70 (bytes "x")) (afterItems 0 99000 999) ≡ stop (Refused 15 9 70))
     × (step E today 9 (line 70 (bytes "x")) (afterItems 1 99000 998) ≡ stop (Refused 4 9 70))
 unfolding judged
-too-many = (refl, refl, refl, refl, refl, refl, refl, refl, refl, refl)
+too-many = (refl, refl, refl, refl, refl, refl, refl, refl, refl, refl, refl)

@@ -76,14 +76,16 @@ pub proper-fields :
     × (written C noHeader (rows 1501 0 20180102 nobody plainItem) ≡ refusal 20 3 1)
     × (written C noHeader (row3 (paid (account 19 19) 0 0 0 5 (parts 4 []) [])) ≡ refusal 20 3 1)
     × (written C noHeader (row3 (paid nobody 0 0 0 2 (parts 4 []) [])) ≡ refusal 20 3 5)
+    × (written C noHeader (row3 (paid nobody 10000 0 0 2 (parts 4 []) [])) ≡ refusal 20 3 5)
     × (written C noHeader (row3 (paid nobody 300 0 10000000000 2 (parts 4 []) [])) ≡ refusal 20 3 6)
     × (written C noHeader (row3 (paid nobody 300 5001 10000000000 2 (parts 4 []) [])) ≡ refusal 20 3 8)
     × (written C noHeader (row3 (paid nobody 300 5001 0 2 (parts 4 ("a|b" ∷ [])) [])) ≡ refusal 20 3 10)
+    × (written K (header K) (row3 (paid nobody 300 5001 0 10 (parts 4 []) [])) ≡ refusal 20 3 10)
     × (written S (header S) (row3 (told ("a|b" ∷ []) "")) ≡ refusal 20 3 11)
     × (written K (header K) (row3 (told ("a" ∷ "b" ∷ "c" ∷ "\u{1}" ∷ []) "Jan")) ≡ refusal 20 3 17)
     × (written C noHeader (row3 (told [] "xxxxxxxxxxxxxxxxxxxxxxxxxxxxxxxxxxxx")) ≡ refusal 20 3 19)
 unfolding written
-proper-fields = (refl, refl, refl, refl, refl, refl, refl, refl, refl, refl, refl, refl, refl)
+proper-fields = (refl, refl, refl, refl, refl, refl, refl, refl, refl, refl, refl, refl, refl, refl, refl)
 
 -- Points 28 and 29: all of 20 comes before any of 21, which is what the one sheet narrows.
 pub carried-fields :
@@ -107,6 +109,7 @@ carried-fields = (refl, refl, refl, refl, refl, refl, refl, refl, refl, refl, re
 pub spellings :
     (written K (header K) (things plain) ≡ drafted (bytes "UHL1010118RYBNIKY             1234567890000900000000000000\r\n1 1501 000000 8100\r\n2 19-19 5001 020118\r\n705 5001 42 03000558\r\n3 +\r\n5 +\r\n"))
     × (written K (header K) (things (ranked 7)) ≡ drafted (bytes "UHL1010118RYBNIKY             1234567890000900000000000000\r\n1 1501 000000 8100\r\n2 19-19 5001 020118\r\n705 5001 42 0703000558\r\n3 +\r\n5 +\r\n"))
+    × (written K (header K) (row3 (paid nobody 9999 99999999999999 9999999999 9 (parts 4 []) [])) ≡ drafted (bytes "UHL1010118RYBNIKY             1234567890000900000000000000\r\n1 1501 000000 8100\r\n2 19-19 99999999999999 020118\r\n705 99999999999999 42 0999990558 9999999999\r\n3 +\r\n5 +\r\n"))
     × (written K (header K) (things (texts 0 ("led" ∷ "" ∷ "ryby" ∷ []) "")) ≡ drafted (bytes "UHL1010118RYBNIKY             1234567890000900000000000000\r\n1 1501 000000 8100\r\n2 19-19 5001 020118\r\n705 5001 42 03000558 0 AV:led||ryby\r\n3 +\r\n5 +\r\n"))
     × (written K (header K) (things alone) ≡ drafted (bytes "UHL1010118RYBNIKY             1234567890000900000000000000\r\n1 1501 000000 8100\r\n2 5001 020118\r\n19-19 705 5001 42 03000558\r\n3 +\r\n5 +\r\n"))
     × (written S (header S) (things plain) ≡ drafted (bytes "UHL1010118RYBNIKY             1234567890000900000000000000\r\n1 1501 000000 0800\r\n2 19-19 5001 020118\r\n705 5001 42 03000558  \r\n3 +\r\n5 +\r\n"))
@@ -117,7 +120,7 @@ pub spellings :
     × (written C noHeader (things (texts 0 ("led" ∷ []) "Jan")) ≡ drafted (bytes "UHL1\r\n1 1501 000000 0300\r\n2 19-19 5001 020118\r\n705 5001 42 03000558 0 AV:led NP:Jan\r\n3 +\r\n5 +\r\n"))
     × (written C noHeader (things (texts 0 [] "Jan")) ≡ drafted (bytes "UHL1\r\n1 1501 000000 0300\r\n2 19-19 5001 020118\r\n705 5001 42 03000558 0 NP:Jan\r\n3 +\r\n5 +\r\n"))
 unfolding written
-spellings = (refl, refl, refl, refl, refl, refl, refl, refl, refl, refl, refl)
+spellings = (refl, refl, refl, refl, refl, refl, refl, refl, refl, refl, refl, refl)
 
 -- Points 30 and 31: an empty text may lie anywhere in the lent bytes, at their end too, and no text reaches past them. Bytes that are left over behind
 -- the last row are a row of no known kind.
