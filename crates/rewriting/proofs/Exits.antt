@@ -22,7 +22,8 @@ use Rattle.request.specs.declared.Request.{Request}
 use Rattle.request.specs.declared.Request.the-variants as request
 use Rattle.request.specs.Asked.{answer, Sound}
 use Rattle.bounds.specs.Most.{mostInput, mostRows, mostOutput}
-use Rattle.rewriting.proofs.Front.{wrote-same, refused-most}
+use Rattle.bounds.proofs.Explained.{refused-most}
+use Rattle.rewriting.proofs.Front.{wrote-same}
 use Rattle.rewriting.proofs.Read.{Outcome, refuses, accepts, outcome}
 
 -- a refusal's line has room

@@ -1,17 +1,13 @@
--- What stands at the front of an output behind a writer, and how long a refusal's line is. Assumes nothing.
+-- What stands at the front of an output behind a writer. Assumes nothing.
 use mathlib.Core.Path.{_≡_, sym, ap, _∙_}
-use mathlib.Core.List.{List, [], _∷_, _++_}
+use mathlib.Core.List.{List, _++_}
 use Prim.Native.Nat.{ℕ, _+_, _≤_}
 use native.Mathlib.Omega.{arith}
-use lib.ListN.{length, drop, length-append}
+use lib.ListN.{length, drop}
 use borrow.Author.Tests.{le-ltb}
 use Rattle.base.specs.Put.{put, Wrote}
 use Rattle.base.proofs.Cases.{pick-false}
-use Rattle.paper.specs.Bytes.{bytes}
-use Rattle.paper.specs.Numerals.{decimal}
-use Rattle.paper.specs.Explaining.{refusedLine}
 use Rattle.paper.specs.Writing.{Draft, drafted, WriteAnswer, writtenIn, outputAfter}
-use Rattle.linelen.proofs.Lengths.{decimal-twenty}
 use Rattle.write.specs.declared.AboWritten.{AboWritten}
 use Rattle.write.specs.Told.{told}
 
@@ -36,17 +32,3 @@ draft-wrote w o o′ d a l s e room =
 -- the same bytes under another name
 pub wrote-same : (o s t o′ : List ℕ) (r : ℕ) → s ≡ t → Wrote o 0 s o′ r → Wrote o 0 t o′ r
 wrote-same o s t o′ r e w = rw e at w
-
--- a refusal's line
-pub refused-most : (n l p : ℕ) → length (refusedLine n l p) ≤ 81
-unfolding refusedLine
-refused-most n l p =
-    omega (
-      arith,
-      decimal-twenty n,
-      decimal-twenty l,
-      decimal-twenty p,
-      length-append (decimal n) (bytes " line " ++ (decimal l ++ (bytes " byte " ++ (decimal p ++ (10 ∷ []))))),
-      length-append (decimal l) (bytes " byte " ++ (decimal p ++ (10 ∷ []))),
-      length-append (decimal p) (10 ∷ []),
-    )
