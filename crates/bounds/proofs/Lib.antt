@@ -1,5 +1,6 @@
--- Laws of lengths: of texts, of the lines of rows, of a canonical file, of an explanation's line.
+-- Laws of lengths: of texts, of the lines of rows, of a canonical file, of an explanation's line, and of the input that matters.
 pub mod Texts
 pub mod Items
 pub mod Files
 pub mod Explained
+pub mod Input
