@@ -28,7 +28,7 @@ use Rattle.survey.specs.declared.Surveyed.the-variants.{Improper, Unfit, Fits}
 use Rattle.survey.specs.Told.{told as surveyedAs, judged as surveyed, Small}
 use Rattle.write.specs.declared.BatchJudged.{BatchJudged}
 use Rattle.write.specs.declared.BatchJudged.the-variants.{Refused, Bytes}
-use Rattle.write.specs.Told.{refusedAt, countedAs, Named, before, brief, rowsDraft}
+use Rattle.write.specs.Told.{refusedAt, countedAs, Named, before, Tells, rowsDraft}
 use Rattle.write.proofs.Laws as laws
 
 -- ---- 21 of the header
@@ -56,8 +56,8 @@ pub ruleset interval = (no-header, no-interval, interval-wrong, interval-fine)
 
 -- c is what the header's test answered
 module _ (c : Check) (v : Verdict) (g : after 0 c fine ≡ v) where
-  pub found : (n field : ℕ) (d : Draft) → c ≡ Wrong field → Refused n 0 field ≡ brief (onVerdict n v d)
-  unfolding onVerdict brief
+  pub found : (n field : ℕ) (d : Draft) → c ≡ Wrong field → Tells (Refused n 0 field) (onVerdict n v d)
+  unfolding Tells onVerdict
   found n field d e =
       let w : v ≡ wrong 0 field = sym g ∙ ap (λ (x : Check). after 0 x fine) e in
       rw w
@@ -65,17 +65,17 @@ module _ (c : Check) (v : Verdict) (g : after 0 c fine ≡ v) where
   passed : c ≡ Fine → fine ≡ v
   passed e = sym (ap (λ (x : Check). after 0 x fine) e) ∙ g
 
-  pub next-is : (n : ℕ) (d : Draft) (next : BatchJudged) → c ≡ Fine → next ≡ brief d → next ≡ brief (onVerdict n v d)
+  pub next-is : (n : ℕ) (d : Draft) (next : BatchJudged) → c ≡ Fine → Tells next d → Tells next (onVerdict n v d)
   unfolding onVerdict
-  next-is n d next e h = h ∙ rw (← passed e)
+  next-is n d next e h = rw (← passed e) h
 
 module _ (sh : Sheet) (from to : ℕ) (next : BatchJudged) (c : Check) (g : (h : Header) → h .from ≡ from → h .to ≡ to → after 0 c fine ≡ pick (sh .header) (headerCarried (sh .interval) h) fine) where
-  pub carry-found : (field : ℕ) → c ≡ Wrong field → (h : Header) (d : Draft) → h .from ≡ from → h .to ≡ to → next ≡ brief d
-      → Refused 21 0 field ≡ brief (onVerdict 21 (pick (sh .header) (headerCarried (sh .interval) h) fine) d)
+  pub carry-found : (field : ℕ) → c ≡ Wrong field → (h : Header) (d : Draft) → h .from ≡ from → h .to ≡ to → Tells next d
+      → Tells (Refused 21 0 field) (onVerdict 21 (pick (sh .header) (headerCarried (sh .interval) h) fine) d)
   carry-found field e h d f t n = found c _ (g h f t) 21 field d e
 
-  pub carry-next : c ≡ Fine → (h : Header) (d : Draft) → h .from ≡ from → h .to ≡ to → next ≡ brief d
-      → next ≡ brief (onVerdict 21 (pick (sh .header) (headerCarried (sh .interval) h) fine) d)
+  pub carry-next : c ≡ Fine → (h : Header) (d : Draft) → h .from ≡ from → h .to ≡ to → Tells next d
+      → Tells next (onVerdict 21 (pick (sh .header) (headerCarried (sh .interval) h) fine) d)
   carry-next e h d f t n = next-is c _ (g h f t) 21 d next e n
 
 pub ruleset carrying = (carry-found, carry-next)
@@ -85,12 +85,12 @@ pub ruleset carrying = (carry-found, carry-next)
 module _ (sh : Sheet) (today from to : ℕ) (ts : List Thing) (s : Surveyed) (g : (h : Header) → h .from ≡ from → h .to ≡ to → surveyedAs s ≡ surveyed sh today h ts) where
   -- what all headers with this interval are judged to be
   abbrev pub Judges : BatchJudged → Type 0
-  Judges r = (h : Header) → h .from ≡ from → h .to ≡ to → Named sh h → r ≡ brief (rowsDraft sh today h ts)
+  Judges r = (h : Header) → h .from ≡ from → h .to ≡ to → Named sh h → Tells r (rowsDraft sh today h ts)
 
   -- and what is said of them where 21 of the header may come before
   abbrev pub Before : BatchJudged → BatchJudged → Type 0
   Before next r =
-      (h : Header) (d : Draft) → h .from ≡ from → h .to ≡ to → next ≡ brief d → r ≡ brief (onVerdict 21 (pick (sh .header) (headerCarried (sh .interval) h) fine) d)
+      (h : Header) (d : Draft) → h .from ≡ from → h .to ≡ to → Tells next d → Tells r (onVerdict 21 (pick (sh .header) (headerCarried (sh .interval) h) fine) d)
 
   pub row-improper : (row field : ℕ) → s ≡ Improper row field → Judges (Refused 20 row field)
   row-improper row field e h f t _ = laws.rows-improper sh today h ts row field (sym (ap surveyedAs e) ∙ g h f t)
@@ -115,12 +115,12 @@ pub ruleset judging = (row-improper, row-unfit, rows-fit, counted)
 -- ---- the batch
 
 module _ (sh : Sheet) (today : ℕ) (h : Header) (ts : List Thing) (c : Check) (g : after 0 c fine ≡ pick (sh .header) (headerProper h) fine) where
-  pub head-wrong : (field : ℕ) → c ≡ Wrong field → Refused 20 0 field ≡ brief (draftOf sh today h ts)
+  pub head-wrong : (field : ℕ) → c ≡ Wrong field → Tells (Refused 20 0 field) (draftOf sh today h ts)
   unfolding draftOf
   head-wrong field e = found c _ g 20 field _ e
 
   pub head-fine : c ≡ Fine → (r : BatchJudged)
-      → ((k : Header) → k .from ≡ h .from → k .to ≡ h .to → Named sh k → r ≡ brief (rowsDraft sh today k ts)) → r ≡ brief (draftOf sh today h ts)
+      → ((k : Header) → k .from ≡ h .from → k .to ≡ h .to → Named sh k → Tells r (rowsDraft sh today k ts)) → Tells r (draftOf sh today h ts)
   unfolding draftOf rowsDraft
   head-fine e r f = next-is c _ g 20 _ r e (f h refl refl (laws.named sh h (passed c _ g e)))
 
@@ -141,7 +141,7 @@ module _ (sh : Sheet) (h : Header) (ts : List Thing) (p : batchProper ts ≡ fin
 
 pub ruleset putting = (first-room, rest-room, file-put)
 
-module _ (sh : Sheet) (today : ℕ) (h : Header) (ts : List Thing) (n : ℕ) (e : Bytes n ≡ brief (draftOf sh today h ts)) where
+module _ (sh : Sheet) (today : ℕ) (h : Header) (ts : List Thing) (n : ℕ) (e : Tells (Bytes n) (draftOf sh today h ts)) where
   pub short : (a : WriteAnswer) (room : ℕ) → room < n → a ≡ countedAs 16 n → a ≡ writtenIn room (draftOf sh today h ts)
   short a room l g = g ∙ laws.short-answer sh today h ts n e room l
 
@@ -180,16 +180,16 @@ module _ (sh : Sheet) (today : ℕ) (h : Header) (ts : List Thing) (a : WriteAns
     no-day-output e = rw (← g, e)
 
   -- j is what the batch was judged to be
-  module _ (j : BatchJudged) (g : j ≡ brief (draftOf sh today h ts)) where
+  module _ (j : BatchJudged) (g : Tells j (draftOf sh today h ts)) where
     pub refused : (n row field : ℕ) → j ≡ Refused n row field → a ≡ refusedAt n row field → a ≡ writtenIn room (draftOf sh today h ts)
-    refused n row field e k = k ∙ laws.refused-answer n row field _ (sym e ∙ g) room
+    refused n row field e k = k ∙ laws.refused-answer n row field _ (rw e at g) room
 
     pub refused-output : (n row field : ℕ) → j ≡ Refused n row field → o ≡ outputAfter o (draftOf sh today h ts)
-    refused-output n row field e = laws.refused-output n row field _ (sym e ∙ g) o
+    refused-output n row field e = laws.refused-output n row field _ (rw e at g) o
 
 -- a draft of n bytes
-pub sized : (d : Draft) (j : BatchJudged) → j ≡ brief d → (n : ℕ) → j ≡ Bytes n → Bytes n ≡ brief d
-sized d j g n e = sym e ∙ g
+pub sized : (d : Draft) (j : BatchJudged) → Tells j d → (n : ℕ) → j ≡ Bytes n → Tells (Bytes n) d
+sized d j g n e = rw e at g
 
 pub ruleset days = (real-known, day-answer, day-output, no-day, no-day-output, sized, refused, refused-output)
 

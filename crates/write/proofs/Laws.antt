@@ -26,7 +26,7 @@ use Rattle.surveying.specs.Stands.{improper, unfit, fits, surveyOf}
 use Rattle.survey.specs.Told.{judged as surveyed}
 use Rattle.write.specs.declared.BatchJudged.{BatchJudged}
 use Rattle.write.specs.declared.BatchJudged.the-variants as judged
-use Rattle.write.specs.Told.{refusedAt, countedAs, Named, before, brief, rowsDraft}
+use Rattle.write.specs.Told.{refusedAt, countedAs, Named, before, Tells, rowsDraft}
 
 -- ---- what the rows are judged to be, turned round
 
@@ -78,65 +78,57 @@ first-length sh r f h n = first-by sh (sh .header) refl r f h n
 
 module _ (sh : Sheet) (today : ℕ) (h : Header) (ts : List Thing) where
   -- 20 of a row comes before 21, of the header too
-  pub rows-improper : (row field : ℕ) → improper row field ≡ surveyed sh today h ts → judged.Refused 20 row field ≡ brief (rowsDraft sh today h ts)
-  unfolding surveyed rowsDraft onVerdict brief
+  pub rows-improper : (row field : ℕ) → improper row field ≡ surveyed sh today h ts → Tells (judged.Refused 20 row field) (rowsDraft sh today h ts)
+  unfolding surveyed rowsDraft onVerdict Tells
   rows-improper row field e = rw (improper-rows (batchProper ts) (batchCarried sh today h ts) _ row field e)
 
   -- what judging says of the header's 21, whatever comes behind it
   abbrev pub Carries : BatchJudged → BatchJudged → Type 0
-  Carries next r = (d : Draft) → next ≡ brief d → r ≡ brief (onVerdict 21 (pick (sh .header) (headerCarried (sh .interval) h) fine) d)
+  Carries next r = (d : Draft) → Tells next d → Tells r (onVerdict 21 (pick (sh .header) (headerCarried (sh .interval) h) fine) d)
 
   -- behind 21 of the header comes that of a row
-  pub rows-unfit : (row field : ℕ) → unfit row field ≡ surveyed sh today h ts → (r : BatchJudged) → Carries (judged.Refused 21 row field) r → r ≡ brief (rowsDraft sh today h ts)
-  unfolding surveyed rowsDraft onVerdict brief
+  pub rows-unfit : (row field : ℕ) → unfit row field ≡ surveyed sh today h ts → (r : BatchJudged) → Carries (judged.Refused 21 row field) r → Tells r (rowsDraft sh today h ts)
+  unfolding surveyed rowsDraft onVerdict Tells
   rows-unfit row field e r f =
       let (p, q) = unfit-rows (batchProper ts) (batchCarried sh today h ts) _ row field e in
-      f (onVerdict 21 (batchCarried sh today h ts) (drafted (canon sh h (batchOf ts)))) (rw q) ∙ rw p
+      rw p (f (onVerdict 21 (batchCarried sh today h ts) (drafted (canon sh h (batchOf ts)))) (rw q))
 
   -- or nothing, and the file has the first line's bytes, CR LF, and those of the rows
-  pub rows-fit : (n c : ℕ) → n ≡ length (spellFirst sh h) + 2 + c → fits c ≡ surveyed sh today h ts → (r : BatchJudged) → Carries (judged.Bytes n) r → r ≡ brief (rowsDraft sh today h ts)
-  unfolding surveyed rowsDraft onVerdict brief
+  pub rows-fit : (n c : ℕ) → n ≡ length (spellFirst sh h) + 2 + c → fits c ≡ surveyed sh today h ts → (r : BatchJudged) → Carries (judged.Bytes n) r → Tells r (rowsDraft sh today h ts)
+  unfolding surveyed rowsDraft onVerdict Tells
   rows-fit n c g e r f =
       let (p, q, k) = fit-rows (batchProper ts) (batchCarried sh today h ts) _ c e in
-      f (onVerdict 21 (batchCarried sh today h ts) (drafted (canon sh h (batchOf ts)))) (rw (q, canon-length sh h ts p, g, k)) ∙ rw p
+      let long : n ≡ length (canon sh h (batchOf ts)) = omega (arith, canon-length sh h ts p, k) in
+      rw p (f (onVerdict 21 (batchCarried sh today h ts) (drafted (canon sh h (batchOf ts)))) (canon sh h (batchOf ts), rw q, long))
 
 -- ---- the draft by its length
 
 -- a draft with a length: nothing is wrong
-bytes-verdict : (n k : ℕ) (v : Verdict) (d : Draft) → judged.Bytes n ≡ brief (onVerdict k v d) → (v ≡ fine) × (judged.Bytes n ≡ brief d)
-unfolding onVerdict brief
+bytes-verdict : (n k : ℕ) (v : Verdict) (d : Draft) → Tells (judged.Bytes n) (onVerdict k v d) → (v ≡ fine) × Tells (judged.Bytes n) d
+unfolding Tells onVerdict
 bytes-verdict n k fine d e = (refl, e)
-bytes-verdict n k (wrong row field) d e = absurd (let z : _≡_ {A = ℕ} 0 1 = cc in omega arith)
-
-refused-brief : (n row field : ℕ) (d : Draft) → judged.Refused n row field ≡ brief d → d ≡ refusal n row field
-unfolding brief
-refused-brief n row field (drafted s) e = absurd (let z : _≡_ {A = ℕ} 0 1 = cc in omega arith)
-refused-brief n row field (refusal k r f) e =
-    let x : k ≡ n = cc in
-    let y : r ≡ row = cc in
-    let z : f ≡ field = cc in
-    rw (x, y, z)
+bytes-verdict n k (wrong row field) d (s, e, l) = absurd (let z : _≡_ {A = ℕ} 0 1 = cc in omega arith)
 
 -- a refusal: its number, row and field, and the output as it was
-module _ (n row field : ℕ) (d : Draft) (e : judged.Refused n row field ≡ brief d) where
+module _ (n row field : ℕ) (d : Draft) (e : Tells (judged.Refused n row field) d) where
   pub refused-answer : (room : ℕ) → refusedAt n row field ≡ writtenIn room d
-  unfolding writtenIn
-  refused-answer room = rw (refused-brief n row field d e)
+  unfolding Tells writtenIn
+  refused-answer room = rw e
 
   pub refused-output : (o : List ℕ) → o ≡ outputAfter o d
-  unfolding outputAfter
-  refused-output o = rw (refused-brief n row field d e)
+  unfolding Tells outputAfter
+  refused-output o = rw e
 
 module _ (sh : Sheet) (today : ℕ) (h : Header) (ts : List Thing) where
   -- the file has n bytes
-  module _ (n : ℕ) (e : judged.Bytes n ≡ brief (draftOf sh today h ts)) where
+  module _ (n : ℕ) (e : Tells (judged.Bytes n) (draftOf sh today h ts)) where
     nothing-wrong : (draftOf sh today h ts ≡ drafted (canon sh h (batchOf ts))) × (batchProper ts ≡ fine) × (n ≡ length (canon sh h (batchOf ts)))
-    unfolding draftOf onVerdict brief
+    unfolding Tells draftOf onVerdict
     nothing-wrong =
         let (a, e1) = bytes-verdict n 20 (pick (sh .header) (headerProper h) fine) _ e in
         let (b, e2) = bytes-verdict n 20 (batchProper ts) _ e1 in
         let (c, e3) = bytes-verdict n 21 (pick (sh .header) (headerCarried (sh .interval) h) fine) _ e2 in
-        let (d, e4) = bytes-verdict n 21 (batchCarried sh today h ts) _ e3 in
+        let (d, (_, same, long)) = bytes-verdict n 21 (batchCarried sh today h ts) _ e3 in
         (rw (a, b, c, d), b, cc)
 
     -- the rows are as "The batch" says

@@ -1,4 +1,4 @@
--- What the answer that a caller is given stands for, and a draft by its length alone. Document 01, "Numbers returned". Assumes nothing.
+-- What the answer that a caller is given stands for, and what judging tells before it. Document 01, "Numbers returned". Assumes nothing.
 use Prim.Native.Nat.{ℕ}
 use mathlib.Core.Path.{_≡_}
 use mathlib.Core.Bool.{true}
@@ -39,10 +39,10 @@ Named sh h = sh .header ≡ true → length (h .name) ≡ 20
 abbrev pub before : List ℕ → List ℕ → List ℕ
 before s old = s ++ drop (length s) old
 
--- a draft, of which only the file's length is kept
-unfoldable pub brief : Draft → BatchJudged
-brief (drafted s) = judged.Bytes (length s)
-brief (refusal number row field) = judged.Refused number row field
+-- what judging a batch tells of its draft: the number, row and field that it is refused with; or how many bytes its file has
+unfoldable pub Tells : BatchJudged → Draft → Type 0
+Tells (judged.Refused number row field) d = d ≡ refusal number row field
+Tells (judged.Bytes n) d = (s : List ℕ) × (d ≡ drafted s) × (n ≡ length s)
 
 -- behind the header's 20: the rows' 20, the header's 21, the rows' 21
 unfoldable pub rowsDraft : Sheet → ℕ → Header → List Thing → Draft

@@ -19,7 +19,7 @@ ghost use Rattle.paper.specs.Rows.{rowsIn, thingsIn};
 ghost use Rattle.paper.specs.Canonical.{canon};
 ghost use Rattle.paper.specs.Writing.{Draft, onVerdict, draftOf, draftWith, draft, writtenIn, outputAfter};
 ghost use Rattle.rowread.specs.After.{after};
-ghost use Rattle.write.specs.Told.{headerOf, told, refusedAt, countedAs, brief, rowsDraft, Named, before};
+ghost use Rattle.write.specs.Told.{headerOf, told, refusedAt, countedAs, Tells, rowsDraft, Named, before};
 ghost use Rattle.write.specs.declared.BatchJudged.the-variants.{Bytes};
 
 // The whole answer of writing: the number, its row and field; the bytes written or, where there is no room, needed.
@@ -88,7 +88,7 @@ fn header_carried(sh: Sheet, from: u64, to: u64) -> Check
 
 // What the sheet cannot carry of the header comes before `next`, which is what the rows are judged to be.
 fn carry(sh: Sheet, from: u64, to: u64, next: BatchJudged) -> BatchJudged
-    ensures { λ r. ⌜ ((h : Header) (d : Draft) → h .from ≡ from → h .to ≡ to → next ≡ brief d → r ≡ brief (onVerdict 21 (pick (sh .header) (headerCarried (sh .interval) h) fine) d)) ⌝ }
+    ensures { λ r. ⌜ ((h : Header) (d : Draft) → h .from ≡ from → h .to ≡ to → Tells next d → Tells r (onVerdict 21 (pick (sh .header) (headerCarried (sh .interval) h) fine) d)) ⌝ }
 {
     match header_carried(sh, from, to) {
         Check::Wrong(field) => BatchJudged::Refused(21, 0, field),
@@ -107,7 +107,7 @@ fn file_len(sh: Sheet, rest: u64) -> u64
 // The rows, behind a header that is as "The batch" says; 20 of the rows comes before 21 of the header.
 fn judge_rows(rows: &[u8], texts: &[u8], sh: Sheet, today: u64, from: u64, to: u64) -> BatchJudged
     requires { ⌜ realDay today ≡ true ⌝ }
-    ensures { λ r. ⌜ ((h : Header) → h .from ≡ from → h .to ≡ to → Named sh h → r ≡ brief (rowsDraft sh today h (thingsIn (now (texts .entry)) (rowsIn (now (rows .entry)))))) ⌝ }
+    ensures { λ r. ⌜ ((h : Header) → h .from ≡ from → h .to ≡ to → Named sh h → Tells r (rowsDraft sh today h (thingsIn (now (texts .entry)) (rowsIn (now (rows .entry)))))) ⌝ }
 {
     match survey::survey(rows, texts, sh, today, from, to) {
         Surveyed::Improper(row, field) => BatchJudged::Refused(20, row, field),
@@ -129,7 +129,7 @@ fn judge(
     today: u64,
 ) -> BatchJudged
     requires { ⌜ realDay today ≡ true ⌝ }
-    ensures { λ r. ⌜ r ≡ brief (draftOf sh today (headerOf date (now (name .entry)) client from to) (thingsIn (now (texts .entry)) (rowsIn (now (rows .entry))))) ⌝ }
+    ensures { λ r. ⌜ Tells r (draftOf sh today (headerOf date (now (name .entry)) client from to) (thingsIn (now (texts .entry)) (rowsIn (now (rows .entry))))) ⌝ }
 {
     match header_proper(sh, date, name, client, from, to) {
         Check::Wrong(field) => BatchJudged::Refused(20, 0, field),
@@ -171,7 +171,7 @@ fn accept(
     bytes: u64,
     out: &mut [u8],
 ) -> AboWritten
-    requires { ⌜ Bytes bytes ≡ brief (draftOf sh today (headerOf date (now name) client from to) (thingsIn (now texts) (rowsIn (now rows)))) ⌝ }
+    requires { ⌜ Tells (Bytes bytes) (draftOf sh today (headerOf date (now name) client from to) (thingsIn (now texts) (rowsIn (now rows)))) ⌝ }
     ensures { λ r. ⌜ told r ≡ writtenIn (length (now (out .entry))) (draftOf sh today (headerOf date (now (name .entry)) client from to) (thingsIn (now (texts .entry)) (rowsIn (now (rows .entry))))) ⌝ }
     ensures { λ _. ⌜ now (out .exit) ≡ outputAfter (now (out .entry)) (draftOf sh today (headerOf date (now (name .entry)) client from to) (thingsIn (now (texts .entry)) (rowsIn (now (rows .entry))))) ⌝ }
 {
