@@ -4,7 +4,7 @@ use mathlib.Core.Bool.{true}
 use mathlib.Core.List.{List}
 use mathlib.Core.Logic.{_↔_}
 use Prim.Native.Nat.{ℕ, suc, _/_, _≤_, _<_}
-use lib.ListN.{length}
+use lib.ListN.{length, take}
 use Rattle.sheet.specs.declared.Sheet.{Sheet}
 use Rattle.sheet.specs.declared.Known.the-variants as known
 use Rattle.sheet.specs.Sheets.{sheetOf}
@@ -20,7 +20,7 @@ use Rattle.paper.specs.Reading.{rowCount, readAnswer}
 use Rattle.paper.specs.Canonical.{canon}
 use Rattle.paper.specs.Writing.{drafted, draftOf, draft, writtenIn}
 use Rattle.paper.specs.Explaining.{refusedLine, acceptedLine, explanation}
-use Rattle.paper.specs.Rewriting.{rewritten}
+use Rattle.paper.specs.Rewriting.{rewritten, rewriting}
 use Rattle.exact.proofs.Main as exact
 use Rattle.faults.proofs.Main as faults
 use Rattle.named.proofs.Main as places
@@ -29,6 +29,8 @@ use Rattle.whole.proofs.Main as whole
 use Rattle.numbers.specs.Gives.{NoSheet, NoDay, Spelled, FileOf}
 use Rattle.numbers.proofs.Reading as read-numbers
 use Rattle.numbers.proofs.Writing as write-numbers
+use Rattle.bounds.proofs.Explained as explained
+use Rattle.bounds.proofs.Input as input
 use Rattle.uncut.specs.Severe.{severe}
 use Rattle.uncut.proofs.Main as uncut
 use Rattle.explain.proofs.Laws as explain
@@ -68,6 +70,18 @@ module _ (sheet today : ℕ) (h : Header) (rows texts : List ℕ) (room : ℕ) w
   -- and then its bytes are needed.
   pub write-needed : (n : ℕ) → FileOf sheet today h rows texts n → room < n → writtenIn room (draft sheet today h rows texts) .bytes ≡ n
   write-needed = write-numbers.needed-16 sheet today h rows texts room
+
+-- No explanation has more than 65 bytes (ABO_EXPLAIN_BYTES in include/abo.h), whatever the sheet's number, the day and the file are:
+pub explain-most : (sheet today : ℕ) (f s : List ℕ) → explanation sheet today f ≡ drafted s → length s ≤ 65
+explain-most = explained.explained-most
+
+-- with as many lent, abo_explain answers 0.
+pub explain-bytes : (sheet today : ℕ) (f out : List ℕ) → 65 ≤ length out → writtenIn (length out) (explanation sheet today f) .number ≡ 0
+explain-bytes sheet today f out = explained.explained-whole sheet today f (length out)
+
+-- The rewriting program reads 8,193 bytes at most, and what it does not read cannot matter.
+pub input-read : (s : List ℕ) → rewriting (take 8193 s) ≡ rewriting s
+input-read = input.first-bytes
 
 -- ---- for a known sheet and a real day
 
