@@ -4,10 +4,9 @@ use mathlib.Core.Bool.{Bool, false}
 use mathlib.Core.List.{List, [], _∷_}
 use Prim.Native.Nat.{ℕ, _+_, _/_, _≤_, _<_}
 use native.Mathlib.Omega.{arith}
-use lib.Dec.{eqb}
 use lib.ListN.{length}
+use borrow.Author.Tests.{eq-eqb, ne-eqb}
 use Rattle.base.specs.Pick.{pick}
-use Rattle.base.proofs.Cases.{by-test}
 use Rattle.sheet.specs.declared.Sheet.{Sheet}
 use Rattle.paper.specs.Batch.{Header}
 use Rattle.paper.specs.Lines.{linesFrom}
@@ -36,7 +35,7 @@ use Rattle.group.proofs.Turns.{cut as cut-of, within}
 use Rattle.group.proofs.Going.{run-stop, run-on}
 use Rattle.accountfile.specs.declared.Left.{Left}
 use Rattle.accountfile.specs.declared.Left.the-variants as left
-use Rattle.accountfile.specs.Resume.{resume, AtFile, fileMore, endAs, Moved, Stepped}
+use Rattle.accountfile.specs.Resume.{resume, AtFile, fileMore, Moved, Ends, Stepped}
 use Rattle.accountfile.proofs.Steps.{file-other, file-full, file-got, file-no}
 
 -- ---- a number has six digits
@@ -75,20 +74,25 @@ pub moved-stepped : (sh : Sheet) (today from to : ℕ) (f : List ℕ) (o r : Lef
 moved-stepped sh today from to f o r words m =
     record { same = λ h p q l held. (l, held, m .same h l); good = m .good; less = m .less }
 
--- the file ends
-module _ (sh : Sheet) (f : List ℕ) (at k : ℕ) (c : Counts) (good : AtFile f at k c) where
-  end-moved : length f ≤ at → (today : ℕ) → Moved sh today f (left.File at k c) (endAs at k c)
-  unfolding resume run endOf endAs pick
-  end-moved e today =
-      let z : at ≡ length f = omega (arith, good .inside) in
-      by-test (eqb (c .files) 0)
-      (λ t. simp t (record { same = λ h l. rw (at-end f at e) (simp (t, z)); good = tt; less = omega arith }))
-      (λ t.
-      let limits = file-limits _ (good .low) in
-      simp t (record { same = λ h l. rw (at-end f at e) (simp t); good = (limits .rows, limits .warnings); less = omega arith }))
+-- the file ends: early before the first account file, else it is accepted
+module _ (at k : ℕ) (c : Counts) where
+  pub end-early : c .files ≡ 0 → Ends at k c (left.Refused 3 k at)
+  unfolding resume run endOf pick
+  end-early z sh today f e good =
+      let w : at ≡ length f = omega (arith, good .inside) in
+      record { same = λ h l. rw (at-end f at e) (simp (eq-eqb (c .files) 0 z, w)); good = tt; less = omega arith }
 
-  pub file-ends : length f ≤ at → (r : Left) → r ≡ endAs at k c → (from to : ℕ) (words : List ℕ) (today : ℕ) → Stepped sh today from to f (left.File at k c) words words r
-  file-ends e r q from to words today = moved-stepped sh today from to f (left.File at k c) r words (rw q (end-moved e today))
+  pub end-accepted : (c .files ≡ 0 → ⊥) → Ends at k c (left.Accepted (c .rows) (c .warnings))
+  unfolding resume run endOf pick
+  end-accepted some sh today f e good =
+      let limits = file-limits _ (good .low) in
+      record { same = λ h l. rw (at-end f at e) (simp (ne-eqb (c .files) 0 some)); good = (limits .rows, limits .warnings); less = omega arith }
+
+  pub file-ends : (sh : Sheet) (f : List ℕ) → AtFile f at k c → length f ≤ at → (r : Left) → Ends at k c r
+      → (from to : ℕ) (words : List ℕ) (today : ℕ) → Stepped sh today from to f (left.File at k c) words words r
+  file-ends sh f good e r ends from to words today = moved-stepped sh today from to f (left.File at k c) r words (ends sh today f e good)
+
+pub ruleset endings = (end-early, end-accepted)
 
 module _ (sh : Sheet) (f : List ℕ) (at k : ℕ) (c : Counts) (cut : Cut) (cuts : Cuts f at cut) where
   -- a line that is refused

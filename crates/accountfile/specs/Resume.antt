@@ -3,9 +3,7 @@ use Prim.Native.Nat.{ℕ, suc, _+_, _-_, _≤_}
 use mathlib.Core.Path.{_≡_}
 use mathlib.Core.Bool.{Bool}
 use mathlib.Core.List.{List, []}
-use lib.Dec.{eqb}
 use lib.ListN.{length}
-use Rattle.base.specs.Pick.{pick}
 use Rattle.sheet.specs.declared.Sheet.{Sheet}
 use Rattle.paper.specs.Batch.{Header, noHeader}
 use Rattle.paper.specs.Lines.{linesFrom}
@@ -70,10 +68,6 @@ groupMore c warnings = record { files = c .files; items = c .items; rows = c .ro
 abbrev pub groupOpen : Bool → ℕ → ℕ → ℕ → Open
 groupOpen single total k byte = record { single = single; total = total; line = k; byte = byte; sum = 0; count = 0 }
 
--- the file ends at `at`, where line k would be: early, unless an account file was closed
-unfoldable pub endAs : ℕ → ℕ → Counts → Left
-endAs at k c = pick (eqb (c .files) 0) (left.Refused 3 k at) (left.Accepted (c .rows) (c .warnings))
-
 -- r is where reading stands behind a group whose lines begin at `at` with line k
 pub record Grouped (sh : Sheet) (f : List ℕ) (at k : ℕ) (c : Counts) (s : Shelf) (o : Open) (r : Left) : Type 0 where
   pub same : (today : ℕ) (h : Header) (l : List ℕ) → resume sh today f h l r ≡ run sh today (length f) k (linesFrom f at) (inGroup h l c s o)
@@ -85,6 +79,10 @@ pub record Moved (sh : Sheet) (today : ℕ) (f : List ℕ) (o r : Left) : Type 0
   pub same : (h : Header) (l : List ℕ) → resume sh today f h l r ≡ resume sh today f h l o
   pub good : Good f r
   pub less : toGo f r + 1 ≤ toGo f o
+
+-- r is the answer of a file that ends where line k would be, with no account file open
+abbrev pub Ends : ℕ → ℕ → Counts → Left → Type 0
+Ends at k c r = (sh : Sheet) (today : ℕ) (f : List ℕ) → length f ≤ at → AtFile f at k c → Moved sh today f (left.File at k c) r
 
 -- The same where the words that hold the earlier numbers may change from `before` to `after`: if they held l, they hold some m now. The
 -- header's interval goes from `from` to `to`.

@@ -19,7 +19,7 @@ ghost use Rattle.paper.specs.Days.{realDay};
 ghost use Rattle.paper.specs.Entries.{fileLine, groupLine, fileEnd, kindOf};
 ghost use Rattle.line.specs.Cutting.{Cuts};
 ghost use Rattle.group.specs.Stands.{Begun};
-ghost use Rattle.accountfile.specs.Resume.{endAs, fileMore, groupMore, Good, Grouped, Moved, Stepped};
+ghost use Rattle.accountfile.specs.Resume.{fileMore, groupMore, Good, Grouped, Moved, Ends, Stepped};
 
 // Where reading stands: before an account file or its end, at a place with its line's number; before a group or the account file's end;
 // or at the answer.
@@ -40,7 +40,7 @@ const EMPTY: Shelf = Shelf {
 
 // The file ends where an account file may begin.
 fn end_file(at: usize, line: u64, counts: Counts) -> Left
-    ensures { λ r. ⌜ r ≡ endAs at line counts ⌝ }
+    ensures { λ r. ⌜ Ends at line counts r ⌝ }
 {
     let files = counts.files;
     if files == 0 {

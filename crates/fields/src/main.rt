@@ -30,11 +30,12 @@ fn show_account(sh: Sheet, f: &[u8]) {
 }
 
 fn show_amount(sh: Sheet, f: &[u8]) {
-    let most = sh.itemdigits;
+    let limits = sh.limits();
+    let most = limits.digits;
     if 19 < most {
         return;
     }
-    match amount::read_item_amount(f, sh.comma, most, sh.itemmax) {
+    match amount::read_item_amount(f, sh.comma, most, limits.amount) {
         Num::Refused(n) => {
             refused(n);
         }
@@ -46,7 +47,8 @@ fn show_amount(sh: Sheet, f: &[u8]) {
 
 fn show_date(sh: Sheet, f: &[u8]) {
     if calendar::real_day(TODAY) {
-        match calendar::read_due(f, sh.longdate, sh.early, sh.ahead, TODAY) {
+        let limits = sh.limits();
+        match calendar::read_due(f, sh.longdate, sh.early, limits.ahead, TODAY) {
             Num::Refused(n) => {
                 refused(n);
             }

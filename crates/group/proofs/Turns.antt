@@ -7,6 +7,8 @@ use native.Mathlib.Omega.{arith}
 use lib.ListN.{length, take, drop, length-take, length-drop}
 use Rattle.base.specs.Pick.{pick}
 use Rattle.sheet.specs.declared.Sheet.{Sheet}
+use Rattle.sheet.specs.declared.Limits.{Limits}
+use Rattle.sheet.specs.Sheets.{LimitsOf}
 use Rattle.paper.specs.Entries.{Entry, closeGroup, no, itemLine, groupEnd, kindOf}
 use Rattle.paper.specs.ItemLine.{readItem}
 use Rattle.paper.specs.ClosingLine.{readClose}
@@ -76,18 +78,19 @@ module _ (sh : Sheet) (f : List ℕ) (at stop : ℕ) (c : Counts) (s : Shelf) (o
     pub turn-full-file : 99999 ≤ s .items → Turns sh (lineIn f at stop) c s o (turn.Stop 15 at)
     turn-full-file i today k h l = item-full-file sh today k (lineIn f at stop) (bookOf h l c) (shelfOf s) (openOf o) e i
 
-    module _ (i : s .items < 99999) where
-      pub turn-full : sh .fileitems ≤ c .items → Turns sh (lineIn f at stop) c s o (turn.Stop 15 at)
-      turn-full j today k h l = item-full sh today k (lineIn f at stop) (bookOf h l c) (shelfOf s) (openOf o) e i j
+    -- m are the limits that the sheet gave
+    module _ (i : s .items < 99999) (m : Limits) (of : LimitsOf sh m) where
+      pub turn-full : m .items ≤ c .items → Turns sh (lineIn f at stop) c s o (turn.Stop 15 at)
+      turn-full j today k h l = item-full sh today k (lineIn f at stop) (bookOf h l c) (shelfOf s) (openOf o) e i (omega (arith, of .items))
 
-      module _ (j : c .items < sh .fileitems) (r : Judged) (t : items.told r ≡ brief (readItem sh (o .single) (cut f at stop))) where
+      module _ (j : c .items < m .items) (r : Judged) (t : items.told r ≡ brief (readItem sh (o .single) (cut f at stop))) where
         pub turn-item : (amount warnings : ℕ) → r ≡ judged.Item amount warnings → Turns sh (lineIn f at stop) c s o (turn.Item amount warnings)
         turn-item amount warnings q today k h l =
-            item-more sh today k (lineIn f at stop) (bookOf h l c) (shelfOf s) (openOf o) e i j amount warnings (rw q at t)
+            item-more sh today k (lineIn f at stop) (bookOf h l c) (shelfOf s) (openOf o) e i (omega (arith, of .items)) amount warnings (rw q at t)
 
         pub turn-refused : (n off : ℕ) → r ≡ judged.Refused n off → Turns sh (lineIn f at stop) c s o (turn.Stop n (at + off))
         turn-refused n off q today k h l =
-            item-no sh today k (lineIn f at stop) (bookOf h l c) (shelfOf s) (openOf o) e i j n off (rw q at t)
+            item-no sh today k (lineIn f at stop) (bookOf h l c) (shelfOf s) (openOf o) e i (omega (arith, of .items)) n off (rw q at t)
 
   -- a group's end
   module _ (e : kindOf (cut f at stop) ≡ groupEnd) where

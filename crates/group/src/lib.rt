@@ -99,9 +99,9 @@ fn item_turn(
     if 99999 <= inside {
         return Turn::Stop(15, at as u64);
     }
-    let most = sh.fileitems;
+    let limits = sh.limits();
     let items = counts.items;
-    if most <= items {
+    if limits.items <= items {
         return Turn::Stop(15, at as u64);
     }
     match judgeitem::judge_item(&f[at..stop], sh, opened.single) {

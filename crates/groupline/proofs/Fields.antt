@@ -5,6 +5,9 @@ use mathlib.Core.List.{List, [], _∷_}
 use Prim.Native.Nat.{ℕ, _^_, _<_}
 use lib.Dec.{leb}
 use Rattle.base.proofs.Cases.{pick-true, pick-false}
+use Rattle.sheet.specs.declared.Sheet.{Sheet}
+use Rattle.sheet.specs.declared.Limits.{Limits}
+use Rattle.sheet.specs.Sheets.{LimitsOf}
 use Rattle.paper.specs.Accounts.{Account}
 use Rattle.paper.specs.Amounts.{readTotal}
 use Rattle.paper.specs.Days.{readDue, realDay, dueWarnings}
@@ -42,6 +45,11 @@ module _ (s : List ℕ) (at : ℕ) (n : NumAt) (v e : ℕ) (f : n ≡ num.Value 
   pub due-real : (long early : Bool) (ahead today : ℕ) → number.told n ≡ fieldAt (readDue long early ahead today) s at → realDay v ≡ true
   due-real long early ahead today g = due-sound long _ early ahead today v (found-value (readDue long early ahead today) s at v e (rw f at g)) .0
 
+-- a due day within the limit that the sheet gave
+pub due-limit : (sh : Sheet) (l : Limits) → LimitsOf sh l → (long : Bool) (today : ℕ) (s : List ℕ) (at : ℕ) (n : NumAt)
+    → number.told n ≡ fieldAt (readDue long (sh .early) (l .ahead) today) s at → number.told n ≡ fieldAt (readDue long (sh .early) (sh .ahead) today) s at
+due-limit sh l of long today s at n g = rw (of .ahead) at g
+
 -- ---- what the line says, with the warnings w that were counted
 
 pub step-group : (warns : Bool) (today date w : ℕ) → w ≡ dueWarnings warns today date → (payer : Account) (total at : ℕ)
@@ -50,6 +58,6 @@ step-group warns today date w g payer total at = rw g
 
 pub ruleset payers = (payer-counted, payer-third, payer-always)
 
-pub ruleset groups = (accounts, step-group, steps)
+pub ruleset groups = (accounts, due-limit, step-group, steps)
 
 pub ruleset bounds = (account-within, number-within, total-low, due-real)

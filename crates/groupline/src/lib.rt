@@ -99,7 +99,8 @@ fn total_and_date(s: &[u8], at: usize, sh: Sheet, today: u64, prefix: u64, base:
                 return GroupRead::Refused(4, end);
             }
             let from = end + 1;
-            match field_day::due_at(s, from, sh.longdate, sh.early, sh.ahead, today) {
+            let limits = sh.limits();
+            match field_day::due_at(s, from, sh.longdate, sh.early, limits.ahead, today) {
                 NumAt::Refused(n) => GroupRead::Refused(n, from),
                 NumAt::Value(date, last) => {
                     if last < s.len() {

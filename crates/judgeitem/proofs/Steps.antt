@@ -6,7 +6,10 @@ use Prim.Native.Nat.{ℕ, _+_, _≤_}
 use native.Mathlib.Nat.{add-zero}
 use lib.ListN.{length, drop}
 use Rattle.sheet.specs.declared.Sheet.{Sheet}
+use Rattle.sheet.specs.declared.Limits.{Limits}
+use Rattle.sheet.specs.Sheets.{LimitsOf}
 use Rattle.paper.specs.Accounts.{readAccount}
+use Rattle.paper.specs.Amounts.{readItemAmount}
 use Rattle.paper.specs.BankField.{readBank}
 use Rattle.paper.specs.Entries.{Said, no, gap}
 use Rattle.paper.specs.ItemLine.{readSymbol, readItem}
@@ -34,6 +37,12 @@ use Rattle.judgeitem.proofs.Brief.{line-brief}
 -- no text gives no warning
 pub kept-plain : (amount warnings : ℕ) → kept amount warnings ≡ kept amount (warnings + 0)
 kept-plain amount warnings = rw (add-zero warnings)
+
+-- ---- the amount, within the limits that the sheet gave: n is what its reader answered
+
+pub amount-limit : (sh : Sheet) (l : Limits) → LimitsOf sh l → (may : Bool) (s : List ℕ) (at : ℕ) (n : NumAt)
+    → number.told n ≡ fieldAt (readItemAmount may (l .digits) (l .amount)) s at → number.told n ≡ fieldAt (readItemAmount may (sh .itemdigits) (sh .itemmax)) s at
+amount-limit sh l of may s at n g = rw (of .digits, of .amount) at g
 
 -- ---- the bank field: n is what its judge answered
 
@@ -103,6 +112,6 @@ payer-within s t i at f = rw f at i
 pub by-pieces : (sh : Sheet) (single : Bool) (s : List ℕ) (r : Said) → r ≡ byPieces sh single s → r ≡ brief (readItem sh single s)
 by-pieces sh single s r q = q ∙ sym (line-brief sh single s)
 
-pub ruleset items = (step-payee, step-no-payee, step-first, step-no-first, step-variable, step-no-variable, step-bank, step-no-bank, step-texts, step-no-texts, onward, kept-plain, step-payer, step-no-payer, no-payer, by-pieces, steps)
+pub ruleset items = (amount-limit, step-payee, step-no-payee, step-first, step-no-first, step-variable, step-no-variable, step-bank, step-no-bank, step-texts, step-no-texts, onward, kept-plain, step-payer, step-no-payer, no-payer, by-pieces, steps)
 
 pub ruleset bounds = (passed-within, number-within, bank-within, text-within, payer-within, bank-low, texts-few)

@@ -100,7 +100,8 @@ fn from_amount(s: &[u8], at: usize, sh: Sheet) -> Judged
     requires { ⌜ at ≤ length (now s) ⌝ }
     ensures { λ r. ⌜ told r ≡ fromAmount sh at (drop at (now (s .entry))) ⌝ }
 {
-    match field_amount::amount_at(s, at, sh.comma, sh.itemdigits, sh.itemmax) {
+    let limits = sh.limits();
+    match field_amount::amount_at(s, at, sh.comma, limits.digits, limits.amount) {
         NumAt::Refused(n) => Judged::Refused(n, at),
         NumAt::Value(amount, end) => {
             if s.len() <= end {

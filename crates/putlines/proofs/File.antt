@@ -37,11 +37,12 @@ module _ (sh : Sheet) (kind number : ℕ) (o : List ℕ) (at : ℕ) where
         pub file-number : q + length (fixed 6 number ++ (32 ∷ [])) ≤ length o2
         file-number = part (fixed 6 number ++ (32 ∷ [])) _ (rest v (rest w (whole file-is h))) .room
 
-        pub file-bank : (o3 : List ℕ) (r : ℕ) → Wrote o2 q (fixed 6 number ++ (32 ∷ [])) o3 r → r + length (fixed 4 (sh .bank) ++ (13 ∷ 10 ∷ [])) ≤ length o3
-        file-bank o3 r u = rest u (rest v (rest w (whole file-is h))) .room
+        pub file-bank : (o3 : List ℕ) (r : ℕ) → Wrote o2 q (fixed 6 number ++ (32 ∷ [])) o3 r → (code : ℕ) → code ≡ sh .bank
+            → r + length (fixed 4 code ++ (13 ∷ 10 ∷ [])) ≤ length o3
+        file-bank o3 r u code e = rw e (rest u (rest v (rest w (whole file-is h))) .room)
 
-  pub then-file : {o1 o2 o3 o4 : List ℕ} {p q r n : ℕ} → Wrote o at (49 ∷ 32 ∷ []) o1 p → Wrote o1 p (fixed 4 kind ++ (32 ∷ [])) o2 q
-      → Wrote o2 q (fixed 6 number ++ (32 ∷ [])) o3 r → Wrote o3 r (fixed 4 (sh .bank) ++ (13 ∷ 10 ∷ [])) o4 n → Wrote o at line o4 n
-  then-file w v u t = wrote-as file-is (w then v then u then t)
+  pub then-file : {o1 o2 o3 o4 : List ℕ} {p q r n code : ℕ} → Wrote o at (49 ∷ 32 ∷ []) o1 p → Wrote o1 p (fixed 4 kind ++ (32 ∷ [])) o2 q
+      → Wrote o2 q (fixed 6 number ++ (32 ∷ [])) o3 r → code ≡ sh .bank → Wrote o3 r (fixed 4 code ++ (13 ∷ 10 ∷ [])) o4 n → Wrote o at line o4 n
+  then-file w v u e t = wrote-as file-is (w then v then u then (rw e at t))
 
 pub ruleset files = (file-one, file-kind, file-number, file-bank, then-file)

@@ -113,7 +113,7 @@ pub fn put_file_line(out: &mut [u8], at: usize, sh: Sheet, kind: u64, number: u6
     let e = put::put_bytes(out, at, b"1 ");
     let f = fixed_space(out, e, 4, kind);
     let g = fixed_space(out, f, 6, number);
-    code_end(out, g, sh.bank)
+    code_end(out, g, sh.bank_code())
 }
 
 // Writes a day, which ends its line.

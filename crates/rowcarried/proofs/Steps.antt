@@ -1,4 +1,4 @@
--- The numbers that are seen, and a text where it stands, as the code finds them. Assumes nothing.
+-- The sheet's limits, the numbers that are seen, and a text where it stands, as the code finds them. Assumes nothing.
 use mathlib.Core.Path.{_≡_, refl, sym, ap, _∙_}
 use mathlib.Core.Bool.{Bool, true, false}
 use mathlib.Core.List.{List, []}
@@ -8,7 +8,12 @@ use lib.ListN.{take, drop}
 use Rattle.base.specs.Pick.{pick}
 use Rattle.base.specs.Seek.{seek}
 use Rattle.sheet.specs.declared.Style.{Style}
+use Rattle.sheet.specs.declared.Sheet.{Sheet}
+use Rattle.sheet.specs.declared.Limits.{Limits}
+use Rattle.sheet.specs.Sheets.{LimitsOf}
 use Rattle.paper.specs.Bytes.{null, mark}
+use Rattle.paper.specs.Days.{dueAllowed}
+use Rattle.paper.specs.Amounts.{amountProper}
 use Rattle.paper.specs.Texts.{lacks, partCarried, nameCarried}
 use Rattle.paper.specs.Batch.{Header}
 use Rattle.paper.specs.FileLine.{numberAllowed}
@@ -20,6 +25,14 @@ use Rattle.rowread.specs.Told.{textOfSpan}
 use Rattle.span.specs.Held.{Within}
 use Rattle.rowread.proofs.Laws.{text-within, cut-is}
 use Rattle.rowread.proofs.Fields.{passes, fails}
+
+-- a test by the limits that a sheet gave is a test by the sheet's
+module _ (sh : Sheet) (l : Limits) (of : LimitsOf sh l) (t : Bool) where
+  pub due-limit : (early : Bool) (today d : ℕ) → t ≡ dueAllowed early (l .ahead) today d → t ≡ dueAllowed early (sh .ahead) today d
+  due-limit early today d e = rw (of .ahead) at e
+
+  pub amount-limit : (v : ℕ) → t ≡ amountProper (l .amount) v → t ≡ amountProper (sh .itemmax) v
+  amount-limit v e = rw (of .amount) at e
 
 -- the set of words stands for the list that it holds
 pub free-number : (interval : Bool) (from to : ℕ) (words : List ℕ) (n : ℕ) (r : Bool) → r ≡ numberFree interval from to words n

@@ -45,7 +45,8 @@ pub fn group_carried(sh: Sheet, today: u64, date: u64) -> Check
     requires { ⌜ realDay date ≡ true ⌝ }
     ensures { λ r. ⌜ ((k : ℕ) (rest : Verdict) → after k r rest ≡ check k 1 (dueAllowed (sh .early) (sh .ahead) today date) rest) ⌝ }
 {
-    if calendar::due_allowed(sh.early, sh.ahead, today, date) {
+    let limits = sh.limits();
+    if calendar::due_allowed(sh.early, limits.ahead, today, date) {
         return Check::Fine;
     }
     Check::Wrong(1)
@@ -108,7 +109,8 @@ pub fn item_carried(sh: Sheet, texts: &[u8], x: ItemRow) -> Check
     requires { ⌜ Sized (now texts) x ⌝ }
     ensures { λ r. ⌜ ((k : ℕ) (rest : Verdict) → after k r rest ≡ itemCarried sh k (itemOf (now (texts .entry)) x) rest) ⌝ }
 {
-    let small = amount::amount_proper(sh.itemmax, x.amount);
+    let limits = sh.limits();
+    let small = amount::amount_proper(limits.amount, x.amount);
     if !small {
         return Check::Wrong(6);
     }

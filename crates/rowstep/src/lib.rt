@@ -105,8 +105,8 @@ fn item_fits(sh: Sheet, texts: &[u8], all: u64, x: ItemRow) -> Check
     requires { ⌜ Sized (now texts) x ⌝ }
     ensures { λ r. ⌜ ((k : ℕ) (rest : Verdict) → after k r rest ≡ check k 0 (ltb all (sh .fileitems)) (itemCarried sh k (itemOf (now (texts .entry)) x) rest)) ⌝ }
 {
-    let most = sh.fileitems;
-    if most <= all {
+    let limits = sh.limits();
+    if limits.items <= all {
         return Check::Wrong(0);
     }
     rowcarried::item_carried(sh, texts, x)

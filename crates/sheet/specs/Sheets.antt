@@ -1,11 +1,14 @@
 -- The four sheets as records of what their banks ask, and which number or letter names which. Document 01, "What the library handles",
 -- with each sheet's answers to the questions that "Accounts" and "Lines" put. Assumes nothing.
 use Prim.Native.Nat.{ℕ}
+use mathlib.Core.Path.{_≡_}
 use mathlib.Core.Bool.{Bool, true, false}
 use lib.Dec.{leb, eqb, ltb}
 use Rattle.base.specs.Pick.{pick}
 use Rattle.sheet.specs.declared.Style.{Style}
 use Rattle.sheet.specs.declared.Sheet.{Sheet}
+use Rattle.sheet.specs.declared.Kinds.{Kinds}
+use Rattle.sheet.specs.declared.Limits.{Limits}
 use Rattle.sheet.specs.declared.Known.{Known}
 use Rattle.sheet.specs.declared.Known.the-variants as known
 
@@ -176,6 +179,18 @@ sheetBy b =
 -- "Lines", KIND: K and E 1501, S 1501 and 1502, C 1501 to 1504
 unfoldable pub kindAllowed : Sheet → ℕ → Bool
 kindAllowed sh kind = pick (ltb kind 1501) false (leb kind (sh .lastkind))
+
+-- the first and the last of them
+pub record KindsOf (sh : Sheet) (k : Kinds) : Type 0 where
+  pub first : k .first ≡ 1501
+  pub last : k .last ≡ sh .lastkind
+
+-- "Numbers returned", 15; "Lines", amounts and due date: items of a file, digits and amount of an item, days ahead
+pub record LimitsOf (sh : Sheet) (l : Limits) : Type 0 where
+  pub items : l .items ≡ sh .fileitems
+  pub digits : l .digits ≡ sh .itemdigits
+  pub amount : l .amount ≡ sh .itemmax
+  pub ahead : l .ahead ≡ sh .ahead
 
 -- "Lines", BANK: the sheet's own; C takes any
 unfoldable pub bankAllowed : Sheet → ℕ → Bool

@@ -1,6 +1,6 @@
 // The four sheets, known by name. A sheet is a record of what its bank asks; every rule takes it as a parameter and is proved once.
 ghost use mathlib.Core.Path.{_≡_};
-ghost use Rattle.sheet.specs.Sheets.{kindAllowed, bankAllowed, sheetOf, sheetBy};
+ghost use Rattle.sheet.specs.Sheets.{KindsOf, LimitsOf, kindAllowed, bankAllowed, sheetOf, sheetBy};
 
 // What a sheet asks of the text of an item.
 pub struct Style {
@@ -62,6 +62,20 @@ pub struct Sheet {
     pub strict: bool,
     // items in the whole file
     pub fileitems: u64,
+}
+
+// Kinds of account files: all from the first to the last.
+pub struct Kinds {
+    pub first: u64,
+    pub last: u64,
+}
+
+// How many items a file may have; how many digits an item's amount, and how much it may be; how many days ahead a due day may lie.
+pub struct Limits {
+    pub items: u64,
+    pub digits: usize,
+    pub amount: u64,
+    pub ahead: u64,
 }
 
 impl Sheet {
@@ -205,6 +219,35 @@ impl Sheet {
         fileitems: 99999000,
     };
 
+    // The kinds of account files that it takes.
+    pub fn kinds(self) -> Kinds
+        ensures { λ r. ⌜ KindsOf self r ⌝ }
+    {
+        Kinds {
+            first: 1501,
+            last: self.lastkind,
+        }
+    }
+
+    // Its limits on a file, on an item and on a due day.
+    pub fn limits(self) -> Limits
+        ensures { λ r. ⌜ LimitsOf self r ⌝ }
+    {
+        Limits {
+            items: self.fileitems,
+            digits: self.itemdigits,
+            amount: self.itemmax,
+            ahead: self.ahead,
+        }
+    }
+
+    // Its bank's code, which stands in the files that are written.
+    pub fn bank_code(self) -> u64
+        ensures { λ r. ⌜ r ≡ self .bank ⌝ }
+    {
+        self.bank
+    }
+
     // May an account file on this sheet name this bank?
     pub fn bank_allowed(self, code: u64) -> bool
         ensures { λ r. ⌜ r ≡ bankAllowed self code ⌝ }
@@ -212,17 +255,18 @@ impl Sheet {
         if self.anybank {
             return true;
         }
-        code == self.bank
+        code == self.bank_code()
     }
 
     // May an account file on this sheet be of this kind?
     pub fn kind_allowed(self, kind: u64) -> bool
         ensures { λ r. ⌜ r ≡ kindAllowed self kind ⌝ }
     {
-        if kind < 1501 {
+        let kinds = self.kinds();
+        if kind < kinds.first {
             return false;
         }
-        kind <= self.lastkind
+        kind <= kinds.last
     }
 }
 

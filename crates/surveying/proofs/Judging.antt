@@ -10,7 +10,8 @@ use lib.ListN.{length}
 use borrow.Author.Tests.{ltb-true, lt-ltb, le-ltb, not-true, not-false}
 use Rattle.base.specs.Pick.{pick}
 use Rattle.sheet.specs.declared.Sheet.{Sheet}
-use Rattle.sheet.specs.Sheets.{kindAllowed}
+use Rattle.sheet.specs.declared.Limits.{Limits}
+use Rattle.sheet.specs.Sheets.{kindAllowed, LimitsOf}
 use Rattle.paper.specs.Days.{realDay, dueAllowed}
 use Rattle.paper.specs.Accounts.{Account, isNobody}
 use Rattle.paper.specs.Numerals.{decimal}
@@ -197,12 +198,13 @@ ItemTested st x c = (k : ℕ) (rest : Verdict) → after k c rest ≡ itemProper
 abbrev pub ItemCarried : Sheet → ℕ → Item → Check → Type 0
 ItemCarried sh all x d = (k : ℕ) (rest : Verdict) → after k d rest ≡ check k 0 (ltb all (sh .fileitems)) (itemCarried sh k x rest)
 
-module _ (sh : Sheet) (all : ℕ) (x : Item) where
-  pub items-many : sh .fileitems ≤ all → ItemCarried sh all x (Wrong 0)
-  items-many g k rest = sym (test-failed k 0 _ _ (le-ltb all (sh .fileitems) g))
+-- by the limits that the sheet gave
+module _ (sh : Sheet) (l : Limits) (of : LimitsOf sh l) (all : ℕ) (x : Item) where
+  pub items-many : l .items ≤ all → ItemCarried sh all x (Wrong 0)
+  items-many g k rest = sym (test-failed k 0 _ _ (le-ltb all (sh .fileitems) (omega (arith, of .items))))
 
-  pub items-few : all < sh .fileitems → (d : Check) → ((k : ℕ) (rest : Verdict) → after k d rest ≡ itemCarried sh k x rest) → ItemCarried sh all x d
-  items-few g d carried k rest = carried k rest ∙ sym (test-passed k 0 _ _ (lt-ltb all (sh .fileitems) g))
+  pub items-few : all < l .items → (d : Check) → ((k : ℕ) (rest : Verdict) → after k d rest ≡ itemCarried sh k x rest) → ItemCarried sh all x d
+  items-few g d carried k rest = carried k rest ∙ sym (test-passed k 0 _ _ (lt-ltb all (sh .fileitems) (omega (arith, of .items))))
 
 module _ (sh : Sheet) (today : ℕ) (h : Header) (l : List ℕ) (k : ℕ) (st : State) (x : Item) (t : Bool) (due : t ≡ ItemDue st) where
   pub item-late : not t ≡ true → Goes sh today h l k st (anItem x) (step.Wrong 0)

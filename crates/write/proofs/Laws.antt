@@ -16,7 +16,7 @@ use Rattle.paper.specs.Proper.{needFile, Verdict, fine, wrong, headerProper, ba
 use Rattle.paper.specs.Carried.{headerCarried, batchCarried}
 use Rattle.paper.specs.FirstLine.{spellFirst}
 use Rattle.paper.specs.Canonical.{canon}
-use Rattle.paper.specs.Writing.{Draft, drafted, refusal, onVerdict, draftOf, writtenIn, outputAfter}
+use Rattle.paper.specs.Writing.{Draft, drafted, onVerdict, draftOf, writtenIn, outputAfter}
 use Rattle.paper.proofs.Verdicts.{headed}
 use Rattle.linesound.proofs.FirstLine.{headless}
 use Rattle.flat.specs.Flat.{lineOf, flat}

@@ -9,6 +9,9 @@ use Rattle.fields.proofs.show_date.Tie as tie
 real-day-requires : tie.Need-real-day-requires
 real-day-requires c κs = search needs
 
+limits-requires : tie.Need-limits-requires
+limits-requires c κs = search needs
+
 read-due-requires : tie.Need-read-due-requires
 unfolding realDay monthDays leap pick
 read-due-requires c κs = refl
@@ -48,6 +51,7 @@ show-date-spec =
     tie.close
     (tie.spec
     real-day-requires
+    limits-requires
     read-due-requires
     enum-known-n
     refused-requires

@@ -8,6 +8,9 @@ use Rattle.group.proofs.item_turn.Tie as tie
 returns : tie.Need-returns
 returns c = search items-turn
 
+limits-requires : tie.Need-limits-requires
+limits-requires c κs = search needs
+
 returns-2 : tie.Need-returns-2
 returns-2 c = search items-turn
 
@@ -31,7 +34,7 @@ enum-known-n c = search needs
 
 add-t24 : tie.Need-add-t24
 add-t24 c =
-    let a = c .before .before .before .before .before .before .before .before .args in
+    let a = c .before .before .before .before .before .before .before .before .before .before .args in
     omega
     (arith, item-within (a .sh) (a .opened .single) (a .f .now) (a .at) (a .stop) _ (c .before .before .before .judge-item .ensures) _ _ (c .before .n .given .1) (omega arith) (omega arith))
 
@@ -46,6 +49,7 @@ item-turn-spec =
     tie.close
     (tie.spec
     returns
+    limits-requires
     returns-2
     sub-judge-item
     part-judge-item-start

@@ -21,6 +21,9 @@ returns c = (search groups depth 12, search (bounds, needs))
 add-from : tie.Need-add-from
 add-from c = search needs
 
+limits-requires : tie.Need-limits-requires
+limits-requires c κs = search needs
+
 due-at-requires : tie.Need-due-at-requires
 due-at-requires c κs = search needs
 
@@ -58,6 +61,7 @@ total-and-date-spec =
     enum-known-total
     returns
     add-from
+    limits-requires
     due-at-requires
     enum-known-n-2
     enum-known-date

@@ -5,6 +5,9 @@ use Rattle.judgeitem.proofs.Steps.{items}
 use Rattle.judgeitem.proofs.from_amount.Statement.{statement}
 use Rattle.judgeitem.proofs.from_amount.Tie as tie
 
+limits-requires : tie.Need-limits-requires
+limits-requires c κs = search needs
+
 amount-at-requires : tie.Need-amount-at-requires
 amount-at-requires c κs = search needs
 
@@ -36,6 +39,7 @@ pub from-amount-spec : {M : Type 1} → statement M
 from-amount-spec =
     tie.close
     (tie.spec
+    limits-requires
     amount-at-requires
     enum-known-n
     enum-known-amount

@@ -16,6 +16,9 @@ fixed-space-requires c κs = search (files, needs)
 fixed-space-requires-2 : tie.Need-fixed-space-requires-2
 fixed-space-requires-2 c κs = search (files, needs)
 
+bank-code-requires : tie.Need-bank-code-requires
+bank-code-requires c κs = search needs
+
 code-end-requires : tie.Need-code-end-requires
 code-end-requires c κs = search (files, needs)
 
@@ -33,6 +36,7 @@ put-file-line-spec =
     put-bytes-requires
     fixed-space-requires
     fixed-space-requires-2
+    bank-code-requires
     code-end-requires
     same-length
     returns)

@@ -1,35 +1,39 @@
 -- `item_carried` meets its contract: the amount's test, the priority's, then the texts. Assumes nothing.
 use borrow.Author.Needs.{needs}
-use Rattle.rowcarried.proofs.Steps.{steps}
+use Rattle.rowcarried.proofs.Steps.{amount-limit, steps}
 use Rattle.paper.specs.Carried.{itemCarried}
 use Rattle.rowcarried.proofs.item_carried.Statement.{statement}
 use Rattle.rowcarried.proofs.item_carried.Tie as tie
+
+limits-requires : tie.Need-limits-requires
+limits-requires c κs = search needs
 
 amount-proper-requires : tie.Need-amount-proper-requires
 amount-proper-requires c κs = search needs
 
 returns : tie.Need-returns
 unfolding itemCarried
-returns c = λ k rest. search steps depth 12
+returns c = λ k rest. search (steps, amount-limit) depth 12
 
 priority-carried-requires : tie.Need-priority-carried-requires
 priority-carried-requires c κs = search needs
 
 returns-2 : tie.Need-returns-2
 unfolding itemCarried
-returns-2 c = λ k rest. search steps depth 12
+returns-2 c = λ k rest. search (steps, amount-limit) depth 12
 
 texts-carried-requires : tie.Need-texts-carried-requires
 texts-carried-requires c κs = search needs
 
 returns-3 : tie.Need-returns-3
 unfolding itemCarried
-returns-3 c = λ k rest. search (steps, c .texts-carried .ensures) depth 12
+returns-3 c = λ k rest. search (steps, amount-limit, c .texts-carried .ensures) depth 12
 
 pub item-carried-spec : {M : Type 1} → statement M
 item-carried-spec =
     tie.close
     (tie.spec
+    limits-requires
     amount-proper-requires
     returns
     priority-carried-requires

@@ -4,6 +4,9 @@ use Rattle.surveying.proofs.Judging.{items-many, items-few}
 use Rattle.rowstep.proofs.item_fits.Statement.{statement}
 use Rattle.rowstep.proofs.item_fits.Tie as tie
 
+limits-requires : tie.Need-limits-requires
+limits-requires c κs = search needs
+
 returns : tie.Need-returns
 returns c = search (items-many, needs)
 
@@ -14,4 +17,4 @@ returns-2 : tie.Need-returns-2
 returns-2 c = search (items-few, needs)
 
 pub item-fits-spec : {M : Type 1} → statement M
-item-fits-spec = tie.close (tie.spec returns item-carried-requires returns-2)
+item-fits-spec = tie.close (tie.spec limits-requires returns item-carried-requires returns-2)

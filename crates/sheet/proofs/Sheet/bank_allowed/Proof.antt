@@ -1,16 +1,17 @@
 -- `Sheet::bank_allowed` answers as its definition does.
-use Rattle.base.proofs.Cases.{picks}
-use Rattle.sheet.specs.Sheets.{bankAllowed}
+use borrow.Author.Needs.{needs}
+use Rattle.sheet.proofs.Allowed.{allowances}
 use Rattle.sheet.proofs.Sheet.bank_allowed.Statement.{statement}
 use Rattle.sheet.proofs.Sheet.bank_allowed.Tie as tie
 
 returns : tie.Need-returns
-unfolding bankAllowed
-returns c = search picks depth 8
+returns c = search allowances
+
+bank-code-requires : tie.Need-bank-code-requires
+bank-code-requires c κs = search needs
 
 returns-2 : tie.Need-returns-2
-unfolding bankAllowed
-returns-2 c = search picks depth 8
+returns-2 c = search allowances
 
 pub bank-allowed-spec : {M : Type 1} → statement M
-bank-allowed-spec = tie.close (tie.spec returns returns-2)
+bank-allowed-spec = tie.close (tie.spec returns bank-code-requires returns-2)
