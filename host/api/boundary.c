@@ -11,20 +11,9 @@
 #include <abo.h>
 #include "../../peer/peer.h"
 #include "../call/lines.h"
+#include "page.h"
 
 enum { ROWS = 6, ROOM = 4096 };
-
-static unsigned long passed, failed;
-
-static void check(bool good, const char *what, const char *detail)
-{
-    if (good) {
-        passed++;
-        return;
-    }
-    failed++;
-    printf("failed: %s: %s\n", what, detail);
-}
 
 /* The word of a struct at an offset, whatever its members are called. */
 static uint64_t word_at(const void *from, size_t offset)
@@ -219,6 +208,5 @@ int main(void)
     check_explain("a day in the sheet's place", 20180101, ABO_SHEET_K, ABO_EXPLAIN_BYTES);
     check_lines();
     check_all_seen();
-    printf("%lu passed, %lu failed\n", passed, failed);
-    return failed != 0;
+    return last_line();
 }

@@ -7,9 +7,9 @@ use lib.ListN.{replicate}
 use Rattle.sheet.specs.declared.Sheet.{Sheet}
 use Rattle.paper.specs.Bytes.{bytes}
 use Rattle.paper.specs.Accounts.{Account, account, nobody}
-use Rattle.paper.specs.Batch.{noHeader}
+use Rattle.paper.specs.Batch.{Header, noHeader}
 use Rattle.paper.specs.Rows.{blanks, rowsBytes}
-use Rattle.paper.specs.Reading.{refusedAt, needs, acceptedAs, readAnswer, rowsAfter}
+use Rattle.paper.specs.Reading.{ReadAnswer, readAnswer, rowsAfter}
 use Rattle.paper.specs.Writing.{drafted}
 use Rattle.paper.specs.Explaining.{explanation}
 use Rattle.paper.specs.Rewriting.{rewriting}
@@ -21,7 +21,12 @@ use Rattle.cases.specs.Frame.{frame, endedBy, group, item, single, heade
 abbrev file : Sheet → List ℕ
 file sh = endedBy "\n" (frame sh)
 
--- its rows: the group's payer, the item's payer, its specific symbol, places and lengths of its parts and name
+-- an answer of reading: number, line, byte, rows, warnings, rows needed, header
+abbrev answer : ℕ → ℕ → ℕ → ℕ → ℕ → ℕ → Header → ReadAnswer
+answer number line byte rows warnings needed header =
+    record { number = number; line = line; byte = byte; rows = rows; warnings = warnings; needed = needed; header = header }
+
+-- the frame's rows: the group's payer, the item's payer, its specific symbol, places and lengths of its parts and name
 abbrev left : Account → Account → ℕ → List ℕ → List ℕ
 left payer own specific texts =
     rowsBytes
@@ -30,14 +35,14 @@ left payer own specific texts =
 
 -- Point 25, reading: 1, then 2, then the file, last 16 with the rows needed. Each refusal returns no row, no warning and C's header.
 pub answers :
-    (readAnswer 1 today (file K) (blanks 576) ≡ acceptedAs (header K) 3 0)
-    × (readAnswer 3 today (group C "2 19-19 5002 311217" .file) (blanks 600) ≡ acceptedAs noHeader 3 2)
-    × (readAnswer 4 today (file E) (blanks 575) ≡ needs 3)
-    × (readAnswer 2 today (item S "706" .file) [] ≡ refusedAt 5 4 98)
-    × (readAnswer 5 20180229 [] [] ≡ refusedAt 1 0 0)
-    × (readAnswer 0 today (file K) (blanks 576) ≡ refusedAt 1 0 0)
-    × (readAnswer 1 20180229 [] [] ≡ refusedAt 2 0 0)
-    × (readAnswer 1 21000101 (file K) (blanks 576) ≡ refusedAt 2 0 0)
+    (readAnswer 1 today (file K) (blanks 576) ≡ answer 0 0 0 3 0 0 (header K))
+    × (readAnswer 3 today (group C "2 19-19 5002 311217" .file) (blanks 600) ≡ answer 0 0 0 3 2 0 noHeader)
+    × (readAnswer 4 today (file E) (blanks 575) ≡ answer 16 0 0 0 0 3 noHeader)
+    × (readAnswer 2 today (item S "706" .file) [] ≡ answer 5 4 98 0 0 0 noHeader)
+    × (readAnswer 5 20180229 [] [] ≡ answer 1 0 0 0 0 0 noHeader)
+    × (readAnswer 0 today (file K) (blanks 576) ≡ answer 1 0 0 0 0 0 noHeader)
+    × (readAnswer 1 20180229 [] [] ≡ answer 2 0 0 0 0 0 noHeader)
+    × (readAnswer 1 21000101 (file K) (blanks 576) ≡ answer 2 0 0 0 0 0 noHeader)
 unfolding rewrites
 answers = (refl, refl, refl, refl, refl, refl, refl, refl)
 

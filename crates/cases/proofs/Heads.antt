@@ -117,6 +117,7 @@ pub payers :
     × (single K "2 00000000000000000 5001 020118" reads alone warned 0)
     × (single K "2 000000000000000000 5001 020118" gives 4 at 2)
     × (single E "2 0000000-0 5001 020118" gives 4 at 2)
+    × (single K "2 0-00000000000 5001 020118" gives 4 at 2)
     × (group S "2 0 5001 020118" gives 5 at 2)
     × (group C "2 0 5001 020118" gives 5 at 2)
     × (group S "2 00000000000 5001 020118" gives 4 at 2)
@@ -125,7 +126,7 @@ pub payers :
     × (group K "2 9 5001 020118" gives 4 at 2)
     × (group K "2 09 5001 020118" gives 5 at 2)
 unfolding judged
-payers = (refl, refl, refl, refl, refl, refl, refl, refl, refl, refl, refl, refl, refl, refl, refl, refl, refl, refl, refl, refl, refl, refl, refl)
+payers = (refl, refl, refl, refl, refl, refl, refl, refl, refl, refl, refl, refl, refl, refl, refl, refl, refl, refl, refl, refl, refl, refl, refl, refl)
 
 -- Points 17 and 18: TOTAL has up to 14 digits on every sheet, on E with a comma too. Zero or a large one is no fault of its own, but differs from the
 -- sum: K and S refuse that when the closing line has passed, before what follows it; C and E warn. A sum past 14 digits is 10 on every sheet.
@@ -161,6 +162,8 @@ pub days :
     × (group C "2 19-19 5001 19991231" gives 11 at 13)
     × (group C "2 19-19 5001 21000101" gives 11 at 13)
     × (group E "2 19-19 5001 310418" gives 11 at 13)
+    × (group E "2 19-19 5001 011318" gives 11 at 13)
+    × (group E "2 19-19 5001 290200" reads dueOn 20000229 warned 0)
     × (group K "2 19-19 5001 010118" reads dueOn 20180101 warned 0)
     × (group C "2 19-19 5001 010118" reads dueOn 20180101 warned 0)
     × (group K "2 19-19 5001 311217" gives 11 at 13)
@@ -176,4 +179,4 @@ pub days :
     × (group K "2 19-19 5001 020118 " gives 4 at 19)
     × (group E "2 19-19 5001" gives 4 at 12)
 unfolding judged
-days = (refl, refl, refl, refl, refl, refl, refl, refl, refl, refl, refl, refl, refl, refl, refl, refl, refl, refl, refl)
+days = (refl, refl, refl, refl, refl, refl, refl, refl, refl, refl, refl, refl, refl, refl, refl, refl, refl, refl, refl, refl, refl)

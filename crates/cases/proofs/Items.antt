@@ -21,6 +21,7 @@ pub accounts :
     × (item C "-19" gives 4 at 0)
     × (item E "1-9-9" gives 4 at 0)
     × (item S "0000019-19" gives 4 at 0)
+    × (item K "19-00000000019" gives 4 at 0)
     × (item E "00000000705" gives 4 at 0)
     × (item C "00000190000000019" gives 4 at 0)
     × (item K "705" gives 4 at 3)
@@ -29,7 +30,7 @@ pub accounts :
     × (payment E "19-19 706" gives 5 at 6)
     × (payment C "19-19" gives 4 at 5)
 unfolding judged
-accounts = (refl, refl, refl, refl, refl, refl, refl, refl, refl, refl, refl, refl, refl, refl, refl, refl, refl, refl, refl, refl)
+accounts = (refl, refl, refl, refl, refl, refl, refl, refl, refl, refl, refl, refl, refl, refl, refl, refl, refl, refl, refl, refl, refl)
 
 -- Point 17, an item's amount: on S 13 digits are 4, whatever they say; on E the comma counts among the 14 bytes, and 10 ^ 12 or more is 6. Zero is 6.
 pub amounts :
@@ -54,6 +55,8 @@ amounts = (refl, refl, refl, refl, refl, refl, refl, refl, refl, refl, refl, ref
 -- symbol a text; nothing there is 4 at the line's end.
 pub symbols :
     (item K "705 5001 12345678901 03000558" gives 4 at 9)
+    × (item K "705 5001 4: 03000558" gives 4 at 9)
+    × (item E "705 5001 4/ 03000558" gives 4 at 9)
     × (item S "705 5001  03000558  " gives 4 at 9)
     × (item C "705 5001 42" gives 4 at 11)
     × (item K "705 5001 0000000042 03000558" reads plain warned 0)
@@ -67,7 +70,7 @@ pub symbols :
     × (item E "705 5001 42 03000558 7" reads texts 7 [] "" warned 0)
     × (item E "705 5001 42 03000558 00000000017" gives 4 at 21)
 unfolding judged
-symbols = (refl, refl, refl, refl, refl, refl, refl, refl, refl, refl, refl, refl, refl)
+symbols = (refl, refl, refl, refl, refl, refl, refl, refl, refl, refl, refl, refl, refl, refl, refl)
 
 -- Point 20, the bank field: 8 to 10 digits, else 4; then 12 for the bank 0000, then 13 for the tenth digit, on K too, and for the ninth, which on K is
 -- the priority.

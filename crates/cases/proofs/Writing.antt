@@ -5,12 +5,13 @@ use mathlib.Core.Bool.{false}
 use mathlib.Core.List.{List, [], _∷_, _++_}
 use mathlib.Core.Path.{_≡_, refl}
 use Rattle.paper.specs.Bytes.{bytes}
+use Rattle.paper.specs.Numerals.{decimal}
 use Rattle.paper.specs.Accounts.{Account, account, nobody}
 use Rattle.paper.specs.Batch.{Item, Thing, noHeader, aFile, aGroup, anItem, strange, things}
 use Rattle.paper.specs.Proper.{any, wrong, rowsProper}
 use Rattle.paper.specs.Rows.{blanks, rowsBytes}
 use Rattle.paper.specs.Carried.{rowsCarried}
-use Rattle.paper.specs.Writing.{drafted, refusal, draft}
+use Rattle.paper.specs.Writing.{drafted, refusal, draft, writtenIn, outputAfter}
 use Rattle.sheet.specs.Sheets.{sheetK as K, sheetS as S, sheetC as C, sheetE as E}
 use Rattle.cases.specs.Asked.{today, written, rewrites}
 use Rattle.cases.specs.Frame.{headed, header, paid, parts, plainItem, plain, dueOn, ranked, texts, alone}
@@ -26,6 +27,22 @@ row3 x = rows 1501 0 20180102 (account 19 19) x
 -- the frame's item with these parts and this name
 abbrev told : List String → String → Item
 told ps name = paid nobody 300 5001 0 5 (parts 4 ps) (bytes name)
+
+-- .. with another payee, variable and constant symbol
+abbrev other : Account → ℕ → ℕ → Item
+other payee variable constant =
+    record {
+      payer = nobody;
+      payee = payee;
+      bank = 300;
+      amount = 5001;
+      variable = variable;
+      specific = 0;
+      constant = constant;
+      priority = 5;
+      parts = parts 4 [];
+      name = [];
+    }
 
 -- lent rows: the frame's, with place and length of the first part, and with these bytes behind them
 abbrev lent : ℕ → ℕ → List ℕ → List ℕ
@@ -62,9 +79,10 @@ pub proper-rows :
     × (written C noHeader (rows 1501 0 20180102 (account 19 19) (paid nobody 300 99999999999999 0 5 (parts 4 []) []) ++ (anItem (paid nobody 300 1 0 2 (parts 4 []) []) ∷ [])) ≡ refusal 20 4 6)
     × (rowsProper 1001 (record { stage = any; files = 1000; items = 1; single = false; sum = 0 }) (aFile 1505 0 ∷ []) ≡ wrong 1001 0)
     × (rowsProper 7 (record { stage = any; files = 1; items = 99999; single = false; sum = 0 }) (anItem plainItem ∷ []) ≡ wrong 7 0)
+    × (rowsProper 7 (record { stage = any; files = 1; items = 99997; single = false; sum = 0 }) (anItem plainItem ∷ anItem plainItem ∷ anItem plainItem ∷ []) ≡ wrong 9 0)
     × (rowsCarried S today noHeader 1003 1000 [] (anItem plainItem ∷ []) ≡ wrong 1003 0)
 unfolding written
-proper-rows = (refl, refl, refl, refl, refl, refl, refl, refl, refl, refl, refl)
+proper-rows = (refl, refl, refl, refl, refl, refl, refl, refl, refl, refl, refl, refl)
 
 -- Points 26 and 28: 20 is what "The batch" says for every sheet, a row's fields in its order, each by the number of its word.
 pub proper-fields :
@@ -75,6 +93,9 @@ pub proper-fields :
     -- an item has a payer exactly in a single group
     × (written C noHeader (rows 1501 0 20180102 nobody plainItem) ≡ refusal 20 3 1)
     × (written C noHeader (row3 (paid (account 19 19) 0 0 0 5 (parts 4 []) [])) ≡ refusal 20 3 1)
+    × (written C noHeader (row3 (other (account 0 706) 10000000000 10000)) ≡ refusal 20 3 3)
+    × (written C noHeader (row3 (other (account 0 705) 10000000000 10000)) ≡ refusal 20 3 7)
+    × (written C noHeader (row3 (other (account 0 705) 9999999999 10000)) ≡ refusal 20 3 9)
     × (written C noHeader (row3 (paid nobody 0 0 0 2 (parts 4 []) [])) ≡ refusal 20 3 5)
     × (written C noHeader (row3 (paid nobody 10000 0 0 2 (parts 4 []) [])) ≡ refusal 20 3 5)
     × (written C noHeader (row3 (paid nobody 300 0 10000000000 2 (parts 4 []) [])) ≡ refusal 20 3 6)
@@ -85,7 +106,7 @@ pub proper-fields :
     × (written K (header K) (row3 (told ("a" ∷ "b" ∷ "c" ∷ "\u{1}" ∷ []) "Jan")) ≡ refusal 20 3 17)
     × (written C noHeader (row3 (told [] "xxxxxxxxxxxxxxxxxxxxxxxxxxxxxxxxxxxx")) ≡ refusal 20 3 19)
 unfolding written
-proper-fields = (refl, refl, refl, refl, refl, refl, refl, refl, refl, refl, refl, refl, refl, refl, refl)
+proper-fields = (refl, refl, refl, refl, refl, refl, refl, refl, refl, refl, refl, refl, refl, refl, refl, refl, refl, refl)
 
 -- Points 28 and 29: all of 20 comes before any of 21, which is what the one sheet narrows.
 pub carried-fields :
@@ -109,6 +130,7 @@ carried-fields = (refl, refl, refl, refl, refl, refl, refl, refl, refl, refl, re
 pub spellings :
     (written K (header K) (things plain) ≡ drafted (bytes "UHL1010118RYBNIKY             1234567890000900000000000000\r\n1 1501 000000 8100\r\n2 19-19 5001 020118\r\n705 5001 42 03000558\r\n3 +\r\n5 +\r\n"))
     × (written K (header K) (things (ranked 7)) ≡ drafted (bytes "UHL1010118RYBNIKY             1234567890000900000000000000\r\n1 1501 000000 8100\r\n2 19-19 5001 020118\r\n705 5001 42 0703000558\r\n3 +\r\n5 +\r\n"))
+    × (written K (header K) (row3 (paid nobody 1 1 1 3 (parts 4 []) [])) ≡ drafted (bytes "UHL1010118RYBNIKY             1234567890000900000000000000\r\n1 1501 000000 8100\r\n2 19-19 1 020118\r\n705 1 42 0300010558 1\r\n3 +\r\n5 +\r\n"))
     × (written K (header K) (row3 (paid nobody 9999 99999999999999 9999999999 9 (parts 4 []) [])) ≡ drafted (bytes "UHL1010118RYBNIKY             1234567890000900000000000000\r\n1 1501 000000 8100\r\n2 19-19 99999999999999 020118\r\n705 99999999999999 42 0999990558 9999999999\r\n3 +\r\n5 +\r\n"))
     × (written K (header K) (things (texts 0 ("led" ∷ "" ∷ "ryby" ∷ []) "")) ≡ drafted (bytes "UHL1010118RYBNIKY             1234567890000900000000000000\r\n1 1501 000000 8100\r\n2 19-19 5001 020118\r\n705 5001 42 03000558 0 AV:led||ryby\r\n3 +\r\n5 +\r\n"))
     × (written K (header K) (things alone) ≡ drafted (bytes "UHL1010118RYBNIKY             1234567890000900000000000000\r\n1 1501 000000 8100\r\n2 5001 020118\r\n19-19 705 5001 42 03000558\r\n3 +\r\n5 +\r\n"))
@@ -118,9 +140,27 @@ pub spellings :
     × (written E (header E) (things (texts 17 [] "")) ≡ drafted (bytes "UHL1010118RYBNIKY             1234567890000900000000000000\r\n1 1501 000000 6100\r\n2 19-19 5001 020118\r\n705 5001 42 03000558 17\r\n3 +\r\n5 +\r\n"))
     × (written C noHeader (things (dueOn 20171231)) ≡ drafted (bytes "UHL1\r\n1 1501 000000 0300\r\n2 19-19 5001 311217\r\n705 5001 42 03000558\r\n3 +\r\n5 +\r\n"))
     × (written C noHeader (things (texts 0 ("led" ∷ []) "Jan")) ≡ drafted (bytes "UHL1\r\n1 1501 000000 0300\r\n2 19-19 5001 020118\r\n705 5001 42 03000558 0 AV:led NP:Jan\r\n3 +\r\n5 +\r\n"))
+    × (written C noHeader (things (texts 0 ("xxxxxxxxxxxxxxxxxxxxxxxxxxxxxxxxxxx" ∷ []) "xxxxxxxxxxxxxxxxxxxxxxxxxxxxxxxxxxx")) ≡ drafted (bytes "UHL1\r\n1 1501 000000 0300\r\n2 19-19 5001 020118\r\n705 5001 42 03000558 0 AV:xxxxxxxxxxxxxxxxxxxxxxxxxxxxxxxxxxx NP:xxxxxxxxxxxxxxxxxxxxxxxxxxxxxxxxxxx\r\n3 +\r\n5 +\r\n"))
     × (written C noHeader (things (texts 0 [] "Jan")) ≡ drafted (bytes "UHL1\r\n1 1501 000000 0300\r\n2 19-19 5001 020118\r\n705 5001 42 03000558 0 NP:Jan\r\n3 +\r\n5 +\r\n"))
 unfolding written
-spellings = (refl, refl, refl, refl, refl, refl, refl, refl, refl, refl, refl, refl)
+spellings = (refl, refl, refl, refl, refl, refl, refl, refl, refl, refl, refl, refl, refl, refl)
+
+-- Numbers have no needless zeros, and one digit at least.
+pub numerals : (decimal 0 ≡ bytes "0") × (decimal 9 ≡ bytes "9") × (decimal 10 ≡ bytes "10") × (decimal 18446744073709551615 ≡ bytes "18446744073709551615")
+unfolding written
+numerals = (refl, refl, refl, refl)
+
+-- The answer of writing: number, row, field and the bytes written or, with 16, needed. The file stands in front of the old bytes; a refusal, 16 too, leaves
+-- the output as it was.
+pub outputs :
+    (writtenIn 3 (drafted (bytes "led")) ≡ record { number = 0; row = 0; field = 0; bytes = 3 })
+    × (writtenIn 2 (drafted (bytes "led")) ≡ record { number = 16; row = 0; field = 0; bytes = 3 })
+    × (writtenIn 9 (refusal 20 3 11) ≡ record { number = 20; row = 3; field = 11; bytes = 0 })
+    × (outputAfter (bytes "ryby") (drafted (bytes "led")) ≡ bytes "ledy")
+    × (outputAfter (bytes "le") (drafted (bytes "led")) ≡ bytes "le")
+    × (outputAfter (bytes "ryby") (refusal 20 3 11) ≡ bytes "ryby")
+unfolding rewrites
+outputs = (refl, refl, refl, refl, refl, refl)
 
 -- Points 30 and 31: an empty text may lie anywhere in the lent bytes, at their end too, and no text reaches past them. Bytes that are left over behind
 -- the last row are a row of no known kind.
