@@ -90,6 +90,10 @@ int main(int argc, char **argv)
     if (bytes == NULL)
         return 3;
     memset(bytes, 'n', len);
+    /* what starts the tests may ignore some, and what is ignored stays so */
+    static const int signs[] = {SIGTERM, SIGINT, SIGHUP};
+    for (size_t i = 0; i < sizeof signs / sizeof *signs; i++)
+        signal(signs[i], SIG_DFL);
     guard_output();
     arguments = argc - 3;
     argument = argv + 3;
