@@ -78,19 +78,4 @@ static inline size_t parts_used(const uint8_t *row)
     return parts;
 }
 
-/* What judging finds: number 0 with the bytes of the canonical file, or 20 or
-   21 with its row and field. */
-struct finding {
-    uint64_t number, row, field, bytes;
-};
-
-struct finding peer_judge_batch(const struct batch *b);
-
-/* The bytes of a row's line with its end, for a row that has been judged; the
-   total of a group is not counted. */
-uint64_t peer_line_bytes(const struct batch *b, const uint8_t *row);
-
-/* Spells a batch that has been judged into room that is large enough. */
-void peer_spell_batch(const struct batch *b, uint8_t *out);
-
 #endif

@@ -2,6 +2,7 @@
 #include "days.h"
 #include "digits.h"
 #include "judge.h"
+#include "peer.h"
 
 enum {
     INPUT_BYTES = 8192,

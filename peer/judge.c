@@ -1,6 +1,8 @@
 /* The order of lines, the closing lines and the totals. */
 #include "judge.h"
 #include "days.h"
+#include "judge_heads.h"
+#include "judge_item.h"
 #include "lines.h"
 
 /* `3 +` or `5 +`; the digit and the byte behind it are known. */

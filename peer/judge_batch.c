@@ -1,8 +1,8 @@
-/* Rows and header against "The batch" (20) and against the sheet (21), in one
-   pass: a 20 ends it, while the first 21 waits for the rows behind it. */
-#include "batch.h"
+/* One pass: a 20 ends it, while the first 21 waits for the rows behind it. */
+#include "judge_batch.h"
 #include "days.h"
 #include "digits.h"
+#include "spell_batch.h"
 
 /* Which kinds of rows may come next, as bits. */
 enum {

@@ -1,7 +1,6 @@
-/* The first line, the account file's head and the group's head. */
+#include "judge_heads.h"
 #include "account.h"
 #include "days.h"
-#include "judge.h"
 
 /* A field of the first line, which is known by its place. */
 static bool placed_digits(struct judge *j, size_t at, size_t digits,

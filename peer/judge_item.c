@@ -1,6 +1,5 @@
-/* One payment: its fields and its tail. */
+#include "judge_item.h"
 #include "account.h"
-#include "judge.h"
 #include "split.h"
 
 static bool pass_account(struct judge *j)

@@ -12,10 +12,7 @@
 #include <stddef.h>
 #include <stdint.h>
 
-struct peer_header {
-    uint64_t date, client, from, to;
-    uint8_t name[20];
-};
+#include "header.h"
 
 /* number 0: rows filled and warnings; number 16: needed is the count of rows
    the file asks for; any other number: the line (from 1) and byte offset. */

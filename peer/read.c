@@ -1,5 +1,8 @@
+/* Reading: a file is judged, and if it is right and there is room, rows are
+   filled from it. */
 #include "fill.h"
 #include "judge.h"
+#include "peer.h"
 
 struct peer_answer peer_read(const uint8_t *file, size_t len, uint64_t sheet,
                              uint64_t today, uint8_t *rows, size_t rows_len)

@@ -1,5 +1,4 @@
-/* Canonical spelling (document 01) of rows that have been judged. */
-#include "batch.h"
+#include "spell_batch.h"
 #include "days.h"
 #include "digits.h"
 

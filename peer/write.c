@@ -1,6 +1,8 @@
-#include "batch.h"
+/* Writing: a batch is judged, and if it is right and there is room, spelled. */
 #include "days.h"
+#include "judge_batch.h"
 #include "peer.h"
+#include "spell_batch.h"
 
 struct peer_written peer_write(const uint8_t *rows, size_t rows_len,
                                const uint8_t *texts, size_t texts_len,
