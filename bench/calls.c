@@ -24,7 +24,7 @@ bool lend_for(struct lent *l, enum which which, unsigned sheet,
               const char *kind, size_t bytes)
 {
     memset(l, 0, sizeof *l);
-    if (!make_bench_file(&l->file, sheet, kind, bytes))
+    if (!make_sized_file(&l->file, sheet, kind, bytes))
         return false;
     const struct text *file = &l->file.bytes;
     size_t rows_len = l->file.rows * ABO_ROW_BYTES;

@@ -3,14 +3,14 @@
 #define BENCH_CALLS_H
 
 #include "../host/call/call.h"
-#include "files.h"
+#include "../host/generate/sized.h"
 
 enum who { NONE, ABO, PEER };
 
 /* What a call is given, and the room that is lent to it: in reading for as many
    rows as the file has, else for as many bytes. */
 struct lent {
-    struct bench_file file;
+    struct sized_file file;
     uint8_t *rows;       /* of the file, if they are to be written .. */
     struct outcome read; /* .. and what the second program read with them */
     struct call call;

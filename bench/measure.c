@@ -9,7 +9,8 @@
  * difference of two counts, with it and with `none`, so nothing has to be told
  * apart by names.  The second form runs the library and the second program
  * TIMES times in turn, compares what they leave in the lent bytes, and gives
- * the median time of each.  SHEET is K, S, C or E; files.h names the kinds.
+ * the median time of each.  SHEET is K, S, C or E; host/generate/sized.h names
+ * the kinds.
  */
 #define _POSIX_C_SOURCE 200809L
 #include <stdio.h>

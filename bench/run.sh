@@ -5,7 +5,7 @@
 #
 #   bench/run.sh                                 reading and writing, files of 10 MB
 #   CALLS='read write explain' bench/run.sh      these calls; a byte is one of the file read, or written
-#   SHEETS='K C' KINDS=wages bench/run.sh        some of them; bench/files.h names the kinds
+#   SHEETS='K C' KINDS=wages bench/run.sh        some of them; host/generate/sized.h names the kinds
 #   BYTES=100000 bench/run.sh                    another size
 #   TIMES=0 bench/run.sh                         how often each is timed (9 on x86-64, elsewhere 0: an emulator's time says nothing)
 #   LIMIT=1.0 bench/run.sh                       fails where the library takes more than so many times the instructions

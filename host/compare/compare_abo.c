@@ -5,7 +5,7 @@
  *                                              file; `items`, a line for each item, as the tool shows it but with one space
  *                                              between words, and a dot for each letter above 126; `accepted`, what check says.
  *                                              The last three are empty if the file is refused
- *   compare_abo make SHEET KIND BYTES          a valid file of about so many bytes (bench/files.h names the kinds)
+ *   compare_abo make SHEET KIND BYTES          a valid file of about so many bytes (host/generate/sized.h names the kinds)
  *   compare_abo generate SEED FILE             puts the file of a seed there; prints the sheet and the day to read it with
  *
  * SHEET is a number, DAY is YYYYMMDD.  The exit status is the tool's: 0 accepted, 1 refused, 2 for a sheet or a day that is
@@ -17,9 +17,9 @@
 #include <stdlib.h>
 #include <string.h>
 
-#include "../../bench/files.h"
 #include "../../peer/peer.h"
 #include "../generate/generate.h"
+#include "../generate/sized.h"
 #include "../generate/words.h"
 
 struct asked {
@@ -185,8 +185,8 @@ static int answer(char **argument)
 
 static int make(char **argument)
 {
-    struct bench_file file = {0};
-    bool made = make_bench_file(&file, (unsigned)strtoul(argument[0], NULL, 10), argument[1], strtoul(argument[2], NULL, 10));
+    struct sized_file file = {0};
+    bool made = make_sized_file(&file, (unsigned)strtoul(argument[0], NULL, 10), argument[1], strtoul(argument[2], NULL, 10));
     if (made)
         fwrite(file.bytes.data, 1, file.bytes.len, stdout);
     text_free(&file.bytes);

@@ -1,7 +1,7 @@
-#include "files.h"
-#include "../host/generate/accounts.h"
-#include "../host/generate/limits.h"
-#include "../host/generate/plain.h"
+#include "sized.h"
+#include "accounts.h"
+#include "limits.h"
+#include "plain.h"
 
 #include <string.h>
 
@@ -193,7 +193,7 @@ static size_t smaller(size_t a, size_t b)
 }
 
 /* At least one group, and none that begins past `bytes`. */
-static void put_groups(struct bench_file *f, const struct pool *p,
+static void put_groups(struct sized_file *f, const struct pool *p,
                        const struct kind *kind, unsigned sheet, size_t most,
                        size_t bytes)
 {
@@ -207,7 +207,7 @@ static void put_groups(struct bench_file *f, const struct pool *p,
     }
 }
 
-bool make_bench_file(struct bench_file *file, unsigned sheet, const char *name,
+bool make_sized_file(struct sized_file *file, unsigned sheet, const char *name,
                      size_t bytes)
 {
     const struct kind *kind = kind_of(name, sheet);

@@ -1,13 +1,14 @@
 /* Valid files of a wanted size, such as offices send them and such as are as
-   unlike them as the sheets allow, for measuring what a byte costs. */
-#ifndef BENCH_FILES_H
-#define BENCH_FILES_H
+   unlike them as the sheets allow: bench/ measures what their bytes cost, and
+   the tool is tried on a large one. */
+#ifndef HOST_SIZED_H
+#define HOST_SIZED_H
 
 #include <stdbool.h>
 
-#include "../host/generate/text.h"
+#include "text.h"
 
-struct bench_file {
+struct sized_file {
     struct text bytes;
     size_t items, rows; /* a row for each account file, group and item */
 };
@@ -26,7 +27,7 @@ struct bench_file {
  * It ends sooner where the sheet does: at 1,000 items on S, at 1,000 account
  * files on all.  Gives back false if the sheet has no such kind.
  */
-bool make_bench_file(struct bench_file *file, unsigned sheet, const char *kind,
+bool make_sized_file(struct sized_file *file, unsigned sheet, const char *kind,
                      size_t bytes);
 
 #endif
