@@ -8,7 +8,7 @@
 #   STEP=1 host/run.sh           every so many-th of the large files is tried
 #
 # By default 150,000 files are generated and all large ones tried. By an emulator, which is some 25 times slower, 4,000 and every fifth;
-# but ten times as many in `many`, which has only the library's calls emulated.
+# but ten times as many in `compare_many`, which has only the library's calls emulated.
 # host/target.sh names the other variables.
 set -u
 cd "$(dirname "$0")/.." || exit 2
@@ -18,7 +18,7 @@ if [ -z "$run" ]; then files=150000 step=1 times=1; else files=4000 step=5 times
 files=${FILES:-$files}
 seed=${SEED:-1}
 step=${STEP:-$step}
-all='header boundary api installed first_run demo_test letters_test output_test abo_test orderbook_test corpus stack attack compare_read compare_write compare_explain compare_line many'
+all='header boundary api installed first_run demo_test letters_test output_test abo_test orderbook_test corpus stack attack compare_read compare_write compare_explain compare_line compare_many'
 
 program() { # NAME ARG ..: builds a test that is a program, and runs it
     build_test "$1" || return
@@ -36,7 +36,7 @@ run_test() { # NAME
     output_test) sh host/common/output_test.sh ;;
     abo_test) sh host/abo/abo_test.sh ;;
     orderbook_test) sh host/orderbook/orderbook_test.sh ;;
-    many) sh host/compare/many_test.sh "$((files * times))" "$seed" ;;
+    compare_many) sh host/compare/compare_many_test.sh "$((files * times))" "$seed" ;;
     boundary) program boundary ;;
     corpus) program fuzz host/fuzz/corpus/* ;;
     stack) program stack 0 "$seed" "$step" ;;

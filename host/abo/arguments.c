@@ -4,7 +4,7 @@
 #include <stdio.h>
 #include <string.h>
 
-#include "../common/asked.h"
+#include "../common/sheet_and_day.h"
 #include "../common/names.h"
 
 bool misused(const char *before, const char *word, const char *behind)
@@ -68,8 +68,8 @@ static bool take_option(struct arguments *a, char ***at)
 static bool take_words(struct arguments *a)
 {
     char behind[160];
-    a->sheet = a->sheet_word != NULL ? asked_sheet(a->sheet_word) : 0;
-    a->today = a->day_word != NULL ? asked_day(a->day_word) : 0;
+    a->sheet = a->sheet_word != NULL ? sheet_named(a->sheet_word) : 0;
+    a->today = a->day_word != NULL ? day_named(a->day_word) : 0;
     if (a->sheet_word != NULL && a->sheet == 0) {
         snprintf(behind, sizeof behind, " is none of %s.", sheets_are);
         return misused("The sheet ", a->sheet_word, behind);

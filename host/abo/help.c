@@ -3,7 +3,7 @@
 #include <stdio.h>
 
 #include <abo.h>
-#include "../common/asked.h"
+#include "../common/sheet_and_day.h"
 
 static const char commands[] =
     "abo " ABO_VERSION ": Czech ABO (.kpc) payment files, judged by a bank's sheet\n"

@@ -78,11 +78,11 @@ static void check_reading(void)
 
 /* ---- Writing ---- */
 
-struct asked {
+struct numbers {
     uint64_t date, client, from, to, sheet, today;
 };
 
-static const struct asked asked = {20171231, 1234567890, 7, 912, ABO_SHEET_K, 20180101};
+static const struct numbers usual = {20171231, 1234567890, 7, 912, ABO_SHEET_K, 20180101};
 static const char name[] = "Jablko a syn s.r.o. ", texts[] = "led a mraz";
 static union abo_row rows[ROWS];
 
@@ -104,13 +104,13 @@ static void make_rows(void)
                                              .part = {{i, 3}, {i + 1, 2}, {0, 0}, {i, 1}}};
 }
 
-static struct peer_written by_peer(const struct asked *a, size_t count, uint8_t *out, size_t room)
+static struct peer_written by_peer(const struct numbers *a, size_t count, uint8_t *out, size_t room)
 {
     return peer_write((const uint8_t *)rows, count * sizeof *rows, (const uint8_t *)texts, sizeof texts - 1, a->date,
                       (const uint8_t *)name, sizeof name - 1, a->client, a->from, a->to, a->sheet, a->today, out, room);
 }
 
-static void check_write(const char *what, const struct asked *a, size_t count, size_t room)
+static void check_write(const char *what, const struct numbers *a, size_t count, size_t room)
 {
     static uint8_t out[ROOM], due_out[ROOM];
     memset(out, 0xa5, sizeof out);
@@ -130,12 +130,12 @@ static void check_told_apart(void)
     static uint8_t out[ROOM], other[ROOM];
     uint64_t words[6];
     char detail[60];
-    struct peer_written whole = by_peer(&asked, ROWS, out, ROOM);
+    struct peer_written whole = by_peer(&usual, ROWS, out, ROOM);
     check(whole.number == ABO_ACCEPTED, "writing", "the batch is written");
     for (size_t i = 0; i < 6; i++)
         for (size_t k = i + 1; k < 6; k++) {
-            struct asked swapped;
-            memcpy(words, &asked, sizeof words);
+            struct numbers swapped;
+            memcpy(words, &usual, sizeof words);
             uint64_t kept = words[i];
             words[i] = words[k];
             words[k] = kept;
@@ -151,14 +151,14 @@ static void check_told_apart(void)
 
 static void check_writing(void)
 {
-    check_write("a batch", &asked, ROWS, ROOM);
-    check_write("a batch with no room", &asked, ROWS, 10);
-    check_write("a batch without items", &asked, 2, ROOM);
+    check_write("a batch", &usual, ROWS, ROOM);
+    check_write("a batch with no room", &usual, ROWS, 10);
+    check_write("a batch without items", &usual, 2, ROOM);
     check_told_apart();
     rows[4].item.constant = 10000;
-    check_write("a batch with a wrong constant symbol", &asked, ROWS, ROOM);
+    check_write("a batch with a wrong constant symbol", &usual, ROWS, ROOM);
     make_rows();
-    struct asked other = asked;
+    struct numbers other = usual;
     other.sheet = ABO_SHEET_E;
     check_write("a priority on another sheet", &other, ROWS, ROOM);
 }

@@ -38,7 +38,7 @@ struct outcome {
 };
 
 /* Makes a call, with room for so many bytes. */
-typedef struct outcome asked(const struct call *c, uint8_t *out, size_t room);
+typedef struct outcome caller(const struct call *c, uint8_t *out, size_t room);
 
 struct outcome outcome_of_answer(const struct abo_answer *a);
 struct outcome outcome_of_written(const struct abo_written *w);

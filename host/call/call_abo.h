@@ -4,6 +4,6 @@
 
 #include "call.h"
 
-asked call_abo;
+caller call_abo;
 
 #endif

@@ -5,6 +5,6 @@
 
 #include "call.h"
 
-asked call_peer;
+caller call_peer;
 
 #endif

@@ -22,13 +22,13 @@
 #include "../generate/sized.h"
 #include "../generate/words.h"
 
-struct asked {
+struct reading {
     struct text file, rows;
     uint64_t sheet, today;
     struct peer_answer answer;
 };
 
-static void judge(struct asked *a)
+static void judge(struct reading *a)
 {
     a->answer = peer_read(a->file.data, a->file.len, a->sheet, a->today, NULL, 0);
     text_repeat(&a->rows, 0, (size_t)a->answer.needed * ABO_ROW_BYTES);
@@ -37,7 +37,7 @@ static void judge(struct asked *a)
                               a->rows.data, a->rows.len);
 }
 
-static void explain(const struct asked *a, FILE *to)
+static void explain(const struct reading *a, FILE *to)
 {
     uint8_t line[100];
     struct peer_text t = peer_explain(a->file.data, a->file.len, a->sheet,
@@ -45,7 +45,7 @@ static void explain(const struct asked *a, FILE *to)
     fwrite(line, 1, (size_t)t.bytes, to);
 }
 
-static void rewrite(const struct asked *a, FILE *to)
+static void rewrite(const struct reading *a, FILE *to)
 {
     const struct peer_header *h = &a->answer.header;
     struct text out = {0};
@@ -69,7 +69,7 @@ static void print_account(FILE *to, const uint8_t *row, unsigned place)
         fprintf(to, " %" PRIu64, word_of(row, 0, place + 1));
 }
 
-static void print_text(FILE *to, const struct asked *a, const uint8_t *row,
+static void print_text(FILE *to, const struct reading *a, const uint8_t *row,
                        unsigned place)
 {
     const uint8_t *bytes = a->file.data + word_of(row, 0, place);
@@ -79,7 +79,7 @@ static void print_text(FILE *to, const struct asked *a, const uint8_t *row,
     fputc('"', to);
 }
 
-static void print_item(FILE *to, const struct asked *a, const uint8_t *row)
+static void print_item(FILE *to, const struct reading *a, const uint8_t *row)
 {
     unsigned used = ABO_PARTS;
     print_account(to, row, 1);
@@ -100,7 +100,7 @@ static void print_item(FILE *to, const struct asked *a, const uint8_t *row)
     fputc('\n', to);
 }
 
-static void items(const struct asked *a, FILE *to)
+static void items(const struct reading *a, FILE *to)
 {
     for (size_t at = 0; at < a->rows.len; at += ABO_ROW_BYTES)
         if (word_of(a->rows.data + at, 0, 0) == ABO_ROW_ITEM)
@@ -120,7 +120,7 @@ static void print_crowns(FILE *to, unsigned __int128 haler)
 }
 
 /* How many items account files of a kind have, and their sum. */
-static uint64_t items_of(const struct asked *a, uint64_t kind, unsigned __int128 *sum)
+static uint64_t items_of(const struct reading *a, uint64_t kind, unsigned __int128 *sum)
 {
     uint64_t count = 0, file = 0;
     *sum = 0;
@@ -136,7 +136,7 @@ static uint64_t items_of(const struct asked *a, uint64_t kind, unsigned __int128
     return count;
 }
 
-static void accepted(const struct asked *a, FILE *to)
+static void accepted(const struct reading *a, FILE *to)
 {
     static const char *const one[] = {"payment", "collection", "priority payment", "instant payment"};
     fprintf(to, "accepted");
@@ -153,8 +153,8 @@ static void accepted(const struct asked *a, FILE *to)
 }
 
 /* Puts into a file of the folder what is to be said, or nothing. */
-static bool put(const struct asked *a, const char *folder, const char *name,
-                void (*say)(const struct asked *, FILE *))
+static bool put(const struct reading *a, const char *folder, const char *name,
+                void (*say)(const struct reading *, FILE *))
 {
     char path[4096];
     snprintf(path, sizeof path, "%s/%s", folder, name);
@@ -168,7 +168,7 @@ static bool put(const struct asked *a, const char *folder, const char *name,
 
 static int answer(char **argument)
 {
-    struct asked a = {.sheet = strtoull(argument[1], NULL, 10),
+    struct reading a = {.sheet = strtoull(argument[1], NULL, 10),
                       .today = strtoull(argument[2], NULL, 10)};
     if (!text_load(&a.file, argument[0]))
         return 2;

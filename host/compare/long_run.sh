@@ -1,5 +1,5 @@
 #!/bin/sh
-# The long comparison of the library with the second program (host/compare/many.c): each of the three calls on so many files, from this
+# The long comparison of the library with the second program (host/compare/compare_many.c): each of the three calls on so many files, from this
 # seed on, one call after another, its files in equal parts on all cores. Prints for each the first seed, the files asked for, the calls
 # compared, the differences found and the seconds; below it how often each number came. What was said of differences is kept in
 # build/long_run. The exit status is 0 only if there is none.
@@ -14,7 +14,7 @@ cd "$(dirname "$0")/../.." || exit 2
 . host/target.sh
 [ $# -ge 2 ] && [ $(($# % 2)) -eq 0 ] || { sed -n '2,11s/^# \{0,1\}//p' "$0" >&2; exit 2; }
 cores=${CORES:-$(nproc)}
-build_test serve native/many || exit 2
+build_test library_server native/compare_many || exit 2
 kept=$build/long_run
 mkdir -p "$kept" || exit 2
 wrong=0
@@ -29,7 +29,7 @@ compare() { # CALL FILES SEED: leaves a log for each core; the status is 0 if ea
         first=$(($2 * part / cores))
         part=$((part + 1))
         # shellcheck disable=SC2086
-        "$build/native/many" "$1" $(($2 * part / cores - first)) $(($3 + first)) $run "$build/serve" >"$kept/$1.$3.$part.log" 2>&1 &
+        "$build/native/compare_many" "$1" $(($2 * part / cores - first)) $(($3 + first)) $run "$build/library_server" >"$kept/$1.$3.$part.log" 2>&1 &
         started="$started $!"
     done
     bad=0

@@ -7,7 +7,7 @@
 #                                        branches
 #
 # On x86-64 the fuzzer links the archive; elsewhere it is built for this machine, and a server makes the library's calls
-# (host/fuzz/call_remote.c). CLANG is the compiler (default clang); host/target.sh names the other variables. The last line is 'N passed,
+# (host/fuzz/call_by_server.c). CLANG is the compiler (default clang); host/target.sh names the other variables. The last line is 'N passed,
 # M failed', N being the inputs that were kept, each of which took a way that no other did.
 set -u
 cd "$(dirname "$0")/../.." || exit 2
@@ -16,13 +16,13 @@ longest=1400
 . host/target.sh
 work=$build/fuzz_work
 mkdir -p "$work/made" "$work/found" || exit 2
-build_test fuzz serve || exit 2
+build_test fuzz library_server || exit 2
 parts=$(sh host/parts.sh host/fuzz/fuzz.c)
 linked=$lib
 if [ -n "$run" ]; then
-    parts=$({ echo "$parts"; sh host/parts.sh host/fuzz/call_remote.c; } | sort -u | grep -v host/call/call_abo.c)
+    parts=$({ echo "$parts"; sh host/parts.sh host/fuzz/call_by_server.c; } | sort -u | grep -v host/call/call_abo.c)
     linked=''
-    export SERVER="$run $build/serve"
+    export SERVER="$run $build/library_server"
 fi
 # shellcheck disable=SC2086
 $run "$build/fuzz" -make "$work/made" 3000 || exit 2

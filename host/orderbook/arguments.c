@@ -7,7 +7,7 @@
 
 #include <abo.h>
 #include <abo_say.h>
-#include "../common/asked.h"
+#include "../common/sheet_and_day.h"
 #include "../common/names.h"
 #include "../common/output.h"
 
@@ -121,8 +121,8 @@ static bool understand(struct arguments *a, const struct given *g)
     const char *encoding = g->word[ENCODING];
     a->from = g->word[g->word[READ] != NULL ? READ : LEDGER];
     a->out = g->word[OUT];
-    a->sheet = asked_sheet(g->word[SHEET]);
-    a->day = asked_day(g->word[DAY]);
+    a->sheet = sheet_named(g->word[SHEET]);
+    a->day = day_named(g->word[DAY]);
     a->encoding = IN_UTF_8;
     if (a->sheet == 0)
         return mistake(g->word[SHEET], "is no sheet: it is ", sheets_are);
@@ -131,7 +131,7 @@ static bool understand(struct arguments *a, const struct given *g)
     if (!is_real(a->sheet, a->day))
         return mistake(g->word[DAY], "is refused: ",
                        abo_say_number(ABO_BAD_TODAY));
-    if (encoding != NULL && !asked_encoding(encoding, &a->encoding))
+    if (encoding != NULL && !encoding_named(encoding, &a->encoding))
         return mistake(encoding, "is no encoding of a ledger: it is utf-8 or "
                                  "cp1250", "");
     return true;

@@ -1,7 +1,7 @@
 #include "help.h"
 
 #include <abo.h>
-#include "../common/asked.h"
+#include "../common/sheet_and_day.h"
 
 /* C99 asks compilers for no more than 4095 letters in one string. */
 static const char usage[] =

@@ -11,7 +11,7 @@
 #include <stdlib.h>
 #include <string.h>
 
-#include "../common/asked.h"
+#include "../common/sheet_and_day.h"
 #include "items.h"
 #include "rows.h"
 #include "texts.h"
@@ -153,7 +153,7 @@ static bool day_in(const struct ledger *l, struct span at, uint64_t *day)
         return false;
     memcpy(word, l->text.bytes + at.at, at.len);
     word[at.len] = '\0';
-    *day = asked_day(word);
+    *day = day_named(word);
     return *day != 0;
 }
 

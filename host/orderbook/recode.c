@@ -13,7 +13,7 @@
 /* What a stranger leaves behind: SUBSTITUTE, which no text may hold. */
 enum { LEFT_BEHIND = 0x1a };
 
-bool asked_encoding(const char *word, enum encoding *encoding)
+bool encoding_named(const char *word, enum encoding *encoding)
 {
     static const struct {
         const char *word;

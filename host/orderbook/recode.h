@@ -32,7 +32,7 @@ struct recoded {
 
 /* How encodings are spelled on a command line: utf-8, cp1250, windows-1250,
  * in either case. */
-bool asked_encoding(const char *word, enum encoding *encoding);
+bool encoding_named(const char *word, enum encoding *encoding);
 
 /* A byte order mark at the front is passed over. Bytes that are no UTF-8 stay
  * as they are. Bytes taken for Windows-1250 are mistaken if all above 127

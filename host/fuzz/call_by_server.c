@@ -1,8 +1,8 @@
-/* The library's calls made by a server (served.h), one at a time: in the place
-   of call_abo.c in a program that cannot link the archive.  SERVER has the
-   words that start the server, divided by single spaces. */
+/* The library's calls made by a server (shared_calls.h), one at a time: in the
+   place of call_abo.c in a program that cannot link the archive.  SERVER has
+   the words that start the server, divided by single spaces. */
 #include "../call/call_abo.h"
-#include "../compare/remote.h"
+#include "../compare/server_process.h"
 
 #include <stdio.h>
 #include <stdlib.h>

@@ -1,5 +1,5 @@
 #define _POSIX_C_SOURCE 200809L /* for localtime_r and strcasecmp */
-#include "asked.h"
+#include "sheet_and_day.h"
 
 #include <stdbool.h>
 #include <string.h>
@@ -18,7 +18,7 @@ static bool names_sheet(const char *word, uint64_t sheet, const struct abo_sheet
     return strcasecmp(word, letter) == 0 || strcmp(word, number) == 0 || strcmp(word, words->code) == 0;
 }
 
-uint64_t asked_sheet(const char *word)
+uint64_t sheet_named(const char *word)
 {
     for (uint64_t sheet = 1; abo_say_sheet(sheet) != NULL; sheet++)
         if (names_sheet(word, sheet, abo_say_sheet(sheet)))
@@ -75,7 +75,7 @@ static uint64_t clock_day(void)
     return (uint64_t)(day.tm_year + 1900) * 10000 + (uint64_t)(day.tm_mon + 1) * 100 + (uint64_t)day.tm_mday;
 }
 
-uint64_t asked_day(const char *word)
+uint64_t day_named(const char *word)
 {
     uint64_t year, month, day;
     if (strcasecmp(word, "today") == 0)

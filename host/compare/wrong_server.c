@@ -1,9 +1,9 @@
 /*
- * A server like serve.c, but every hundredth call goes wrong, each time in
- * another way.  The comparison must find them all.
+ * A server like library_server.c, but every hundredth call goes wrong, each
+ * time in another way.  The comparison must find them all.
  */
 #include "../call/call_abo.h"
-#include "serving.h"
+#include "server.h"
 
 enum { EVERY = 100 };
 
@@ -44,5 +44,5 @@ static struct outcome call_wrong(const struct call *c, uint8_t *out,
 
 int main(void)
 {
-    return serve(call_wrong);
+    return run_server(call_wrong);
 }

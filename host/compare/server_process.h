@@ -1,8 +1,9 @@
-/* A server as a process (served.h), from the side of the one that asks. */
-#ifndef HOST_REMOTE_H
-#define HOST_REMOTE_H
+/* A server as a process (shared_calls.h), seen by the one that starts it and
+   hands it calls. */
+#ifndef HOST_SERVER_PROCESS_H
+#define HOST_SERVER_PROCESS_H
 
-#include "served.h"
+#include "shared_calls.h"
 
 /* Starts the server by these words and gives back the slots that are shared
    with it. */

@@ -1,8 +1,8 @@
-#include "ask_remote.h"
+#include "ask_server.h"
 #include "../call/call_peer.h"
 #include "../call/lend.h"
 #include "../call/show.h"
-#include "remote.h"
+#include "server_process.h"
 
 #include <stdio.h>
 #include <stdlib.h>
@@ -15,7 +15,7 @@ enum { GUARD = 32, ENOUGH_BYTES = 1 << 18 };
 /* What was lent, where the server does not reach it. */
 struct kept {
     struct slot slot;
-    struct asking askings[SLOT_CALLS]; /* the slices are those of the slot */
+    struct lent_call calls[SLOT_CALLS]; /* the slices are those of the slot */
     size_t ends[SLOT_CALLS]; /* of each call's bytes, which begin where those
                                 of the call before end */
     size_t used;
@@ -26,10 +26,11 @@ static struct kept kept[SLOTS];
 static struct slot *shared;
 static unsigned turn; /* the slot that is filled */
 
-unsigned long remote_counts[NUMBERS];
+unsigned long server_counts[NUMBERS];
 
 /* Lends bytes behind those lent before; room if there are none to copy. */
-static struct lent lend(struct kept *k, struct slice s, const struct asking *a)
+static struct lent lend(struct kept *k, struct slice s,
+                        const struct lent_call *a)
 {
     size_t from = k->used, at = (from + GUARD + 15) / 16 * 16 + a->skew % 16;
     k->used = at + s.len + GUARD;
@@ -44,7 +45,7 @@ static struct lent lend(struct kept *k, struct slice s, const struct asking *a)
     return (struct lent){at, s.len};
 }
 
-static void lend_call(struct kept *k, const struct asking *a)
+static void lend_call(struct kept *k, const struct lent_call *a)
 {
     const struct call *c = &a->call;
     struct request r = request_of_call(c);
@@ -58,8 +59,8 @@ static void lend_call(struct kept *k, const struct asking *a)
         r.out.place = NOWHERE;
     size_t place = k->slot.count++;
     k->slot.requests[place] = r;
-    k->askings[place] = *a;
-    k->askings[place].call = call_of_request(&r, k->slot.bytes);
+    k->calls[place] = *a;
+    k->calls[place].call = call_of_request(&r, k->slot.bytes);
     k->ends[place] = k->used;
 }
 
@@ -94,7 +95,7 @@ static const char *fault_of(const struct kept *k, size_t place,
     return NULL;
 }
 
-static void show_fault(const struct asking *a, const char *fault,
+static void show_fault(const struct lent_call *a, const char *fault,
                        const struct outcome *abo, const struct outcome *peer)
 {
     printf("failed: %s: %s, seed %llu\n", call_names[a->call.which], fault,
@@ -110,7 +111,7 @@ static void compare_call(const struct kept *k, size_t place,
                          const struct slot *s)
 {
     static struct room theirs;
-    const struct asking *a = &k->askings[place];
+    const struct lent_call *a = &k->calls[place];
     lend_room(&theirs, a->room, a->skew, a->fill);
     in_hand(call_names[a->call.which], a->seed, a->call.file.bytes,
             a->call.file.len);
@@ -121,7 +122,7 @@ static void compare_call(const struct kept *k, size_t place,
     if (count_check(fault == NULL))
         show_fault(a, fault, &s->requests[place].answer, &p);
     if (p.number < NUMBERS)
-        remote_counts[p.number]++;
+        server_counts[p.number]++;
 }
 
 static void compare_slot(unsigned number)
@@ -129,7 +130,7 @@ static void compare_slot(unsigned number)
     struct kept *k = &kept[number];
     const struct slot *s = &shared[number];
     if (!take_slot(number)) {
-        const struct asking *a = &k->askings[s->made % SLOT_CALLS];
+        const struct lent_call *a = &k->calls[s->made % SLOT_CALLS];
         count_check(false);
         show_fault(a, "the server ended in this call", NULL, NULL);
         exit(last_line());
@@ -163,7 +164,7 @@ void begin_asking(char **command)
     shared = start_server(command);
 }
 
-void ask_remote(const struct asking *a)
+void ask_server(const struct lent_call *a)
 {
     struct kept *k = &kept[turn];
     lend_call(k, a);

@@ -1,5 +1,5 @@
 #define _GNU_SOURCE /* for memfd_create */
-#include "remote.h"
+#include "server_process.h"
 #include "../call/show.h"
 
 #include <signal.h>
@@ -14,7 +14,7 @@ static int to_server, from_server;
 static void become_server(char **command, int memory, int in, int out)
 {
     if (dup2(in, STDIN_FILENO) < 0 || dup2(out, STDOUT_FILENO) < 0 ||
-        dup2(memory, SERVED_MEMORY) < 0)
+        dup2(memory, SHARED_MEMORY) < 0)
         give_up("server");
     execvp(command[0], command);
     perror(command[0]);

@@ -3,7 +3,9 @@
  * batches, each in one room.  The library is asked in a server's process, so
  * that it alone is emulated where it must be.
  *
- *   many read|write|explain|line FILES SEED SERVER ..     as qemu-x86_64 build/serve
+ *   compare_many read|write|explain|line FILES SEED SERVER ..
+ *
+ * SERVER is how it is started, as qemu-x86_64 build/library_server.
  */
 #include <stdio.h>
 #include <string.h>
@@ -14,7 +16,7 @@
 #include "../generate/dice.h"
 #include "../generate/plan.h"
 #include "../generate/seeds.h"
-#include "ask_remote.h"
+#include "ask_server.h"
 
 enum { ENOUGH = 20000, ENOUGH_FOR_RARE = 1000000 };
 
@@ -45,12 +47,12 @@ static void ask(uint64_t seed, const struct call *call)
     struct dice d = {~seed};
     in_hand(call_names[call->which], seed, call->file.bytes, call->file.len);
     struct outcome without = call_peer(call, NULL, 0);
-    struct asking a = {.seed = seed, .call = *call};
+    struct lent_call a = {.seed = seed, .call = *call};
     a.room = choose_room(&d, &without);
     a.no_pointer = one_in(&d, 2);
     a.fill = telling_byte(&d);
     a.skew = (unsigned)below(&d, 16);
-    ask_remote(&a);
+    ask_server(&a);
 }
 
 static void ask_files(struct seeds seeds, enum which which)
@@ -98,9 +100,9 @@ static void report(struct seeds seeds, enum which which)
     for (unsigned number = 0; number < NUMBERS; number++) {
         if (!can_come(which, number))
             continue;
-        printf("number %2u: %lu\n", number, remote_counts[number]);
+        printf("number %2u: %lu\n", number, server_counts[number]);
         if (tested && (number != ABO_TOO_MANY || seeds.count >= ENOUGH_FOR_RARE))
-            check(remote_counts[number] > 0, "a number never came");
+            check(server_counts[number] > 0, "a number never came");
     }
 }
 
@@ -110,8 +112,8 @@ int main(int argc, char **argv)
     while (argc > 4 && which < CALLS && strcmp(argv[1], call_names[which]) != 0)
         which++;
     if (argc <= 4 || which == CALLS) {
-        fprintf(stderr, "many: name read, write, explain or line, how many files, "
-                        "the first seed and the server.\n");
+        fprintf(stderr, "compare_many: name read, write, explain or line, how "
+                        "many files, the first seed and the server.\n");
         return 2;
     }
     struct seeds seeds = take_seeds(3, argv + 1, 0);

@@ -1,18 +1,19 @@
-/* The memory that a comparison shares with a server, which makes the library's
-   calls in a process of its own (serve.c): so the library alone is emulated
-   where it must be.
+/*
+ * The memory that a comparison shares with a server, which makes the library's
+ * calls in a process of its own (library_server.c): so the library alone is
+ * emulated where it must be.
  *
  * The memory is the server's file 3.  A byte on its standard input is the
  * number of a slot that is filled, and the same byte goes back when all calls
  * of the slot are made.  All numbers are of 64 bits and the lowest byte comes
  * first, so that both processes see the same.
  */
-#ifndef HOST_SERVED_H
-#define HOST_SERVED_H
+#ifndef HOST_SHARED_CALLS_H
+#define HOST_SHARED_CALLS_H
 
 #include "../call/call.h"
 
-enum { SERVED_MEMORY = 3, SLOTS = 2, SLOT_CALLS = 256, SLOT_BYTES = 1 << 22 };
+enum { SHARED_MEMORY = 3, SLOTS = 2, SLOT_CALLS = 256, SLOT_BYTES = 1 << 22 };
 
 /* Bytes of the slot; nowhere stands for NULL. */
 #define NOWHERE UINT64_MAX

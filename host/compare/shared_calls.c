@@ -1,4 +1,4 @@
-#include "served.h"
+#include "shared_calls.h"
 
 struct request request_of_call(const struct call *c)
 {
