@@ -422,7 +422,8 @@ done
 { printf 'UHL1\n%s\n2 19 1 %s\n%s\n3 +\n5 +\n' "$c" "$(date -u +%d%m%y)" "$i"; } >"$file"
 TZ=UTC0 abo check "$file" --sheet C --day today >"$work/out"
 check 'today is the day of the clock' [ "$(cat "$work/out")" = 'accepted, 1 payment, 0.01 crowns, 0 warnings' ]
-# of two places that are 26 hours apart, one has another day than UTC
+# of two places that are 26 hours apart the eastern one has a later day at every hour: what is due today in the west is past there
+{ printf 'UHL1\n%s\n2 19 1 %s\n%s\n3 +\n5 +\n' "$c" "$(TZ=WEST12 date +%d%m%y)" "$i"; } >"$file"
 TZ=WEST12 abo check "$file" --sheet C --day TODAY >"$work/west"
 TZ=EAST-14 abo check "$file" --sheet C --day Today >"$work/east"
 check 'today is the day of the place' refuses cmp "$work/west" "$work/east"
