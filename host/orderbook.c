@@ -19,7 +19,7 @@
 #include "common/sums.h"
 #include "orderbook/arguments.h"
 #include "orderbook/help.h"
-#include "orderbook/ledger.h"
+#include "orderbook/ledger_take.h"
 #include "orderbook/table.h"
 #include "orderbook/telling.h"
 

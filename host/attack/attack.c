@@ -15,6 +15,7 @@
 #include "../call/call_peer.h"
 #include "../call/show.h"
 #include "../generate/damage.h"
+#include "../generate/draw_draft.h"
 #include "../generate/generate.h"
 #include "../generate/large.h"
 #include "../generate/plan.h"

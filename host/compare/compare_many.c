@@ -14,6 +14,7 @@
 #include "../call/call_peer.h"
 #include "../call/show.h"
 #include "../generate/dice.h"
+#include "../generate/draw_draft.h"
 #include "../generate/plan.h"
 #include "../generate/seeds.h"
 #include "ask_server.h"

@@ -10,6 +10,7 @@
 #include "../../peer/peer.h"
 #include "../call/show.h"
 #include "../generate/dice.h"
+#include "../generate/draw_draft.h"
 #include "../generate/large.h"
 #include "../generate/limits.h"
 #include "../generate/seeds.h"

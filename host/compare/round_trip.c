@@ -3,7 +3,7 @@
 #include "round_trip.h"
 #include "../call/call.h"
 #include "../call/show.h"
-#include "../generate/draft.h"
+#include "../generate/draw_draft.h"
 #include "../generate/generate.h"
 #include "../generate/limits.h"
 #include "../generate/memory.h"

@@ -21,7 +21,7 @@
 
 #include "../attack/ask_edges.h"
 #include "../generate/dice.h"
-#include "../generate/draft.h"
+#include "../generate/draw_draft.h"
 #include "../generate/generate.h"
 
 struct fuzz_input {

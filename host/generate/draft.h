@@ -1,7 +1,4 @@
-/*
- * Batches lent for writing: valid on a sheet, wrong in a field or in some, or
- * garbage.  A seed gives the same batch on every machine.
- */
+/* A batch lent for writing, with the arguments to write it by. */
 #ifndef HOST_DRAFT_H
 #define HOST_DRAFT_H
 
@@ -19,9 +16,10 @@ struct draft {
     uint64_t sheet, today;
 };
 
-/* Makes a batch of its own for each seed. */
-void draw_draft(struct draft *draft, uint64_t seed);
-
-void free_draft(struct draft *draft);
+static inline void free_draft(struct draft *draft)
+{
+    text_free(&draft->rows);
+    text_free(&draft->texts);
+}
 
 #endif

@@ -3,7 +3,7 @@
 #include "draws.h"
 #include "limits.h"
 
-static void put_row(struct drafting *p, const uint64_t *words, size_t used)
+static void put_row(struct draft_plan *p, const uint64_t *words, size_t used)
 {
     struct text *rows = &p->draft->rows;
     text_word(rows, limited(p, AT_ROW, words[0], 1, 3));
@@ -11,7 +11,7 @@ static void put_row(struct drafting *p, const uint64_t *words, size_t used)
         text_word(rows, i < used ? words[i] : p->dirty ? roll(&p->dice) : 0);
 }
 
-static void draw_account_words(struct drafting *p, enum part part, bool none,
+static void draw_account_words(struct draft_plan *p, enum part part, bool none,
                                uint64_t *words)
 {
     static const struct account_value wrong[] = {
@@ -43,7 +43,7 @@ static void draw_account_words(struct drafting *p, enum part part, bool none,
     words[1] = a.base;
 }
 
-void put_account_file(struct drafting *p, unsigned place)
+void put_account_file(struct draft_plan *p, unsigned place)
 {
     uint64_t words[3] = {1};
     uint64_t last = 1500 + kinds_of(p->sheet);
@@ -64,7 +64,7 @@ void put_account_file(struct drafting *p, unsigned place)
     put_row(p, words, 3);
 }
 
-bool put_group_row(struct drafting *p)
+bool put_group_row(struct draft_plan *p)
 {
     static const uint64_t wrong[] = {0, 20180100, 20180229, 20181301, 20180431,
                                      19991231, 21000101, 21000229, 20180132,
@@ -85,7 +85,7 @@ bool put_group_row(struct drafting *p)
 }
 
 /* Four parts and a name, as far as the sheet carries them. */
-static void draw_texts(struct drafting *p, uint64_t *words)
+static void draw_texts(struct draft_plan *p, uint64_t *words)
 {
     for (size_t i = 0; i < 5; i++) {
         bool carried = i == 0 || (i == 4 ? p->sheet == C : p->sheet != S);
@@ -100,7 +100,7 @@ static void draw_texts(struct drafting *p, uint64_t *words)
     }
 }
 
-void put_item_row(struct drafting *p, bool single, uint64_t amount)
+void put_item_row(struct draft_plan *p, bool single, uint64_t amount)
 {
     static const uint64_t symbols[] = {0, 0, 1, 9999999999, 1234567890};
     uint64_t words[21] = {3}, most = most_of_item(p->sheet);

@@ -11,7 +11,6 @@
 #include <stdint.h>
 
 #include <abo.h>
-#include "../common/input.h"
 #include "recode.h"
 
 /* The header's fields are numbered from 1; the date is the command line's. */
@@ -39,10 +38,9 @@ struct ledger {
     struct span fault_span;
 };
 
-/* False if a line cannot be understood: then fault says why, and fault_span
- * where. What goes into the file depends on the sheet. */
-bool ledger_take(struct ledger *l, const struct input *from,
-                 enum encoding encoding, uint64_t sheet);
+/* The line that starts at a place, without its end: CR LF, LF or CR, as in
+ * files; and where the next one starts. */
+struct span line_from(const struct ledger *l, size_t at, size_t *next);
 
 /* Where the field of a row came from; row 0 is the header. A row that is
  * missing would have stood at the ledger's end. */

@@ -1,11 +1,11 @@
-#include "draft.h"
+#include "draw_draft.h"
 #include "draft_rows.h"
 #include "draws.h"
 #include "limits.h"
 
 #include <string.h>
 
-static void draw_name(struct drafting *p)
+static void draw_name(struct draft_plan *p)
 {
     static const uint8_t wrong[] = {0, 9, 10, 13, 31, 127};
     static const size_t lengths[] = {0, 1, 19, 21, NAME_ROOM};
@@ -22,7 +22,7 @@ static void draw_name(struct drafting *p)
     }
 }
 
-static void draw_header(struct drafting *p, unsigned files)
+static void draw_header(struct draft_plan *p, unsigned files)
 {
     static const uint64_t unreal[] = {0, 20180229, 20180431, 20181301, 20180001,
                                       20180100, 20180132, 20180230};
@@ -81,7 +81,7 @@ static void draw_garbage(struct text *rows, struct dice *d)
     rows->len = bytes;
 }
 
-static void draw_faults(struct drafting *p)
+static void draw_faults(struct draft_plan *p)
 {
     static const unsigned rates[] = {300, 100, 30};
     p->faults.aim = NO_PART;
@@ -101,7 +101,7 @@ static void draw_faults(struct drafting *p)
     }
 }
 
-static void draw_rows(struct drafting *p, const struct shape *shape)
+static void draw_rows(struct draft_plan *p, const struct shape *shape)
 {
     text_clear(&p->draft->rows);
     for (unsigned f = 0; f < shape->files; f++) {
@@ -119,7 +119,7 @@ static void draw_rows(struct drafting *p, const struct shape *shape)
 
 void draw_draft(struct draft *draft, uint64_t seed)
 {
-    struct drafting p = {.dice = {seed}, .draft = draft};
+    struct draft_plan p = {.dice = {seed}, .draft = draft};
     struct dice *d = &p.dice;
     p.sheet = (unsigned)between(d, K, E);
     p.today = draw_today(d);
@@ -134,10 +134,4 @@ void draw_draft(struct draft *draft, uint64_t seed)
     if (one_in(d, 30))
         draw_garbage(&draft->rows, d);
     draw_arguments(d, p.sheet, p.today, &draft->sheet, &draft->today);
-}
-
-void free_draft(struct draft *draft)
-{
-    text_free(&draft->rows);
-    text_free(&draft->texts);
 }

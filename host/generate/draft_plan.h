@@ -1,6 +1,6 @@
 /* What the parts of the batch generator share. */
-#ifndef HOST_DRAFTING_H
-#define HOST_DRAFTING_H
+#ifndef HOST_DRAFT_PLAN_H
+#define HOST_DRAFT_PLAN_H
 
 #include "draft.h"
 #include "draft_texts.h"
@@ -15,7 +15,7 @@ enum part {
     ALL_PARTS
 };
 
-struct drafting {
+struct draft_plan {
     struct dice dice;
     struct draft *draft;
     struct pool pool;
@@ -26,13 +26,13 @@ struct drafting {
 };
 
 /* Shall the part in hand be wrong? */
-static inline bool spoils(struct drafting *p, enum part part)
+static inline bool spoils(struct draft_plan *p, enum part part)
 {
     return falls_on(&p->faults, &p->dice, part);
 }
 
 /* A number that should lie between two, or one near these limits or far off. */
-static inline uint64_t limited(struct drafting *p, enum part part,
+static inline uint64_t limited(struct draft_plan *p, enum part part,
                                uint64_t value, uint64_t least, uint64_t most)
 {
     const uint64_t near[] = {
