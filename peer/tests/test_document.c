@@ -44,6 +44,10 @@ static void edge_accounts(void)
         refused("Accounts: one digit that is not zero", sheet,
                 FRAME(sheet, .item = item_to(sheet, "19-0000000000")), 5, 4, 0);
     }
+}
+
+static void joined_accounts(void)
+{
     uint64_t(*row)[WORDS] =
         accepted("Edges: joined on C", C,
                  FRAME(C, .item = item_to(C, "190000000019")), 3, 0);
@@ -186,7 +190,7 @@ static void edge_amounts_and_texts(void)
 }
 
 /* Every number of reading once in a plain place, on every sheet it has. */
-static void numbers(void)
+static void numbers_of_all_sheets(void)
 {
     for (unsigned sheet = K; sheet <= E; sheet++) {
         accepted("no. 0", sheet, PLAIN(sheet), 3, 0);
@@ -207,6 +211,10 @@ static void numbers(void)
         refused("no. 13", sheet, FRAME(sheet, .item = "705 5001 42 1003000558  "),
                 13, 4, 12);
     }
+}
+
+static void numbers_1_and_2(void)
+{
     static const uint64_t sheets[] = {0, 5, 6, UINT64_MAX, UINT64_C(1) << 32 | 1};
     for (size_t i = 0; i < 5; i++) {
         struct peer_answer a = peer_read(NULL, 0, sheets[i], 0, NULL, 0);
@@ -218,6 +226,10 @@ static void numbers(void)
                                     UINT64_MAX, UINT64_C(1) << 32 | 20180101};
     for (size_t i = 0; i < sizeof days / sizeof *days; i++)
         refused_bytes("no. 2", C, days[i], "UHL1", 4, 2, 0, 0);
+}
+
+static void numbers_of_some_sheets(void)
+{
     refused("no. 8 on K", K, FRAME(K, .file = "1 1501 000000 0300"), 8, 2, 14);
     refused("no. 8 on S", S, FRAME(S, .file = "1 1501 000000 8100"), 8, 2, 14);
     refused("no. 8 on E", E, FRAME(E, .file = "1 1501 000000 0800"), 8, 2, 14);
@@ -348,11 +360,14 @@ static void order(void)
 void test_document(void)
 {
     edge_accounts();
+    joined_accounts();
     account_spellings();
     edge_days();
     all_days();
     edge_amounts_and_texts();
-    numbers();
+    numbers_of_all_sheets();
+    numbers_1_and_2();
+    numbers_of_some_sheets();
     repeated_numbers();
     warnings();
     rows_and_header();

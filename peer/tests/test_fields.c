@@ -2,7 +2,7 @@
    items.  Each assertion is named by its reading's number. */
 #include "check.h"
 
-static void dividers_11_12(void)
+static void dividers_11(void)
 {
     for (unsigned sheet = K; sheet <= E; sheet++) {
         refused("11: 706 alone", sheet, FRAME(sheet, .item = "706"), 5, 4, 0);
@@ -22,6 +22,12 @@ static void dividers_11_12(void)
                 FRAME(sheet, .item = "705 5001"), 4, 4, 8);
         refused("11: no bank field", sheet,
                 FRAME(sheet, .item = "705 5001 42"), 4, 4, 11);
+    }
+}
+
+static void dividers_12(void)
+{
+    for (unsigned sheet = K; sheet <= E; sheet++) {
         refused("12: a space behind BANK", sheet,
                 FRAME(sheet, .file = sheet == K   ? "1 1501 000000 8100 "
                                      : sheet == S ? "1 1501 000000 0800 "
@@ -89,7 +95,7 @@ static void kind_and_bank_13(void)
 
 #define SINGLE_ITEM "19-19 705 5001 42 03000558"
 
-static void missing_payer_14(void)
+static void payer_by_spaces_14(void)
 {
     static const unsigned by_spaces[] = {K, C};
     for (int i = 0; i < 2; i++) {
@@ -112,6 +118,10 @@ static void missing_payer_14(void)
         refused("14: 19-19 is no total", sheet,
                 FRAME(sheet, .group = "2 19-19 020118"), 4, 3, 2);
     }
+}
+
+static void payer_by_field_14(void)
+{
     static const unsigned by_field[] = {S, E};
     for (int i = 0; i < 2; i++) {
         unsigned sheet = by_field[i];
@@ -161,6 +171,10 @@ static void zeros_15(void)
             refused("15: too many zeros", sheet, FRAME(sheet, .group = line), 4,
                     3, 2);
     }
+}
+
+static void zeros_elsewhere_15(void)
+{
     refused("15: 16 zeros on C", C,
             FRAME(C, .group = "2 0000000000000000 5001 020118"), 5, 3, 2);
     refused("15: 11 zeros on S", S,
@@ -252,6 +266,10 @@ static void amounts_of_e_17(void)
             FRAME(E, .item = "705 10000000000,00 42 03000558"), 6, 4, 4);
     accepted("17: zeros in front of an item", E,
              FRAME(E, .item = "705 00000000005001 42 03000558"), 3, 0);
+}
+
+static void odd_totals_17(void)
+{
     refused("17: a total of 0 on K", K, FRAME(K, .group = "2 19-19 0 020118"),
             10, 3, 8);
     refused("17: a large total on S", S,
@@ -288,6 +306,10 @@ static void totals_18(void)
     refused("18: the total's place, zeros on K", K,
             FRAME(K, .group = "2 0-00 1 020118", .item = SINGLE_ITEM), 10, 3,
             7);
+}
+
+static void sums_18(void)
+{
     refused("18: the sum passes on C", C,
             FRAME(C, .item = "705 99999999999999 0 03000558\n"
                              "705 1 0 03000558"), 10, 3, 8);
@@ -336,6 +358,10 @@ static void due_dates_19(void)
                    .item = "705 5001 42 03000558\n705 5001 42 03000558"), 4, 1);
     accepted("19: a past year", C, FRAME(C, .group = "2 19-19 5001 20000101"),
              3, 1);
+}
+
+static void past_and_far_19(void)
+{
     for (unsigned sheet = K; sheet <= E; sheet++)
         accepted("19: today is not past", sheet,
                  FRAME(sheet, .group = "2 19-19 5001 010118"), 3, 0);
@@ -366,8 +392,6 @@ static void bank_field_20(void)
         {"1000000558", 12, 12}, {"1003000558", 13, 13}, {"1703000558", 13, 13},
         {"103000558", 0, 13},  {"0103000558", 0, 13}, {"0903000558", 0, 13},
     };
-    static const uint64_t digits[][2] = {{0, 5}, {1, 5}, {2, 5}, {3, 3}, {4, 4},
-                                         {5, 5}, {6, 6}, {7, 7}, {8, 8}, {9, 9}};
     char line[80];
     for (size_t i = 0; i < sizeof faults / sizeof *faults; i++)
         for (unsigned sheet = K; sheet <= E; sheet++) {
@@ -378,6 +402,13 @@ static void bank_field_20(void)
                 refused("20: bank field", sheet, FRAME(sheet, .item = line),
                         number, 4, 12);
         }
+}
+
+static void priority_20(void)
+{
+    static const uint64_t digits[][2] = {{0, 5}, {1, 5}, {2, 5}, {3, 3}, {4, 4},
+                                         {5, 5}, {6, 6}, {7, 7}, {8, 8}, {9, 9}};
+    char line[80];
     for (size_t i = 0; i < 10; i++) {
         uint64_t warns = i == 1 || i == 2;
         snprintf(line, sizeof line, "705 5001 42 %d03000558", (int)i);
@@ -402,14 +433,21 @@ static void bank_field_20(void)
 
 void test_fields(void)
 {
-    dividers_11_12();
+    dividers_11();
+    dividers_12();
     kind_and_bank_13();
-    missing_payer_14();
+    payer_by_spaces_14();
+    payer_by_field_14();
     zeros_15();
+    zeros_elsewhere_15();
     two_digits_16();
     amounts_17();
     amounts_of_e_17();
+    odd_totals_17();
     totals_18();
+    sums_18();
     due_dates_19();
+    past_and_far_19();
     bank_field_20();
+    priority_20();
 }

@@ -100,6 +100,16 @@ static void closing_4(void)
         refused("4: 5 and a space", sheet, FRAME(sheet, .end = "5 "), 4, 6, 2);
         refused("4: 5 + and a space", sheet, FRAME(sheet, .end = "5 + "), 4, 6,
                 3);
+    }
+    refused_bytes("4: 3 and a space at the end", C, TODAY,
+                  "UHL1\n1 1501 000000 0300\n2 705 1 010118\n"
+                  "705 1 0 03000000\n3 ", 58, 4, 5, 58);
+}
+
+/* Lines that look like closing lines or heads: they are items, or not due. */
+static void items_like_closing_4(void)
+{
+    for (unsigned sheet = K; sheet <= E; sheet++) {
         refused("4: 3 alone is an item", sheet, FRAME(sheet, .close = "3"),
                 sheet == K ? 4 : 5, 5, 0);
         refused("4: 5 alone is an item", sheet, FRAME(sheet, .end = "5"), 3, 6,
@@ -114,9 +124,6 @@ static void closing_4(void)
         refused("4: 4 + is an item", sheet, FRAME(sheet, .close = "4 +"),
                 sheet == K ? 4 : 5, 5, 0);
     }
-    refused_bytes("4: 3 and a space at the end", C, TODAY,
-                  "UHL1\n1 1501 000000 0300\n2 705 1 010118\n"
-                  "705 1 0 03000000\n3 ", 58, 4, 5, 58);
 }
 
 static void due_5(void)
@@ -301,7 +308,7 @@ static void first_line_7(void)
     refused_bytes("7: UHL alone", K, TODAY, "UHL", 3, 3, 1, 0);
 }
 
-static void first_line_8_9(void)
+static void first_line_8(void)
 {
     static const unsigned sheets[] = {K, S, E};
     for (int i = 0; i < 3; i++) {
@@ -317,8 +324,17 @@ static void first_line_8_9(void)
         refused("8: 31 in the rest", sheet, file, 4, 1, 46);
         file = FRAME(sheet, .first = FIRST_46 " |~\x80\xff z  XXX");
         accepted("8: any text bytes in the rest", sheet, file, 3, 0);
-        file = FRAME(sheet, .first = "UHL1311299KLIENT TEST         "
-                                     "0000000000000999000000000000");
+    }
+}
+
+static void first_line_9(void)
+{
+    static const unsigned sheets[] = {K, S, E};
+    for (int i = 0; i < 3; i++) {
+        unsigned sheet = sheets[i];
+        const char *file =
+            FRAME(sheet, .first = "UHL1311299KLIENT TEST         "
+                                  "0000000000000999000000000000");
         accepted("9: any creation date", sheet, file, 3, 0);
         CHECK("9: creation date", test_answer.header.date == 20991231);
         file = FRAME(sheet, .first = "UHL1010100KLIENT TEST         "
@@ -389,13 +405,15 @@ void test_readings(void)
     empty_lines_2();
     early_end_3();
     closing_4();
+    items_like_closing_4();
     due_5();
     many_items_6();
     many_items_of_s_6();
     many_files_6(K);
     many_files_6(C);
     first_line_7();
-    first_line_8_9();
+    first_line_8();
+    first_line_9();
     first_line_10();
     answers_25();
 }

@@ -93,6 +93,10 @@ static void order_line_31(void)
                    "refused 2 line 0 byte 0\n", 24);
     struct peer_text t = peer_rewrite(NULL, 0, NULL, 0);
     CHECK("31: nothing at all", t.number == 16 && t.bytes == 24);
+}
+
+static void order_letters_31(void)
+{
     char file[1000], want[1000];
     static const char letters[] = " KSCE";
     for (unsigned sheet = K; sheet <= E; sheet++) {
@@ -205,6 +209,7 @@ void test_rewriting(void)
 {
     run();
     order_line_31();
+    order_letters_31();
     lengths_31_32();
     dense_32();
     refusals_32();

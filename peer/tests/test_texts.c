@@ -38,7 +38,11 @@ static void bytes_21(void)
     const char *file = FRAME(K, .item = ITEM " 17 AV:\x80\xff~ }");
     uint64_t(*row)[WORDS] = accepted("21: 128 to 255", K, file, 3, 0);
     CHECK("21: 128 to 255", says(file, row[2], 11, "\x80\xff~ }"));
-    /* Each byte alone, and at each place of a longer text. */
+}
+
+/* Each byte alone, and at each place of a longer text. */
+static void each_byte_21(void)
+{
     for (int byte = 1; byte < 256; byte++) {
         char item[80];
         snprintf(item, sizeof item, ITEM " 17 AV:123456789%c123456789",
@@ -93,7 +97,6 @@ static void tail_of_s_22(void)
 static void tail_of_k_and_e_23(unsigned sheet)
 {
     uint64_t(*row)[WORDS];
-    const char *file;
     refused("23: no symbol before the text", sheet,
             FRAME(sheet, .item = ITEM " AV:x"), 4, 4, 21);
     refused("23: eleven digits", sheet,
@@ -108,6 +111,12 @@ static void tail_of_k_and_e_23(unsigned sheet)
     row = accepted("23: AV: alone", sheet, FRAME(sheet, .item = ITEM " 0 AV:"),
                    3, 0);
     CHECK("23: one empty part", row[2][8] == 0 && no_texts(row[2]));
+}
+
+static void parts_of_k_and_e_23(unsigned sheet)
+{
+    uint64_t(*row)[WORDS];
+    const char *file;
     refused("23: AV:||||", sheet, FRAME(sheet, .item = ITEM " 17 AV:||||"), 14,
             4, 24);
     row = accepted("23: AV:|||", sheet, FRAME(sheet, .item = ITEM " 17 AV:|||"),
@@ -189,8 +198,13 @@ static void names_of_c_24(void)
           says(file, row[2], 11, "x") && row[2][19] == 0 && row[2][20] == 0);
     row = accepted("24: NP: alone", C, FRAME(C, .item = ITEM " NP:"), 3, 0);
     CHECK("24: NP: alone", no_texts(row[2]) != NULL);
-    file = FRAME(C, .item = ITEM " a|b|c|d NP:e|f NP:g");
-    row = accepted("24: bars and marks in a name", C, file, 3, 0);
+}
+
+static void marks_of_c_24(void)
+{
+    const char *file = FRAME(C, .item = ITEM " a|b|c|d NP:e|f NP:g");
+    uint64_t(*row)[WORDS] =
+        accepted("24: bars and marks in a name", C, file, 3, 0);
     CHECK("24: bars and marks in a name",
           says(file, row[2], 17, "d") && says(file, row[2], 19, "e|f NP:g"));
     file = FRAME(C, .item = ITEM " AV:a |b NP| NP:Jan ");
@@ -230,10 +244,14 @@ static void cuts_of_c_24(void)
 void test_texts(void)
 {
     bytes_21();
+    each_byte_21();
     tail_of_s_22();
     tail_of_k_and_e_23(K);
     tail_of_k_and_e_23(E);
+    parts_of_k_and_e_23(K);
+    parts_of_k_and_e_23(E);
     symbols_of_c_24();
     names_of_c_24();
+    marks_of_c_24();
     cuts_of_c_24();
 }

@@ -95,6 +95,10 @@ static void header_26(void)
         b.to = 1000;
         not_written("26: the header before the rows", &b, sheet, 20, 0, 5);
     }
+}
+
+static void header_names_26(void)
+{
     uint8_t long_name[21];
     memset(long_name, 'a', 21);
     struct peer_written w =
@@ -386,6 +390,16 @@ static void item_fields_21(void)
             else
                 not_written("no. 21: priority", &b, sheet, 21, 3, 10);
         }
+    }
+    batch_start(&b);
+    b.words[2][6] = 1000000000000;
+    b.words[2][10] = 9;
+    not_written("no. 21: the first field", &b, S, 21, 3, 6);
+}
+
+static void item_texts_21(void)
+{
+    for (uint64_t sheet = K; sheet <= E; sheet++) {
         for (size_t word = 13; word <= 17; word += 2) {
             batch_start(&b);
             batch_text(&b, b.words[2], word, "x");
@@ -411,10 +425,6 @@ static void item_fields_21(void)
                       batch_write(&b, sheet, TODAY, 4096).number == 0);
         }
     }
-    batch_start(&b);
-    b.words[2][6] = 1000000000000;
-    b.words[2][10] = 9;
-    not_written("no. 21: the first field", &b, S, 21, 3, 6);
     batch_start(&b);
     batch_text(&b, b.words[2], 11, "NP:x NP");
     batch_text(&b, b.words[2], 13, ": NP");
@@ -527,7 +537,8 @@ static void spelling_plain(void)
             END);
 }
 
-static void spelling_wide(void)
+/* Two account files whose fields are long, short or missing. */
+static void wide_batch(void)
 {
     batch_start(&b);
     b.date = 20990228;
@@ -560,6 +571,11 @@ static void spelling_wide(void)
     batch_file(&b, 1501, 1999);
     batch_group(&b, 20180102, 0, 705);
     batch_item(&b);
+}
+
+static void spelling_wide(void)
+{
+    wide_batch();
     written("Canonical: all of K", &b, K,
             "UHL1280299KLIENT TEST         0000000007001023000000000000" CRLF
             "1 1501 023004 8100" CRLF
@@ -617,6 +633,7 @@ void test_writing(void)
 {
     fields_26();
     header_26();
+    header_names_26();
     order_of_fields_26();
     missing_rows_27();
     payers_27();
@@ -626,6 +643,7 @@ void test_writing(void)
     numbers_21();
     days_21();
     item_fields_21();
+    item_texts_21();
     header_of_c_29();
     empty_texts_30();
     sheet_and_today();
