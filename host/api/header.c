@@ -9,6 +9,7 @@
  */
 #include <abo.h>
 #include "page.h"
+#include "small_batch.h"
 
 enum { WORD = sizeof(uint64_t) };
 enum { FILE_COLUMN = 1, GROUP_COLUMN, ITEM_COLUMN };
@@ -323,32 +324,16 @@ static int same_written(const struct abo_written *a,
            a->field == b->field && a->bytes == b->bytes;
 }
 
-/* What the header's own functions are tried on: a batch of one item, its text,
-   and a header. */
-enum { SOME_ROWS = 3, SOME_DAY = 20180102, SOME_ROOM = 256 };
-static const uint8_t some_text[] = {'W', 'a', 'g', 'e'};
+/* What the header's own functions are tried on: the small batch, with its text
+   and all of a header. */
+enum { SOME_DAY = 20180102, SOME_ROOM = 256 };
+static const uint8_t some_text[SMALL_TEXT] = {'W', 'a', 'g', 'e'};
 
 static void make_batch(union abo_row *rows, struct abo_header *header)
 {
-    memset(rows, 0, SOME_ROWS * sizeof *rows);
-    memset(header, 0, sizeof *header);
-    rows[0].file.row = ABO_ROW_FILE;
-    rows[0].file.kind = 1501;
-    rows[0].file.number = 1001;
-    rows[1].group.row = ABO_ROW_GROUP;
-    rows[1].group.due = SOME_DAY;
-    rows[1].group.payer.prefix = 19;
-    rows[1].group.payer.base = 19;
-    rows[2].item.row = ABO_ROW_ITEM;
-    rows[2].item.payee.base = 5152046;
-    rows[2].item.bank = 800;
+    make_small_batch(rows, header, SOME_DAY);
     rows[2].item.amount = 3150000;
-    rows[2].item.priority = ABO_PRIORITY_USUAL;
-    rows[2].item.part[0].length = sizeof some_text;
-    header->date = SOME_DAY;
     header->client = 1234567890;
-    header->from = 1;
-    header->to = 999;
     check(abo_set_name(header, "Jablko a syn") == 1, "a name", "is put");
 }
 
@@ -363,9 +348,9 @@ static size_t check_write_rows(const union abo_row *rows,
     struct abo_written w, o;
     memset(out, 7, SOME_ROOM);
     memset(other, 7, sizeof other);
-    w = abo_write_rows(rows, SOME_ROWS, some_text, sizeof some_text, header,
+    w = abo_write_rows(rows, SMALL_ROWS, some_text, sizeof some_text, header,
                        sheet, SOME_DAY, out, room);
-    o = abo_write((const uint8_t *)rows, SOME_ROWS * ABO_ROW_BYTES, some_text,
+    o = abo_write((const uint8_t *)rows, SMALL_ROWS * ABO_ROW_BYTES, some_text,
                   sizeof some_text, header ? header->date : 0,
                   header ? header->name : NULL, header ? ABO_NAME_BYTES : 0,
                   header ? header->client : 0, header ? header->from : 0,
@@ -381,7 +366,7 @@ static size_t check_write_rows(const union abo_row *rows,
 static void check_read_rows(const uint8_t *file, size_t len, uint64_t sheet,
                             size_t count, uint64_t due)
 {
-    union abo_row rows[SOME_ROWS + 1], other[SOME_ROWS + 1];
+    union abo_row rows[SMALL_ROWS + 1], other[SMALL_ROWS + 1];
     struct abo_answer a, o;
     memset(rows, 7, sizeof rows);
     memset(other, 7, sizeof other);
@@ -397,7 +382,7 @@ static void check_read_rows(const uint8_t *file, size_t len, uint64_t sheet,
 static void check_helpers(void)
 {
     static const size_t names[] = {0, 1, 19, 20, 21};
-    union abo_row rows[SOME_ROWS];
+    union abo_row rows[SMALL_ROWS];
     struct abo_header header;
     uint8_t out[SOME_ROOM];
     size_t i, len;
@@ -406,15 +391,15 @@ static void check_helpers(void)
     make_batch(rows, &header);
     len = check_write_rows(rows, &header, ABO_SHEET_K, SOME_ROOM, ABO_ACCEPTED,
                            out);
-    check_read_rows(out, len, ABO_SHEET_K, SOME_ROWS + 1, ABO_ACCEPTED);
-    check_read_rows(out, len, ABO_SHEET_K, SOME_ROWS - 1, ABO_NO_ROOM);
-    check_read_rows(out, len, ABO_SHEET_S, SOME_ROWS, ABO_BAD_PAYER_BANK);
+    check_read_rows(out, len, ABO_SHEET_K, SMALL_ROWS + 1, ABO_ACCEPTED);
+    check_read_rows(out, len, ABO_SHEET_K, SMALL_ROWS - 1, ABO_NO_ROOM);
+    check_read_rows(out, len, ABO_SHEET_S, SMALL_ROWS, ABO_BAD_PAYER_BANK);
     check_write_rows(rows, &header, ABO_SHEET_K, 1, ABO_NO_ROOM, out);
     check_write_rows(rows, NULL, ABO_SHEET_K, SOME_ROOM, ABO_NOT_A_BATCH, out);
     check_write_rows(rows, &header, ABO_SHEET_C, SOME_ROOM, ABO_ACCEPTED, out);
     len = check_write_rows(rows, NULL, ABO_SHEET_C, SOME_ROOM, ABO_ACCEPTED,
                            out);
-    check_read_rows(out, len, ABO_SHEET_C, SOME_ROWS, ABO_ACCEPTED);
+    check_read_rows(out, len, ABO_SHEET_C, SMALL_ROWS, ABO_ACCEPTED);
     rows[2].item.bank = 0;
     check_write_rows(rows, &header, ABO_SHEET_K, SOME_ROOM, ABO_NOT_A_BATCH,
                      out);

@@ -10,11 +10,12 @@
  */
 #include <abo_say.h>
 #include "page.h"
+#include "small_batch.h"
 
 #include <ctype.h>
 
 enum { KINDS = ABO_ROW_ITEM + 1, SHEETS = ABO_SHEET_E, S_ITEMS = 1000 };
-enum { TODAY = 20180101, ROWS = 3, ROOM = 1024, TEXT = 4, LONG = 36 };
+enum { TODAY = 20180101, ROOM = 1024, LONG = 36 };
 
 /* What no number, row, field, kind or sheet is. */
 static const uint64_t odd[] = {22, 1000, 1505, UINT32_MAX, UINT64_MAX};
@@ -153,7 +154,7 @@ struct change {
 #define OF_ITEM(word, value) {ABO_ROW_ITEM, word, value, KEEP}
 #define OF_TEXT(word, place, length) {ABO_ROW_ITEM, word, place, length}
 #define OF_PART(word)                                                         \
-    OF_TEXT(word, 0, TEXT), OF_TEXT(word, 0, WITH_NAME),                      \
+    OF_TEXT(word, 0, SMALL_TEXT), OF_TEXT(word, 0, WITH_NAME),                \
         OF_TEXT(word, 0, WITH_BAR), OF_TEXT(word, WITH_BAR, LONG)
 
 static const struct change changes[] = {
@@ -198,29 +199,6 @@ static const struct change changes[] = {
 static int not_a_batch[KINDS][ABO_ROW_WORDS];
 static int not_carried[SHEETS + 1][KINDS][ABO_ROW_WORDS];
 
-static void make_batch(union abo_row *rows, struct abo_header *header)
-{
-    memset(rows, 0, ROWS * sizeof *rows);
-    memset(header, 0, sizeof *header);
-    rows[0].file.row = ABO_ROW_FILE;
-    rows[0].file.kind = 1501;
-    rows[0].file.number = 1001;
-    rows[1].group.row = ABO_ROW_GROUP;
-    rows[1].group.due = TODAY;
-    rows[1].group.payer.prefix = 19;
-    rows[1].group.payer.base = 19;
-    rows[2].item.row = ABO_ROW_ITEM;
-    rows[2].item.payee.base = 5152046;
-    rows[2].item.bank = 800;
-    rows[2].item.amount = 1;
-    rows[2].item.priority = ABO_PRIORITY_USUAL;
-    rows[2].item.part[0].length = TEXT;
-    header->date = TODAY;
-    header->from = 1;
-    header->to = 999;
-    abo_set_name(header, "Jablko a syn");
-}
-
 static void set_header(struct abo_header *header, const struct change *c)
 {
     switch (c->word) {
@@ -250,12 +228,12 @@ static struct abo_written written(const union abo_row *rows, size_t count,
 /* Every change of a batch on every sheet. */
 static void try_changes(void)
 {
-    union abo_row rows[ROWS];
+    union abo_row rows[SMALL_ROWS];
     struct abo_header header;
     uint8_t out[ROOM];
     for (size_t i = 0; i < COUNT_OF(changes); i++) {
         const struct change *c = &changes[i];
-        make_batch(rows, &header);
+        make_small_batch(rows, &header, TODAY);
         if (c->row == 0) {
             set_header(&header, c);
         } else {
@@ -264,7 +242,7 @@ static void try_changes(void)
                 rows[c->row - 1].word[c->word + 1] = c->next;
         }
         for (uint64_t sheet = 1; sheet <= SHEETS; sheet++)
-            written(rows, ROWS, &header, sheet, out, sizeof out);
+            written(rows, SMALL_ROWS, &header, sheet, out, sizeof out);
     }
 }
 
@@ -273,9 +251,9 @@ static void try_many(void)
 {
     static union abo_row rows[2 + S_ITEMS + 1];
     struct abo_header header;
-    make_batch(rows, &header);
-    for (size_t i = ROWS; i < COUNT_OF(rows); i++)
-        rows[i] = rows[ROWS - 1];
+    make_small_batch(rows, &header, TODAY);
+    for (size_t i = SMALL_ROWS; i < COUNT_OF(rows); i++)
+        rows[i] = rows[SMALL_ROWS - 1];
     for (uint64_t sheet = 1; sheet <= SHEETS; sheet++)
         written(rows, COUNT_OF(rows), &header, sheet, NULL, 0);
 }
@@ -312,15 +290,15 @@ static void check_refused(void)
 static void check_sheets(void)
 {
     static const char letters[] = "KSCE";
-    union abo_row rows[ROWS];
+    union abo_row rows[SMALL_ROWS];
     struct abo_header header;
     uint8_t out[ROOM];
-    make_batch(rows, &header);
+    make_small_batch(rows, &header, TODAY);
     for (uint64_t sheet = 1; sheet <= SHEETS; sheet++) {
         const struct abo_sheet_words *words = abo_say_sheet(sheet);
         char letter[] = {letters[sheet - 1], '\0'};
         struct abo_written w =
-            written(rows, ROWS, &header, sheet, out, sizeof out);
+            written(rows, SMALL_ROWS, &header, sheet, out, sizeof out);
         struct abo_found line = abo_line(out, (size_t)w.bytes, 2);
         check(w.number == ABO_ACCEPTED && line.found == 1 && line.len > 4,
               letter, "a batch is written");
