@@ -141,9 +141,13 @@ def links():
             check((page.parent / target).exists(), f"{page.relative_to(ROOT)} links to {target}, which is not there")
 
 
+def tool_files():
+    return sorted(path for path in (ROOT / "tools").rglob("*") if path.suffix in (".sh", ".py", ".c"))
+
+
 def paths():
     named = re.compile(r"(?<![\w/.$}-])((?:host|bench|tools|peer|include|docs)/[\w./-]*\w)")
-    scripts = [ROOT / "Makefile", ROOT / ".ci/run", *sorted(p for p in (ROOT / "tools").iterdir() if p.is_file())]
+    scripts = [ROOT / "Makefile", ROOT / ".ci/run", *tool_files()]
     for path in [*pages(), *c_side(), *scripts]:
         for target in sorted(set(named.findall(path.read_text()))):
             check((ROOT / target).exists(), f"{path.relative_to(ROOT)} names {target}, which is not there")
@@ -283,8 +287,8 @@ def the_words():
 
 
 def the_tools():
-    said = set(re.findall(r"^\| `([\w.]+\.(?:sh|py|c))` \|", (ROOT / "docs/WORKING.md").read_text(), re.M))
-    there = {path.name for path in (ROOT / "tools").iterdir() if path.is_file()}
+    said = set(re.findall(r"^\| `([\w./]+\.(?:sh|py|c))` \|", (ROOT / "docs/WORKING.md").read_text(), re.M))
+    there = {str(path.relative_to(ROOT / "tools")) for path in tool_files()}
     for name in sorted(said | there):
         check(name in said and name in there, f"docs/WORKING.md and the folder of tools do not agree on {name}")
 

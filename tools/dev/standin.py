@@ -2,7 +2,7 @@
 """Translates the crates to Rust, without their contracts and unproved, and compiles them with rustc to a static library of the same calls. So
 code is measured before it is proved, in seconds; nothing of it is in the product or in the gate.
 
-  tools/standin.py build/standin.a          then: LIB=build/standin.a BYTES=300000 TIMES=0 bench/run.sh
+  tools/dev/standin.py build/standin.a      then: LIB=build/standin.a BYTES=300000 TIMES=0 bench/run.sh
 
 Its counts of reading were between 3 % above and 11 % below the archive's where both were taken; its counts of writing are nearly
 twice the archive's, so it serves for reading alone. Indices are not tested in it: they were proved to be inside."""
@@ -11,7 +11,7 @@ import re
 import subprocess
 import sys
 
-ROOT = pathlib.Path(__file__).resolve().parent.parent
+ROOT = pathlib.Path(__file__).resolve().parent.parent.parent
 
 # what the language has and a crate without Rust's library lacks
 FRONT = """#![allow(warnings)]
@@ -25,8 +25,12 @@ PLACE = r"(\w+(?:\.\w+)*)"
 
 
 def libraries():
-    names = [line.split(":")[0] for line in (ROOT / "crates.txt").read_text().splitlines() if ":" in line and not line.startswith("#")]
-    return [name for name in names if (ROOT / "crates" / name / "src/lib.rt").exists()]
+    """The crates that `abo` stands on, and itself: what is above it makes its calls, which are C's here."""
+    lines = [line.split(":") for line in (ROOT / "crates.txt").read_text().splitlines() if ":" in line and not line.startswith("#")]
+    below, found = {name: rest.split() for name, rest in lines}, ["abo"]
+    for name in found:
+        found += [other for other in below[name] if other in below and other not in found]
+    return [name for name in below if name in found and (ROOT / "crates" / name / "src/lib.rt").exists()]
 
 
 def without_contracts(source):
