@@ -6,6 +6,7 @@
   - each file of code, definitions or proofs says in its first line what it holds; lists of modules (Lib.antt) need not
   - a function has at most 40 lines without its contract, and at most one loop
   - a file of definitions or proofs has at most 400 lines
+  - each file of code, definitions or proofs is laid out as `rt fmt` lays it out
   - what an edit of must-fail/ or more-edits/ takes out stands in its file exactly once
   - what a page links to is there, and so is each path that a page, script or C file names
   - each header, program and script of host/ and bench/ says in its first lines what it holds; a source beside its header need not
@@ -112,6 +113,16 @@ def files():
         count = text.count("\n")
         check(count <= MOST_FILE, f"{path.relative_to(ROOT)} has {count} lines")
         check(not re.search(r"src/\w+\.rt:\d", text), f"{path.relative_to(ROOT)} names lines of the source by number")
+
+
+def layout():
+    run = subprocess.run(["rt", "fmt", "--check"], cwd=ROOT, stdout=subprocess.PIPE, stderr=subprocess.STDOUT, text=True)
+    named = re.findall(r"^(.+) is not in the layout$", run.stdout, re.M)
+    others = {pathlib.Path(path).resolve() for path in named}
+    for path in sorted((ROOT / "crates").rglob("*")):
+        if path.suffix in (".rt", ".antt"):
+            check(path not in others, f"{path.relative_to(ROOT)} is not as rt fmt lays it out")
+    check(run.returncode == 0 or others, f"rt fmt --check does not say what is wrong: {run.stdout.strip()}")
 
 
 def edits():
@@ -293,8 +304,8 @@ def the_tools():
         check(name in said and name in there, f"docs/WORKING.md and the folder of tools do not agree on {name}")
 
 
-looks = [the_list, the_drawing, first_lines, functions, files, edits, links, paths, c_files, the_tests, unused, the_tools, the_words]
-looks += [the_rules, the_sheets, the_numbers, the_whole_run]
+looks = [the_list, the_drawing, first_lines, functions, files, layout, edits, links, paths, c_files, the_tests, unused, the_tools]
+looks += [the_words, the_rules, the_sheets, the_numbers, the_whole_run]
 for look in looks:
     look()
 for sentence in faults:
