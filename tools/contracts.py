@@ -2,7 +2,7 @@
 """Takes promises (`ensures`) away from the exported calls, and looks that a demand falls with each: `demands` has functions that make the
 calls and promise what the demands say, so that each promise of each call is used. The prover must refuse `demands` and nothing below it,
 in the function that makes the call twice, because a fact fails. What is not touched is taken over from what `rt check` proved
-(tools/kept.py), which comes first. The last line is 'N passed, M failed'.
+(tools/copies.py), which comes first. The last line is 'N passed, M failed'.
 
   tools/contracts.py          one promise of each call at a time, as in the gate: first their last ones, then those before
   tools/contracts.py --one    each promise by itself, so that the calls' other promises stand
@@ -13,7 +13,7 @@ import sys
 import tempfile
 import time
 
-from kept import ROOT, Modules, complaints, copy, is_fact, is_ours, is_proved, is_refused, rlib, rt_check, stands_on
+from copies import ROOT, Modules, complaints, copy, is_fact, is_ours, is_proved, is_refused, rlib, rt_check, stands_on
 
 CALLS = "abo"
 ABOVE = "demands"

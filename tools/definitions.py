@@ -2,7 +2,7 @@
 """Edits definitions of document 01, one for each kind of line and field, and looks that theorems fall with each: the prover must refuse the
 crate that is named, a crate of theorems that a demand stands on or a table of worked examples (crates/cases), and nothing below it. All
 crates below are copied with it and proved anew as far as the definition reaches; what it does not reach is taken over from what `rt check`
-proved (tools/kept.py), which comes first. One check for each processor is made at a time (RT_JOBS says otherwise). The last line is
+proved (tools/copies.py), which comes first. One check for each processor is made at a time (RT_JOBS says otherwise). The last line is
 'N passed, M failed'.
 
 A fall counts only if the same crates, copied in the same way, are proved without the edit, and if the first that the prover says is that a
@@ -17,7 +17,7 @@ import sys
 import tempfile
 import time
 
-from kept import Modules, below, complaints, copy, is_fact, is_ours, is_proved, is_refused, rt_check, stands_on
+from copies import Modules, below, complaints, copy, is_fact, is_ours, is_proved, is_refused, rt_check, stands_on
 
 # What is edited, and what would be wrong; the file of crates/paper/specs, what it says and would say; and the crate that must fall, with
 # cases the one table that is proved there.

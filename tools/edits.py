@@ -1,6 +1,6 @@
 #!/usr/bin/env python3
 """Tries the wrong programs of crates/NAME/more-edits: the prover must refuse each, and because a fact fails. They are tried over what
-`rt check` proved (tools/kept.py), which comes first, and edits of different functions are tried together. So this takes a fraction of
+`rt check` proved (tools/copies.py), which comes first, and edits of different functions are tried together. So this takes a fraction of
 what `rt must-fail` takes, which proves the whole crate for each edit. The last line is 'N passed, M failed'.
 
   tools/edits.py                  all edits of more-edits/, one check for each processor at a time (RT_JOBS says otherwise)
@@ -30,7 +30,7 @@ import sys
 import tempfile
 import time
 
-from kept import FUNCTION, PARTS, ROOT, Modules, complaints, copy, is_fact, is_ours, is_proved, is_refused, rlib, rt_check, stands_on
+from copies import FUNCTION, PARTS, ROOT, Modules, complaints, copy, is_fact, is_ours, is_proved, is_refused, rlib, rt_check, stands_on
 
 
 def function_at(source, place):

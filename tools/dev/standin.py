@@ -12,6 +12,8 @@ import subprocess
 import sys
 
 ROOT = pathlib.Path(__file__).resolve().parent.parent.parent
+sys.path.insert(0, str(ROOT / "tools"))
+import copies
 
 # what the language has and a crate without Rust's library lacks
 FRONT = """#![allow(warnings)]
@@ -25,12 +27,8 @@ PLACE = r"(\w+(?:\.\w+)*)"
 
 
 def libraries():
-    """The crates that `abo` stands on, and itself: what is above it makes its calls, which are C's here."""
-    lines = [line.split(":") for line in (ROOT / "crates.txt").read_text().splitlines() if ":" in line and not line.startswith("#")]
-    below, found = {name: rest.split() for name, rest in lines}, ["abo"]
-    for name in found:
-        found += [other for other in below[name] if other in below and other not in found]
-    return [name for name in below if name in found and (ROOT / "crates" / name / "src/lib.rt").exists()]
+    """`abo` and the crates that it stands on: what is above it makes its calls, which are C's here."""
+    return [name for name in copies.below("abo") if (ROOT / "crates" / name / "src/lib.rt").exists()]
 
 
 def without_contracts(source):

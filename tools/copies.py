@@ -1,4 +1,5 @@
-"""What tools/edits.py and tools/definitions.py share: copies of crates, asked of the prover over the modules that `rt check` left of them.
+"""What tools/edits.py, tools/contracts.py and tools/definitions.py share: copies of crates, asked of the prover over the modules that
+`rt check` left of them.
 
 The prover takes a module over only if the module and all that it imports are unchanged, and checks the others. So what it refuses there it
 refuses in a check from nothing too, and a wrong program costs what it touches. A library's rlib has its proved modules under the names by
