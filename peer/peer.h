@@ -5,6 +5,17 @@
  * Days are numbers YYYYMMDD.  Rows are 24 little-endian 64-bit words each, lent
  * as bytes of any alignment.  A pointer may be NULL where its length is 0.
  * A refusal changes none of the lent bytes.
+ *
+ * Each file here is used by those above it only:
+ *
+ *   rewrite.c                                 the rewriting program
+ *   explain.c                                 answers in words; the rewriting
+ *   read.c, write.c                           the calls
+ *   judge, fill; judge_batch                  passes over a file, over a batch
+ *   judge_heads, judge_item; spell_batch      the lines of a file, of a batch
+ *   judge_fields.h, split; batch.h            the parts of lines, of rows
+ *   account.h, lines.h                        accounts, and the kinds of lines
+ *   bytes.h, days.h, digits.h, header.h, sheet
  */
 #ifndef PEER_H
 #define PEER_H
