@@ -80,8 +80,16 @@ names_are_ours() {
     ! nm -g --defined-only "$build/library.o" | awk 'NF == 3 { print $3 }' |
         grep -v '^peer_'
 }
+# peer.h draws the layers; a circle is what tsort cannot put in order.
+is_layered() {
+    for source in "$here"/*.[ch]; do
+        name=$(basename "${source%.*}")
+        sed -n "s/^#include \"\(.*\)\.h\"\$/$name \1/p" "$source"
+    done | tsort >/dev/null
+}
 count 'no warnings with -O2' builds_as_library
 count 'names begin with peer_' names_are_ours
+count 'no two files use each other' is_layered
 
 echo "$passed passed, $failed failed"
 [ "$failed" -eq 0 ]
