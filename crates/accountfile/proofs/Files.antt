@@ -70,9 +70,9 @@ is-file f at stop r t e = sym (rw e at t)
 -- ---- where reading stands
 
 -- nothing happened to the words
-pub moved-stepped : (sh : Sheet) (today from to : ℕ) (f : List ℕ) (o r : Left) (words : List ℕ) → Moved sh today f o r → Stepped sh today from to f o words words r
-moved-stepped sh today from to f o r words m =
-    record { same = λ h p q l held. (l, held, m .same h l); good = m .good; less = m .less }
+moved-stepped : (sh : Sheet) (from to : ℕ) (f : List ℕ) (o r : Left) (words : List ℕ) → ((today : ℕ) → Moved sh today f o r) → Stepped sh from to f o words words r
+moved-stepped sh from to f o r words m =
+    record { same = λ today h p q l held. (l, held, m today .same h l); good = m 0 .good; less = m 0 .less }
 
 -- the file ends: early before the first account file, else it is accepted
 module _ (at k : ℕ) (c : Counts) where
@@ -89,8 +89,8 @@ module _ (at k : ℕ) (c : Counts) where
       record { same = λ h l. rw (at-end f at e) (simp (ne-eqb (c .files) 0 some)); good = (limits .rows, limits .warnings); less = omega arith }
 
   pub file-ends : (sh : Sheet) (f : List ℕ) → AtFile f at k c → length f ≤ at → (r : Left) → Ends at k c r
-      → (from to : ℕ) (words : List ℕ) (today : ℕ) → Stepped sh today from to f (left.File at k c) words words r
-  file-ends sh f good e r ends from to words today = moved-stepped sh today from to f (left.File at k c) r words (ends sh today f e good)
+      → (from to : ℕ) (words : List ℕ) → Stepped sh from to f (left.File at k c) words words r
+  file-ends sh f good e r ends from to words = moved-stepped sh from to f (left.File at k c) r words (λ today. ends sh today f e good)
 
 pub ruleset endings = (end-early, end-accepted)
 
@@ -106,40 +106,40 @@ module _ (sh : Sheet) (f : List ℕ) (at k : ℕ) (c : Counts) (cut : Cut) (cuts
   -- 3: r is the kind that was found
   module _ (from to : ℕ) (words : List ℕ) (r : LineKind) (t : kinds.told r ≡ kindOf (cut-of f at (cut .stop))) where
     other : (kind : Kind) → ((h : Header) (l : List ℕ) → isDue (tFile (bookOf h l c)) kind ≡ false) → kindOf (cut-of f at (cut .stop)) ≡ kind
-        → (today : ℕ) → Stepped sh today from to f (left.File at k c) words words (left.Refused 3 k at)
-    other kind n e today =
+        → Stepped sh from to f (left.File at k c) words words (left.Refused 3 k at)
+    other kind n e =
         record {
-          same = λ h p q l held. (l, held, stop-same 3 at today h l (file-other sh today k (lineIn f at (cut .stop)) (bookOf h l c) kind (n h l) e));
+          same = λ today h p q l held. (l, held, stop-same 3 at today h l (file-other sh today k (lineIn f at (cut .stop)) (bookOf h l c) kind (n h l) e));
           good = tt;
           less = omega arith;
         }
 
-    pub file-not-head : r ≡ line-kind.Head → (today : ℕ) → Stepped sh today from to f (left.File at k c) words words (left.Refused 3 k at)
+    pub file-not-head : r ≡ line-kind.Head → Stepped sh from to f (left.File at k c) words words (left.Refused 3 k at)
     unfolding isDue
     file-not-head e = other headLine (λ h l. refl) (sym (rw e at t))
 
-    pub file-not-group : r ≡ line-kind.Group → (today : ℕ) → Stepped sh today from to f (left.File at k c) words words (left.Refused 3 k at)
+    pub file-not-group : r ≡ line-kind.Group → Stepped sh from to f (left.File at k c) words words (left.Refused 3 k at)
     unfolding isDue
     file-not-group e = other groupLine (λ h l. refl) (sym (rw e at t))
 
-    pub file-not-item : r ≡ line-kind.Item → (today : ℕ) → Stepped sh today from to f (left.File at k c) words words (left.Refused 3 k at)
+    pub file-not-item : r ≡ line-kind.Item → Stepped sh from to f (left.File at k c) words words (left.Refused 3 k at)
     unfolding isDue
     file-not-item e = other itemLine (λ h l. refl) (sym (rw e at t))
 
-    pub file-not-group-end : r ≡ line-kind.GroupEnd → (today : ℕ) → Stepped sh today from to f (left.File at k c) words words (left.Refused 3 k at)
+    pub file-not-group-end : r ≡ line-kind.GroupEnd → Stepped sh from to f (left.File at k c) words words (left.Refused 3 k at)
     unfolding isDue
     file-not-group-end e = other groupEnd (λ h l. refl) (sym (rw e at t))
 
-    pub file-not-file-end : r ≡ line-kind.FileEnd → (today : ℕ) → Stepped sh today from to f (left.File at k c) words words (left.Refused 3 k at)
+    pub file-not-file-end : r ≡ line-kind.FileEnd → Stepped sh from to f (left.File at k c) words words (left.Refused 3 k at)
     unfolding isDue
     file-not-file-end e = other fileEnd (λ h l. refl) (sym (rw e at t))
 
   -- the line of an account file
   module _ (e : kindOf (cut-of f at (cut .stop)) ≡ fileLine) (from to : ℕ) (words : List ℕ) where
-    pub file-15 : 1000 ≤ c .files → (today : ℕ) → Stepped sh today from to f (left.File at k c) words words (left.Refused 15 k at)
-    file-15 full today =
+    pub file-15 : 1000 ≤ c .files → Stepped sh from to f (left.File at k c) words words (left.Refused 15 k at)
+    file-15 full =
         record {
-          same = λ h p q l held. (l, held, stop-same 15 at today h l (file-full sh today k (lineIn f at (cut .stop)) (bookOf h l c) e full));
+          same = λ today h p q l held. (l, held, stop-same 15 at today h l (file-full sh today k (lineIn f at (cut .stop)) (bookOf h l c) e full));
           good = tt;
           less = omega arith;
         }
@@ -151,10 +151,10 @@ module _ (sh : Sheet) (f : List ℕ) (at k : ℕ) (c : Counts) (cut : Cut) (cuts
           let free : numberFree (sh .interval) from to words ≡ numberAllowed (sh .interval) h l = rw (← p, ← q) (free-allowed (sh .interval) h words l held) in
           t ∙ ap (λ (allowed : ℕ → Bool). readFile sh allowed (cut-of f at (cut .stop))) free
 
-      pub file-refused : (n off : ℕ) → r ≡ reads.Refused n off → (today : ℕ) → Stepped sh today from to f (left.File at k c) words words (left.Refused n k (at + off))
-      file-refused n off x today =
+      pub file-refused : (n off : ℕ) → r ≡ reads.Refused n off → Stepped sh from to f (left.File at k c) words words (left.Refused n k (at + off))
+      file-refused n off x =
           record {
-            same = λ h p q l held.
+            same = λ today h p q l held.
                 (l, held, stop-same n (at + off) today h l (file-no sh today k (lineIn f at (cut .stop)) (bookOf h l c) e room n off (rw x at (said h p q l held))));
             good = tt;
             less = omega arith;
@@ -171,12 +171,12 @@ module _ (sh : Sheet) (f : List ℕ) (at k : ℕ) (c : Counts) (cut : Cut) (cuts
             let g = file-got sh today k (lineIn f at (cut .stop)) (bookOf h l c) e room kind number [] (rw x at (said h p q l held)) in
             run-on sh today (length f) k f at cut cuts (tFile (bookOf h l c)) _ (rw z at g)
 
-        pub file-opened : (more : Counts) → more ≡ fileMore c → (today : ℕ)
-            → Stepped sh today from to f (left.File at k c) words after (left.Group (cut .next) (k + 1) more (record { items = 0; groups = 0 }))
-        file-opened more y today =
+        pub file-opened : (more : Counts) → more ≡ fileMore c
+            → Stepped sh from to f (left.File at k c) words after (left.Group (cut .next) (k + 1) more (record { items = 0; groups = 0 }))
+        file-opened more y =
             rw y
             (record {
-              same = λ h p q l held. (series number ∷ l, marks l held, opened-same today h p q l held);
+              same = λ today h p q l held. (series number ∷ l, marks l held, opened-same today h p q l held);
               good = record {
                 inside = cuts .inside;
                 lines = omega (arith, good .lines, cuts .ahead);

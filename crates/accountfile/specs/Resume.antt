@@ -91,7 +91,8 @@ Same sh today from to f o before after r =
     (h : Header) → h .from ≡ from → h .to ≡ to → (l : List ℕ) → Holds before l
     → (m : List ℕ) × Holds after m × (resume sh today f h m r ≡ resume sh today f h l o)
 
-pub record Stepped (sh : Sheet) (today from to : ℕ) (f : List ℕ) (o : Left) (before after : List ℕ) (r : Left) : Type 0 where
-  pub same : Same sh today from to f o before after r
+-- a step at which today does not count
+pub record Stepped (sh : Sheet) (from to : ℕ) (f : List ℕ) (o : Left) (before after : List ℕ) (r : Left) : Type 0 where
+  pub same : (today : ℕ) → Same sh today from to f o before after r
   pub good : Good f r
   pub less : toGo f r + 1 ≤ toGo f o

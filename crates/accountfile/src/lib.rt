@@ -78,7 +78,7 @@ fn open_file(
     requires { ⌜ Good (now f) (Left.File at line counts) ⌝ }
     requires { ⌜ Cuts (now f) at cut ⌝ }
     requires { ⌜ kindOf (take (cut .stop - at) (drop at (now f))) ≡ fileLine ⌝ }
-    ensures { λ r. ⌜ ((today : ℕ) → Stepped sh today from to (now (f .entry)) (Left.File at line counts) (now (seen .entry)) (now (seen .exit)) r) ⌝ }
+    ensures { λ r. ⌜ Stepped sh from to (now (f .entry)) (Left.File at line counts) (now (seen .entry)) (now (seen .exit)) r ⌝ }
 {
     let files = counts.files;
     if 1000 <= files {
@@ -109,7 +109,7 @@ pub fn file_step(
 ) -> Left
     requires { ⌜ Sane sh ⌝ }
     requires { ⌜ Good (now f) (Left.File at line counts) ⌝ }
-    ensures { λ r. ⌜ ((today : ℕ) → Stepped sh today from to (now (f .entry)) (Left.File at line counts) (now (seen .entry)) (now (seen .exit)) r) ⌝ }
+    ensures { λ r. ⌜ Stepped sh from to (now (f .entry)) (Left.File at line counts) (now (seen .entry)) (now (seen .exit)) r ⌝ }
 {
     if f.len() <= at {
         return end_file(at, line, counts);

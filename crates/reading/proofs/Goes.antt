@@ -2,7 +2,7 @@
 use mathlib.Core.Path.{_≡_, refl, sym, ap, _∙_}
 use mathlib.Core.Bool.{true}
 use mathlib.Core.List.{List, []}
-use Prim.Native.Nat.{ℕ, _-_, _≤_}
+use Prim.Native.Nat.{ℕ, _-_, _≤_, _<_, min}
 use native.Mathlib.Omega.{arith}
 use lib.ListN.{length, replicate}
 use Rattle.sheet.specs.declared.Sheet.{Sheet}
@@ -11,47 +11,76 @@ use Rattle.seen.proofs.Laws.{holds-none}
 use Rattle.tally.specs.Tally.{No, Yes}
 use Rattle.reading.specs.declared.Head.{Head}
 use Rattle.reading.specs.Answer.{headOf, Sound, Went, fromFirst}
+use Rattle.group.specs.declared.Counts.{Counts}
+use Rattle.group.specs.declared.Shelf.{Shelf}
 use Rattle.accountfile.specs.declared.Left.{Left}
 use Rattle.accountfile.specs.declared.Left.the-variants as left
-use Rattle.accountfile.specs.Resume.{resume, Good, Moved, Stepped}
-use Rattle.accountfile.proofs.Files.{moved-stepped}
+use Rattle.accountfile.specs.Resume.{resume, AtFile, AtGroup, Good, toGo, Moved, Stepped}
 
--- n is the variant that a step's answer m was found to be
-pub stepped-as : {sh : Sheet} {today from to : ℕ} {f : List ℕ} {o m n : Left} {before after : List ℕ} → Stepped sh today from to f o before after m → m ≡ n → Stepped sh today from to f o before after n
-stepped-as p e = rw e at p
-
-pub moved-as : {sh : Sheet} {today : ℕ} {f : List ℕ} {o m n : Left} → Moved sh today f o m → m ≡ n → Moved sh today f o n
-moved-as p e = rw e at p
-
-module _ {sh : Sheet} {today from to : ℕ} {f : List ℕ} {o n : Left} {before between : List ℕ} {b : ℕ} where
-  -- a reader went on from n, with one less of the budget
-  pub went-on : {r : Left} {after : List ℕ} → Stepped sh today from to f o before between n → Went sh today from to f n (b - 1) between after r → Went sh today from to f o b before after r
-  went-on p w =
-      record {
-        same = λ h i j l held.
-            let x = p .same h i j l held in
-            let y = w .same h i j (x .0) (x .1) in
-            (y .0, y .1, y .2 ∙ x .2);
-        good = w .good;
-        less = omega (arith, p .less, w .less);
-      }
-
-  -- it stops at n
-  pub went-last : Stepped sh today from to f o before between n → Went sh today from to f o b before between n
-  went-last p = record { same = p .same; good = p .good; less = omega (arith, p .less) }
-
--- the same of steps that leave the words
-module _ {sh : Sheet} {today from to : ℕ} {f : List ℕ} {o n : Left} {words : List ℕ} {b : ℕ} where
-  pub moved-on : {r : Left} {after : List ℕ} → Moved sh today f o n → Went sh today from to f n (b - 1) words after r → Went sh today from to f o b words after r
-  moved-on m w = went-on (moved-stepped sh today from to f o n words m) w
-
-  pub moved-last : Moved sh today f o n → Went sh today from to f o b words words n
-  moved-last m = went-last (moved-stepped sh today from to f o n words m)
+-- ---- the readers: m is a step's answer, which was found to be n
 
 -- with no budget reading stays where it is
 pub went-none : (sh : Sheet) (today from to : ℕ) (f : List ℕ) (o : Left) (b : ℕ) (words : List ℕ) → b ≡ 0 → Good f o → Went sh today from to f o b words words o
 went-none sh today from to f o b words e good =
     record { same = λ h p q l held. (l, held, refl); good = good; less = omega arith }
+
+-- a reader that is called has less of the budget
+pub budget-less : (b t : ℕ) → b ≡ t → (b ≡ 0 → ⊥) → b - 1 < t
+budget-less b t e n = omega arith
+
+-- a step that may change the words
+module _ (sh : Sheet) (from to : ℕ) (f : List ℕ) (o m : Left) (before between : List ℕ) (p : Stepped sh from to f o before between m) where
+  pub stepped-group : (at k : ℕ) (c : Counts) (s : Shelf) → m ≡ left.Group at k c s → AtGroup f at k c s
+  stepped-group at k c s e = let q : Stepped sh from to f o before between (left.Group at k c s) = rw e at p in q .good
+
+  module _ (today b : ℕ) (n : Left) (e : m ≡ n) where
+    stepped : Stepped sh from to f o before between n
+    stepped = rw e at p
+
+    -- a reader went on from n, with one less of the budget
+    pub stepped-on : (after : List ℕ) (r : Left) → Went sh today from to f n (b - 1) between after r → Went sh today from to f o b before after r
+    stepped-on after r w =
+        record {
+          same = λ h i j l held.
+              let x = stepped .same today h i j l held in
+              let y = w .same h i j (x .0) (x .1) in
+              (y .0, y .1, y .2 ∙ x .2);
+          good = w .good;
+          less = omega (arith, stepped .less, w .less);
+        }
+
+    -- reading stops at n
+    pub stepped-last : Went sh today from to f o b before between n
+    stepped-last = record { same = stepped .same today; good = stepped .good; less = omega (arith, stepped .less) }
+
+-- the same of a step that leaves the words
+module _ (sh : Sheet) (today : ℕ) (f : List ℕ) (o m : Left) (p : Moved sh today f o m) where
+  pub moved-group : (at k : ℕ) (c : Counts) (s : Shelf) → m ≡ left.Group at k c s → AtGroup f at k c s
+  moved-group at k c s e = let q : Moved sh today f o (left.Group at k c s) = rw e at p in q .good
+
+  pub moved-file : (at k : ℕ) (c : Counts) → m ≡ left.File at k c → AtFile f at k c
+  moved-file at k c e = let q : Moved sh today f o (left.File at k c) = rw e at p in q .good
+
+  module _ (from to b : ℕ) (words : List ℕ) (n : Left) (e : m ≡ n) where
+    moved : Moved sh today f o n
+    moved = rw e at p
+
+    pub moved-on : (after : List ℕ) (r : Left) → Went sh today from to f n (b - 1) words after r → Went sh today from to f o b words after r
+    moved-on after r w =
+        record {
+          same = λ h i j l held.
+              let y = w .same h i j l held in
+              (y .0, y .1, y .2 ∙ moved .same h l);
+          good = w .good;
+          less = omega (arith, moved .less, w .less);
+        }
+
+    pub moved-last : Went sh today from to f o b words words n
+    moved-last = record { same = λ h i j l held. (l, held, moved .same h l); good = moved .good; less = omega (arith, moved .less) }
+
+pub ruleset readers = (went-none, stepped-on, stepped-last, moved-on, moved-last)
+
+pub ruleset calls = (budget-less, stepped-group, moved-group, moved-file)
 
 -- ---- the loop: the words hold some numbers, with which the answer from where reading stands is the file's
 
@@ -76,22 +105,35 @@ stand-start sh today f at head p q =
       };
     }
 
-module _ {sh : Sheet} {today : ℕ} {f : List ℕ} {at : ℕ} {head : Head} {words : List ℕ} {o : Left} (stand : Stand sh today f at head words o) where
-  pub stand-good : (p : Left) → o ≡ p → Good f p
-  stand-good p e = rw e at (stand .good)
+module _ (sh : Sheet) (today : ℕ) (f : List ℕ) (at : ℕ) (head : Head) (words : List ℕ) (o : Left) (stand : Stand sh today f at head words o) where
+  pub stand-file : (next k : ℕ) (c : Counts) → o ≡ left.File next k c → AtFile f next k c
+  stand-file next k c e = let g : Good f (left.File next k c) = rw e at (stand .good) in g
 
-  pub stand-on : (p : Left) → o ≡ p → {b : ℕ} {after : List ℕ} {r : Left} → Went sh today (head .from) (head .to) f p b words after r → Stand sh today f at head after r
-  stand-on p e w =
-      let x = w .same (headOf f head) refl refl (stand .earlier) (stand .holds) in
-      record { earlier = x .0; holds = x .1; same = x .2 ∙ (ap (resume sh today f (headOf f head) (stand .earlier)) (sym e) ∙ stand .same); good = w .good }
+  pub stand-group : (next k : ℕ) (c : Counts) (s : Shelf) → o ≡ left.Group next k c s → AtGroup f next k c s
+  stand-group next k c s e = let g : Good f (left.Group next k c s) = rw e at (stand .good) in g
+
+  -- a reader went on from p, which is where reading stood
+  module _ (p : Left) (e : o ≡ p) (b : ℕ) (after : List ℕ) (r : Left) (w : Went sh today (head .from) (head .to) f p b words after r) where
+    pub stand-on : Stand sh today f at head after r
+    stand-on =
+        let x = w .same (headOf f head) refl refl (stand .earlier) (stand .holds) in
+        record { earlier = x .0; holds = x .1; same = x .2 ∙ (ap (resume sh today f (headOf f head) (stand .earlier)) (sym e) ∙ stand .same); good = w .good }
+
+    pub stand-less : min b 1 ≡ 1 → toGo f r < toGo f o
+    stand-less one = rw e (omega (arith, w .less))
 
   pub stand-refused : (n k byte : ℕ) → o ≡ left.Refused n k byte → No n k byte ≡ fromFirst sh today f at head
   unfolding resume
   stand-refused n k byte e = rw e at (stand .same)
 
-  pub stand-accepted : (rows warnings : ℕ) → o ≡ left.Accepted rows warnings → Yes (headOf f head) rows warnings ≡ fromFirst sh today f at head
-  unfolding resume
-  stand-accepted rows warnings e = rw e at (stand .same)
+  module _ (rows warnings : ℕ) (e : o ≡ left.Accepted rows warnings) where
+    pub stand-accepted : Yes (headOf f head) rows warnings ≡ fromFirst sh today f at head
+    unfolding resume
+    stand-accepted = rw e at (stand .same)
 
-  pub stand-kept : (rows warnings : ℕ) → o ≡ left.Accepted rows warnings → (head .named ≡ true → 30 ≤ length f) → Sound f head rows warnings
-  stand-kept rows warnings e name = let g = stand-good (left.Accepted rows warnings) e in record { name = name; rows-low = g .0; warnings-low = g .1 }
+    pub stand-kept : (head .named ≡ true → 30 ≤ length f) → Sound f head rows warnings
+    stand-kept name =
+        let g : Good f (left.Accepted rows warnings) = rw e at (stand .good) in
+        record { name = name; rows-low = g .0; warnings-low = g .1 }
+
+pub ruleset stands = (stand-start, stand-file, stand-group, stand-on, stand-less, stand-refused, stand-accepted, stand-kept)

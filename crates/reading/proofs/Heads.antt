@@ -8,10 +8,11 @@ use lib.ListN.{length, take, drop, length-take}
 use lib.Seq.{take-take}
 use Rattle.base.specs.Pick.{pick}
 use Rattle.base.proofs.Lists.{drop-take}
+use Rattle.base.proofs.Seek.{never}
 use Rattle.sheet.specs.declared.Sheet.{Sheet}
 use Rattle.paper.specs.Batch.{Header, noHeader}
 use Rattle.paper.specs.Lines.{linesOf, linesFrom}
-use Rattle.paper.specs.Entries.{Kind, headLine, fileLine, groupLine, itemLine, groupEnd, fileEnd, kindOf}
+use Rattle.paper.specs.Entries.{headLine, kindOf}
 use Rattle.paper.specs.FirstLine.{readFirst}
 use Rattle.paper.proofs.Starts.{kind-long}
 use Rattle.line.specs.declared.Cut.{Cut}
@@ -23,12 +24,12 @@ use Rattle.firstline.specs.declared.FirstRead.{FirstRead}
 use Rattle.firstline.specs.declared.FirstRead.the-variants as reads
 use Rattle.firstline.specs.Stages.{nameIn}
 use Rattle.firstline.specs.Told as firsts
-use Rattle.tally.specs.Tally.{No, Tally, tFirst, tFile, tStop, newBook, isDue, endOf, step, run, tally}
+use Rattle.tally.specs.Tally.{Brief, No, Tally, tFirst, tFile, tStop, newBook, isDue, endOf, step, run, tally}
 use Rattle.group.specs.Stands.{lineIn}
 use Rattle.group.proofs.Going.{run-stop, run-on}
 use Rattle.reading.specs.declared.Head.{Head}
 use Rattle.reading.specs.Answer.{fromFirst}
-use Rattle.accountfile.proofs.Steps.{head-other, head-got, head-no}
+use Rattle.accountfile.proofs.Steps.{head-other as top-other, head-got, head-no}
 
 -- a line's bytes in the file
 abbrev top : List ℕ → Cut → List ℕ
@@ -48,13 +49,24 @@ name-same f cut h =
     let n : 46 ≤ cut .stop - 0 = omega (arith, length-take (cut .stop - 0) f) in
     ap (take 20) (drop-take 10 (cut .stop - 0) f) ∙ take-take 20 (cut .stop - 0 - 10) (drop 10 f) (omega arith)
 
-pub header-long : (s : List ℕ) (r : FirstRead) → firsts.Sound s r → (date client from to : ℕ) → r ≡ reads.Header date client from to → 46 ≤ length s
-header-long s r sound date client from to e = let x : firsts.Sound s (reads.Header date client from to) = rw e at sound in x .0
+-- a header that was read, r, stands in the file
+module _ (f : List ℕ) (cut : Cut) (r : FirstRead) (sound : firsts.Sound (top f cut) r) (date client from to : ℕ) (e : r ≡ reads.Header date client from to) where
+  header-long : 46 ≤ length (top f cut)
+  header-long = let x : firsts.Sound (top f cut) (reads.Header date client from to) = rw e at sound in x .0
 
-pub name-inside : (f : List ℕ) (cut : Cut) → 46 ≤ length (top f cut) → 30 ≤ length f
-name-inside f cut h = omega (arith, length-take (cut .stop - 0) f)
+  pub named : 30 ≤ length f
+  named = omega (arith, length-take (cut .stop - 0) f, header-long)
+
+pub unnamed : (f : List ℕ) → false ≡ true → 30 ≤ length f
+unnamed f e = never (sym e)
 
 -- ---- the line
+
+-- line 2 starts behind byte 1
+pub head-long : (f : List ℕ) (cut : Cut) → Cuts f 0 cut → kindOf (top f cut) ≡ headLine → 2 ≤ cut .next
+head-long f cut cuts e =
+    omega
+    (arith, kind-long (top f cut) headLine e, length-take (cut .stop - 0) f, cuts .to)
 
 module _ (sh : Sheet) (today : ℕ) (f : List ℕ) (cut : Cut) (cuts : Cuts f 0 cut) where
   -- it leads to c
@@ -65,58 +77,31 @@ module _ (sh : Sheet) (today : ℕ) (f : List ℕ) (cut : Cut) (cuts : Cuts f 0 
   stops : (n byte : ℕ) → tStop (No n 1 byte) ≡ step sh today 1 (lineIn f 0 (cut .stop)) tFirst → No n 1 byte ≡ tally sh today f
   stops n byte e = sym (run-stop sh today (length f) 2 (linesFrom f (cut .next)) (No n 1 byte)) ∙ leads (tStop (No n 1 byte)) e
 
-  -- 3: r is the kind that was found
-  module _ (r : LineKind) (t : kinds.told r ≡ kindOf (top f cut)) where
-    other : (kind : Kind) → isDue tFirst kind ≡ false → kindOf (top f cut) ≡ kind → No 3 1 0 ≡ tally sh today f
-    other kind n e = stops 3 0 (head-other sh today 1 (lineIn f 0 (cut .stop)) kind n e)
+  -- 3: r is the kind that was found, v its name
+  pub head-other : (r : LineKind) → kinds.told r ≡ kindOf (top f cut) → (v : LineKind) → r ≡ v → isDue tFirst (kinds.told v) ≡ false → No 3 1 0 ≡ tally sh today f
+  head-other r t v e n = stops 3 0 (top-other sh today 1 (lineIn f 0 (cut .stop)) (kinds.told v) n (sym (rw e at t)))
 
-    pub head-not-file : r ≡ line-kind.File → No 3 1 0 ≡ tally sh today f
-    unfolding isDue
-    head-not-file e = other fileLine refl (sym (rw e at t))
+  -- its fields: r is what was read, x the answer from behind it
+  module _ (e : kindOf (top f cut) ≡ headLine) (r : FirstRead) (t : firsts.told (top f cut) r ≡ readFirst sh (top f cut)) where
+    pub head-refused : (n off : ℕ) → r ≡ reads.Refused n off → No n 1 off ≡ tally sh today f
+    head-refused n off q =
+        let z : 0 + off ≡ off = omega arith in
+        stops n off (rw z at (head-no sh today 1 (lineIn f 0 (cut .stop)) e n off (rw q at t)))
 
-    pub head-not-group : r ≡ line-kind.Group → No 3 1 0 ≡ tally sh today f
-    unfolding isDue
-    head-not-group e = other groupLine refl (sym (rw e at t))
+    pub head-plain : r ≡ reads.Plain → (x : Brief) → x ≡ fromFirst sh today f (cut .next) (record { date = 0; client = 0; from = 0; to = 0; named = false }) → x ≡ tally sh today f
+    unfolding fromFirst pick
+    head-plain q x a = a ∙ leads (tFile (newBook noHeader 0)) (head-got sh today 1 (lineIn f 0 (cut .stop)) e noHeader [] (rw q at t))
 
-    pub head-not-item : r ≡ line-kind.Item → No 3 1 0 ≡ tally sh today f
-    unfolding isDue
-    head-not-item e = other itemLine refl (sym (rw e at t))
-
-    pub head-not-group-end : r ≡ line-kind.GroupEnd → No 3 1 0 ≡ tally sh today f
-    unfolding isDue
-    head-not-group-end e = other groupEnd refl (sym (rw e at t))
-
-    pub head-not-file-end : r ≡ line-kind.FileEnd → No 3 1 0 ≡ tally sh today f
-    unfolding isDue
-    head-not-file-end e = other fileEnd refl (sym (rw e at t))
-
-  -- the first line's fields
-  module _ (e : kindOf (top f cut) ≡ headLine) where
-    -- line 2 starts behind byte 1
-    pub head-long : 2 ≤ cut .next
-    head-long =
-        omega
-        (arith, kind-long (top f cut) headLine e, length-take (cut .stop - 0) f, cuts .to)
-
-    module _ (r : FirstRead) (t : firsts.told (top f cut) r ≡ readFirst sh (top f cut)) where
-      pub head-refused : (n off : ℕ) → r ≡ reads.Refused n off → No n 1 off ≡ tally sh today f
-      head-refused n off q =
-          let z : 0 + off ≡ off = omega arith in
-          stops n off (rw z at (head-no sh today 1 (lineIn f 0 (cut .stop)) e n off (rw q at t)))
-
-      pub head-plain : r ≡ reads.Plain → fromFirst sh today f (cut .next) (record { date = 0; client = 0; from = 0; to = 0; named = false }) ≡ tally sh today f
-      unfolding fromFirst pick
-      head-plain q = leads (tFile (newBook noHeader 0)) (head-got sh today 1 (lineIn f 0 (cut .stop)) e noHeader [] (rw q at t))
-
-      pub head-fields : (date client from to : ℕ) → r ≡ reads.Header date client from to → 46 ≤ length (top f cut)
-          → fromFirst sh today f (cut .next) (record { date = date; client = client; from = from; to = to; named = true }) ≡ tally sh today f
-      unfolding fromFirst pick
-      head-fields date client from to q long =
-          rw (← (name-same f cut long))
-          (leads _ (head-got sh today 1 (lineIn f 0 (cut .stop)) e (record { date = date; name = nameIn (top f cut); client = client; from = from; to = to }) [] (rw q at t)))
+    pub head-fields : firsts.Sound (top f cut) r → (date client from to : ℕ) → r ≡ reads.Header date client from to
+        → (x : Brief) → x ≡ fromFirst sh today f (cut .next) (record { date = date; client = client; from = from; to = to; named = true }) → x ≡ tally sh today f
+    unfolding fromFirst pick
+    head-fields sound date client from to q x a =
+        a
+        ∙ rw (← (name-same f cut (header-long f cut r sound date client from to q)))
+        (leads _ (head-got sh today 1 (lineIn f 0 (cut .stop)) e (record { date = date; name = nameIn (top f cut); client = client; from = from; to = to }) [] (rw q at t)))
 
 -- r is the kind that was found
 pub is-head : (f : List ℕ) (cut : Cut) (r : LineKind) → kinds.told r ≡ kindOf (top f cut) → r ≡ line-kind.Head → kindOf (top f cut) ≡ headLine
 is-head f cut r t e = sym (rw e at t)
 
-pub ruleset head-others = (head-not-file, head-not-group, head-not-item, head-not-group-end, head-not-file-end)
+pub ruleset heads = (no-line, is-head, head-other, head-long, head-refused, head-plain, head-fields, named, unnamed)

@@ -1,9 +1,7 @@
 -- `account_files` and `groups`, which call each other, meet their contracts: by the budget, and by each step. Assumes nothing.
 use borrow.Author.Needs.{needs}
-use Prim.Native.Nat.{ℕ, _-_, _<_}
-use native.Mathlib.Omega.{arith}
-use lib.ListN.{length}
-use Rattle.reading.proofs.Goes.{stepped-as, moved-as, went-on, went-last, moved-on, moved-last, went-none}
+use Prim.Native.Nat.{ℕ, _<_}
+use Rattle.reading.proofs.Goes.{readers, calls}
 use borrow.Fn.Kinds.{In}
 use borrow.Fn.PlainCycle.{Measures, is, falls, and}
 use Rattle.reading.proofs.account_files.Reads as account-files
@@ -18,10 +16,10 @@ use Rattle.reading.proofs.+account_files+groups.{statement}
 use Rattle.reading.proofs.+account_files+groups.Tie.{close}
 
 abbrev μ-account-files : Measures 2 account-files-kinds.ps ℕ
-μ-account-files κs a = length (a .0 .now) - a .1 .1 .0
+μ-account-files κs a = a .1 .1 .1 .1 .1 .1 .0
 
 abbrev μ-groups : Measures 2 groups-kinds.ps ℕ
-μ-groups κs a = length (a .0 .now) - a .1 .1 .0
+μ-groups κs a = a .1 .1 .1 .1 .1 .1 .1 .0
 
 abbrev account-files-at : ℕ → In 2 account-files-kinds.ps
 account-files-at t =
@@ -48,8 +46,7 @@ abbrev groups-calls : ℕ → groups-lts.Claims
 groups-calls t = (group-step-reads.Asked, group-step-reads.Learnt, groups-below t, groups.Post, account-files-below t, account-files.Post)
 
 account-files-returns : (t : ℕ) → account-files-lts.Need-returns (account-files-calls t) (account-files-at t) account-files.Post
-account-files-returns t c =
-    went-none _ _ _ _ _ _ _ _ (c .if1 .taken) (c .before .before .pre .1 .1)
+account-files-returns t c = search readers
 
 account-files-file-step-requires : (t : ℕ) → account-files-lts.Need-file-step-requires (account-files-calls t) (account-files-at t) account-files.Post
 account-files-file-step-requires t c κs = search needs
@@ -61,9 +58,7 @@ account-files-sub-groups : (t : ℕ) → account-files-lts.Need-sub-groups (acco
 account-files-sub-groups t c = search needs
 
 account-files-groups-requires : (t : ℕ) → account-files-lts.Need-groups-requires (account-files-calls t) (account-files-at t) account-files.Post
-account-files-groups-requires t c κs =
-    let p = stepped-as (c .before .before .before .before .file-step .ensures (c .before .before .before .before .before .before .before .before .args .terms .today)) (c .before .before .next .given .1) in
-    (omega (arith, p .less), (c .before .before .before .before .before .before .before .before .pre .1 .0, p .good))
+account-files-groups-requires t c κs = search (calls, needs)
 
 account-files-enum-known-next-2 : (t : ℕ) → account-files-lts.Need-enum-known-next-2 (account-files-calls t) (account-files-at t) account-files.Post
 account-files-enum-known-next-2 t c = search needs
@@ -75,24 +70,19 @@ account-files-enum-known-rows : (t : ℕ) → account-files-lts.Need-enum-known-
 account-files-enum-known-rows t c = search needs
 
 account-files-returns-2 : (t : ℕ) → account-files-lts.Need-returns-2 (account-files-calls t) (account-files-at t) account-files.Post
-account-files-returns-2 t c =
-    went-on (stepped-as (c .before .before .before .before .before .file-step .ensures _) (c .before .before .before .next .given .1)) (c .groups .ensures)
+account-files-returns-2 t c = search readers
 
 account-files-returns-3 : (t : ℕ) → account-files-lts.Need-returns-3 (account-files-calls t) (account-files-at t) account-files.Post
-account-files-returns-3 t c =
-    went-last (stepped-as (c .before .before .before .file-step .ensures _) (c .before .next2 .given .1))
+account-files-returns-3 t c = search readers
 
 account-files-returns-4 : (t : ℕ) → account-files-lts.Need-returns-4 (account-files-calls t) (account-files-at t) account-files.Post
-account-files-returns-4 t c =
-    went-last (stepped-as (c .before .before .before .file-step .ensures _) (c .before .n .given .1))
+account-files-returns-4 t c = search readers
 
 account-files-returns-5 : (t : ℕ) → account-files-lts.Need-returns-5 (account-files-calls t) (account-files-at t) account-files.Post
-account-files-returns-5 t c =
-    went-last (stepped-as (c .before .before .before .file-step .ensures _) (c .before .rows .given .1))
+account-files-returns-5 t c = search readers
 
 groups-returns : (t : ℕ) → groups-lts.Need-returns (groups-calls t) (groups-at t) groups.Post
-groups-returns t c =
-    went-none _ _ _ _ _ _ _ _ (c .if1 .taken) (c .before .before .pre .1 .1)
+groups-returns t c = search readers
 
 groups-group-step-requires : (t : ℕ) → groups-lts.Need-group-step-requires (groups-calls t) (groups-at t) groups.Post
 groups-group-step-requires t c κs = search needs
@@ -104,9 +94,7 @@ groups-sub-groups : (t : ℕ) → groups-lts.Need-sub-groups (groups-calls t) (g
 groups-sub-groups t c = search needs
 
 groups-groups-requires : (t : ℕ) → groups-lts.Need-groups-requires (groups-calls t) (groups-at t) groups.Post
-groups-groups-requires t c κs =
-    let p = moved-as (c .before .before .before .before .group-step .ensures) (c .before .before .next .given .1) in
-    (omega (arith, p .less), (c .before .before .before .before .before .before .before .pre .1 .0, p .good))
+groups-groups-requires t c κs = search (calls, needs)
 
 groups-enum-known-next-2 : (t : ℕ) → groups-lts.Need-enum-known-next-2 (groups-calls t) (groups-at t) groups.Post
 groups-enum-known-next-2 t c = search needs
@@ -115,9 +103,7 @@ groups-sub-account-files : (t : ℕ) → groups-lts.Need-sub-account-files (grou
 groups-sub-account-files t c = search needs
 
 groups-account-files-requires : (t : ℕ) → groups-lts.Need-account-files-requires (groups-calls t) (groups-at t) groups.Post
-groups-account-files-requires t c κs =
-    let p = moved-as (c .before .before .before .before .group-step .ensures) (c .before .before .next2 .given .1) in
-    (omega (arith, p .less), (c .before .before .before .before .before .before .before .pre .1 .0, p .good))
+groups-account-files-requires t c κs = search (calls, needs)
 
 groups-enum-known-n : (t : ℕ) → groups-lts.Need-enum-known-n (groups-calls t) (groups-at t) groups.Post
 groups-enum-known-n t c = search needs
@@ -126,20 +112,16 @@ groups-enum-known-rows : (t : ℕ) → groups-lts.Need-enum-known-rows (groups-c
 groups-enum-known-rows t c = search needs
 
 groups-returns-2 : (t : ℕ) → groups-lts.Need-returns-2 (groups-calls t) (groups-at t) groups.Post
-groups-returns-2 t c =
-    moved-on (moved-as (c .before .before .before .before .before .group-step .ensures) (c .before .before .before .next .given .1)) (c .groups .ensures)
+groups-returns-2 t c = search readers
 
 groups-returns-3 : (t : ℕ) → groups-lts.Need-returns-3 (groups-calls t) (groups-at t) groups.Post
-groups-returns-3 t c =
-    moved-on (moved-as (c .before .before .before .before .before .group-step .ensures) (c .before .before .before .next2 .given .1)) (c .account-files .ensures)
+groups-returns-3 t c = search readers
 
 groups-returns-4 : (t : ℕ) → groups-lts.Need-returns-4 (groups-calls t) (groups-at t) groups.Post
-groups-returns-4 t c =
-    moved-last (moved-as (c .before .before .before .group-step .ensures) (c .before .n .given .1))
+groups-returns-4 t c = search readers
 
 groups-returns-5 : (t : ℕ) → groups-lts.Need-returns-5 (groups-calls t) (groups-at t) groups.Post
-groups-returns-5 t c =
-    moved-last (moved-as (c .before .before .before .group-step .ensures) (c .before .rows .given .1))
+groups-returns-5 t c = search readers
 
 pub +account-files+groups-spec : {M : Type 1} → statement M
 +account-files+groups-spec = close μ-account-files μ-groups (λ t. account-files-lts.spec (

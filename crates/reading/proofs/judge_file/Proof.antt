@@ -1,13 +1,12 @@
 -- `judge_file` meets its contract: an empty file, a first line, or 3 for each other kind of line. Assumes nothing.
 use borrow.Author.Needs.{needs}
-use Rattle.reading.proofs.Heads.{no-line, is-head, head-others}
+use Rattle.tally.specs.Tally.{isDue}
+use Rattle.reading.proofs.Heads.{heads}
 use Rattle.reading.proofs.judge_file.Statement.{statement}
 use Rattle.reading.proofs.judge_file.Tie as tie
 
 returns : tie.Need-returns
-returns c =
-    let a = c .before .before .args in
-    (no-line (a .sh) (a .today) (a .f .now) (c .if1 .taken), tt)
+returns c = search (heads, needs)
 
 next-line-requires : tie.Need-next-line-requires
 next-line-requires c κs = search needs
@@ -28,8 +27,7 @@ enum-told : tie.Need-enum-told
 enum-told c = search needs
 
 from-first-requires : tie.Need-from-first-requires
-from-first-requires c κs =
-    (c .before .before .before .before .before .before .before .pre, (c .before .before .before .before .next-line .ensures, search is-head))
+from-first-requires c κs = search (heads, needs)
 
 enum-told-2 : tie.Need-enum-told-2
 enum-told-2 c = search needs
@@ -50,24 +48,24 @@ returns-2 : tie.Need-returns-2
 returns-2 c = search needs
 
 returns-3 : tie.Need-returns-3
-returns-3 c =
-    (search head-others, tt)
+unfolding isDue
+returns-3 c = search (heads, needs)
 
 returns-4 : tie.Need-returns-4
-returns-4 c =
-    (search head-others, tt)
+unfolding isDue
+returns-4 c = search (heads, needs)
 
 returns-5 : tie.Need-returns-5
-returns-5 c =
-    (search head-others, tt)
+unfolding isDue
+returns-5 c = search (heads, needs)
 
 returns-6 : tie.Need-returns-6
-returns-6 c =
-    (search head-others, tt)
+unfolding isDue
+returns-6 c = search (heads, needs)
 
 returns-7 : tie.Need-returns-7
-returns-7 c =
-    (search head-others, tt)
+unfolding isDue
+returns-7 c = search (heads, needs)
 
 pub judge-file-spec : {M : Type 1} → statement M
 judge-file-spec =
