@@ -1,19 +1,21 @@
 -- Where reading of a file stands, and what a step of it does. Assumes nothing.
 use Prim.Native.Nat.{ℕ, suc, _+_, _-_, _≤_}
 use mathlib.Core.Path.{_≡_}
-use mathlib.Core.Bool.{Bool}
 use mathlib.Core.List.{List, []}
 use lib.ListN.{length}
 use Rattle.sheet.specs.declared.Sheet.{Sheet}
 use Rattle.paper.specs.Batch.{Header, noHeader}
-use Rattle.paper.specs.Lines.{linesFrom}
+use Rattle.paper.specs.Accounts.{Account, isNobody}
+use Rattle.paper.specs.Lines.{Line, linesFrom}
 use Rattle.seen.specs.Bits.{Holds}
-use Rattle.tally.specs.Tally.{Brief, No, Yes, tFile, run}
+use Rattle.tally.specs.Tally.{Brief, No, Yes, Tally, tFile, tStop, step, run}
 use Rattle.tally.specs.Small.{SmallFile}
 use Rattle.group.specs.declared.Counts.{Counts}
 use Rattle.group.specs.declared.Shelf.{Shelf}
-use Rattle.group.specs.declared.Open.{Open}
-use Rattle.group.specs.Stands.{bookOf, inGroup, inFile, LowGroup}
+use Rattle.group.specs.declared.Held.{Held}
+use Rattle.group.specs.Stands.{bookOf, inGroup, inFile, LowItem, LowGroup}
+use Rattle.accountfile.specs.declared.Opening.{Opening}
+use Rattle.accountfile.specs.declared.Opening.the-variants as opening
 use Rattle.accountfile.specs.declared.Left.{Left}
 use Rattle.accountfile.specs.declared.Left.the-variants as left
 
@@ -60,17 +62,32 @@ toGo f (left.Accepted rows warnings) = 0
 abbrev pub fileMore : Counts → Counts
 fileMore c = record { files = c .files + 1; items = c .items; rows = c .rows + 1; warnings = c .warnings }
 
--- with a group more, and its line's warnings
-abbrev pub groupMore : Counts → ℕ → Counts
-groupMore c warnings = record { files = c .files; items = c .items; rows = c .rows + 1; warnings = c .warnings + warnings }
+-- a group that has no item yet, with its line's warnings; its total stands in line k, at `byte`
+unfoldable pub groupHeld : Counts → Shelf → ℕ → Account → ℕ → ℕ → ℕ → Held
+groupHeld c s warnings payer total k byte =
+    record {
+      counts = record { files = c .files; items = c .items; rows = c .rows + 1; warnings = c .warnings + warnings };
+      shelf = s;
+      opened = record { single = isNobody payer; total = total; line = k; byte = byte; sum = 0; count = 0 };
+    }
 
--- a group that has no item yet; its total stands in line k, at `byte`
-abbrev pub groupOpen : Bool → ℕ → ℕ → ℕ → Open
-groupOpen single total k byte = record { single = single; total = total; line = k; byte = byte; sum = 0; count = 0 }
+-- what line k, a group's, leads to: the open group, or the answer
+abbrev pub openedTo : ℕ → Header → List ℕ → Opening → Tally
+openedTo k h l (opening.Group x) = inGroup h l x
+openedTo k h l (opening.Refused n byte) = tStop (No n k byte)
+
+abbrev pub LowOpening : Opening → Type 0
+LowOpening (opening.Group x) = LowItem x
+LowOpening (opening.Refused n byte) = Unit {0}
+
+-- r is what line k, which is the line t, leads to before a group, whatever the header and the earlier numbers are
+pub record Opens (sh : Sheet) (today : ℕ) (t : Line) (k : ℕ) (c : Counts) (s : Shelf) (r : Opening) : Type 0 where
+  pub same : (h : Header) (l : List ℕ) → openedTo k h l r ≡ step sh today k t (inFile h l c s)
+  pub low : LowOpening r
 
 -- r is where reading stands behind a group whose lines begin at `at` with line k
-pub record Grouped (sh : Sheet) (f : List ℕ) (at k : ℕ) (c : Counts) (s : Shelf) (o : Open) (r : Left) : Type 0 where
-  pub same : (today : ℕ) (h : Header) (l : List ℕ) → resume sh today f h l r ≡ run sh today (length f) k (linesFrom f at) (inGroup h l c s o)
+pub record Grouped (sh : Sheet) (f : List ℕ) (at k : ℕ) (x : Held) (r : Left) : Type 0 where
+  pub same : (today : ℕ) (h : Header) (l : List ℕ) → resume sh today f h l r ≡ run sh today (length f) k (linesFrom f at) (inGroup h l x)
   pub good : Good f r
   pub less : toGo f r ≤ length f - at
 

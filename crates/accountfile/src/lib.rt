@@ -3,6 +3,7 @@ use closing::CloseRead;
 use fileline::FileRead;
 use group::Counts;
 use group::GroupEnd;
+use group::Held;
 use group::Open;
 use group::Shelf;
 use groupline::GroupRead;
@@ -13,13 +14,14 @@ use sheet::Sheet;
 ghost use mathlib.Core.Path.{_≡_};
 ghost use mathlib.Core.Bool.{true};
 ghost use Prim.Native.Nat.{ℕ, _-_, _≤_, _<_};
-ghost use lib.ListN.{take, drop};
+ghost use lib.ListN.{length, take, drop};
 ghost use Rattle.sheet.proofs.Laws.{Sane};
+ghost use Rattle.paper.specs.Accounts.{account};
 ghost use Rattle.paper.specs.Days.{realDay};
 ghost use Rattle.paper.specs.Entries.{fileLine, groupLine, fileEnd, kindOf};
 ghost use Rattle.line.specs.Cutting.{Cuts};
-ghost use Rattle.group.specs.Stands.{Begun};
-ghost use Rattle.accountfile.specs.Resume.{fileMore, groupMore, Good, Grouped, Moved, Ends, Stepped};
+ghost use Rattle.group.specs.Stands.{LowGroup, lineIn, Begun};
+ghost use Rattle.accountfile.specs.Resume.{fileMore, groupHeld, Opens, Good, Grouped, Moved, Ends, Stepped};
 
 // Where reading stands: before an account file or its end, at a place with its line's number; before a group or the account file's end;
 // or at the answer.
@@ -90,9 +92,13 @@ fn open_file(
     match fileline::file_line(&f[at..stop], sh, from, to, set) {
         FileRead::File { kind: _, number } => {
             seen::mark(seen, set, number / 1000);
-            Left::Group(cut.next, line + 1, file_more(counts), EMPTY)
+            let following = line + 1;
+            Left::Group(cut.next, following, file_more(counts), EMPTY)
         }
-        FileRead::Refused(n, off) => Left::Refused(n, line, (at + off) as u64),
+        FileRead::Refused(n, off) => {
+            let byte = group::byte_in(at, off, stop);
+            Left::Refused(n, line, byte)
+        }
     }
 }
 
@@ -128,34 +134,90 @@ pub fn file_step(
 
 // ---- a group
 
-// The counts with a group more, and its line's warnings.
-fn group_more(counts: Counts, warnings: u64) -> Counts
-    requires { ⌜ (counts .rows ≤ 200000000) × (counts .warnings ≤ 800000000) × (warnings ≤ 1) ⌝ }
-    ensures { λ r. ⌜ r ≡ groupMore counts warnings ⌝ }
+// What a group's line leads to: an open group, with what judging keeps in it; or a refusal's number and its byte.
+pub enum Opening {
+    Group(Held),
+    Refused(u64, u64),
+}
+
+// A group that has no item yet: the counts with it and its line's warnings, and its total with the line and byte where it stands.
+fn group_held(
+    counts: Counts,
+    shelf: Shelf,
+    warnings: u64,
+    prefix: u64,
+    base: u64,
+    total: u64,
+    line: u64,
+    byte: u64,
+) -> Held
+    requires { ⌜ LowGroup counts shelf × (warnings ≤ 1) ⌝ }
+    ensures { λ r. ⌜ r ≡ groupHeld counts shelf warnings (account prefix base) total line byte ⌝ }
 {
-    Counts {
-        files: counts.files,
-        items: counts.items,
-        rows: counts.rows + 1,
-        warnings: counts.warnings + warnings,
+    let rows = counts.rows + 1;
+    let warned = counts.warnings + warnings;
+    Held {
+        counts: Counts {
+            files: counts.files,
+            items: counts.items,
+            rows,
+            warnings: warned,
+        },
+        shelf,
+        opened: Open {
+            single: account::is_nobody(prefix, base),
+            total,
+            line,
+            byte,
+            sum: 0,
+            count: 0,
+        },
+    }
+}
+
+// A line that begins a group, which is known as one: the bytes of the file from `at` to `stop`.
+fn group_opening(
+    f: &[u8],
+    sh: Sheet,
+    today: u64,
+    at: usize,
+    stop: usize,
+    line: u64,
+    counts: Counts,
+    shelf: Shelf,
+) -> Opening
+    requires { ⌜ kindOf (take (stop - at) (drop at (now f))) ≡ groupLine ⌝ }
+    requires { ⌜ LowGroup counts shelf ⌝ }
+    requires { ⌜ realDay today ≡ true ⌝ }
+    requires { ⌜ (at ≤ stop) × (stop ≤ length (now f)) ⌝ }
+    ensures { λ r. ⌜ Opens sh today (lineIn (now (f .entry)) at stop) line counts shelf r ⌝ }
+{
+    match groupline::group_line(&f[at..stop], sh, today) {
+        GroupRead::Group {
+            prefix,
+            base,
+            total,
+            date: _,
+            warnings,
+            spot,
+        } => {
+            let byte = group::byte_in(at, spot, stop);
+            Opening::Group(group_held(counts, shelf, warnings, prefix, base, total, line, byte))
+        }
+        GroupRead::Refused(n, off) => {
+            let byte = group::byte_in(at, off, stop);
+            Opening::Refused(n, byte)
+        }
     }
 }
 
 // The items of a group, and where reading stands behind it.
-fn whole_group(
-    f: &[u8],
-    sh: Sheet,
-    at: usize,
-    line: u64,
-    counts: Counts,
-    shelf: Shelf,
-    opened: Open,
-) -> Left
+fn whole_group(f: &[u8], sh: Sheet, at: usize, line: u64, held: Held) -> Left
     requires { ⌜ Sane sh ⌝ }
-    requires { ⌜ Begun (now f) at line counts shelf opened ⌝ }
-    ensures { λ r. ⌜ Grouped sh (now (f .entry)) at line counts shelf opened r ⌝ }
+    requires { ⌜ Begun (now f) at line held ⌝ }
+    ensures { λ r. ⌜ Grouped sh (now (f .entry)) at line held r ⌝ }
 {
-    match group::group_items(f, sh, at, line, counts, shelf, opened) {
+    match group::group_items(f, sh, at, line, held) {
         GroupEnd::Closed {
             at,
             line,
@@ -183,28 +245,12 @@ fn open_group(
     requires { ⌜ kindOf (take (cut .stop - at) (drop at (now f))) ≡ groupLine ⌝ }
     ensures { λ r. ⌜ Moved sh today (now (f .entry)) (Left.Group at line counts shelf) r ⌝ }
 {
-    let stop = cut.stop;
-    match groupline::group_line(&f[at..stop], sh, today) {
-        GroupRead::Group {
-            prefix,
-            base,
-            total,
-            date: _,
-            warnings,
-            spot,
-        } => {
-            let opened = Open {
-                single: account::is_nobody(prefix, base),
-                total,
-                line,
-                byte: (at + spot) as u64,
-                sum: 0,
-                count: 0,
-            };
-            let more = group_more(counts, warnings);
-            whole_group(f, sh, cut.next, line + 1, more, shelf, opened)
+    match group_opening(f, sh, today, at, cut.stop, line, counts, shelf) {
+        Opening::Group(held) => {
+            let following = line + 1;
+            whole_group(f, sh, cut.next, following, held)
         }
-        GroupRead::Refused(n, off) => Left::Refused(n, line, (at + off) as u64),
+        Opening::Refused(n, byte) => Left::Refused(n, line, byte),
     }
 }
 
@@ -230,8 +276,14 @@ fn close_file(
     }
     let stop = cut.stop;
     match closing::close_line(&f[at..stop], sh.near) {
-        CloseRead::Closed => Left::File(cut.next, line + 1, counts),
-        CloseRead::Refused(n, off) => Left::Refused(n, line, (at + off) as u64),
+        CloseRead::Closed => {
+            let following = line + 1;
+            Left::File(cut.next, following, counts)
+        }
+        CloseRead::Refused(n, off) => {
+            let byte = group::byte_in(at, off, stop);
+            Left::Refused(n, line, byte)
+        }
     }
 }
 

@@ -15,6 +15,7 @@ use Rattle.tally.specs.Small.{SmallGroup, SmallItem}
 use Rattle.group.specs.declared.Counts.{Counts}
 use Rattle.group.specs.declared.Shelf.{Shelf}
 use Rattle.group.specs.declared.Open.{Open}
+use Rattle.group.specs.declared.Held.{Held}
 use Rattle.group.specs.declared.Turn.{Turn}
 use Rattle.group.specs.declared.Turn.the-variants as turn
 use Rattle.group.specs.declared.GroupEnd.{GroupEnd}
@@ -33,15 +34,15 @@ abbrev pub openOf : Open → machine.Open
 openOf o = record { single = o .single; total = o .total; line = o .line; byte = o .byte; sum = o .sum; count = o .count }
 
 -- a group is open, or an account file with no open group
-abbrev pub inGroup : Header → List ℕ → Counts → Shelf → Open → machine.Tally
-inGroup h l c s o = machine.tItem (bookOf h l c) (shelfOf s) (openOf o)
+abbrev pub inGroup : Header → List ℕ → Held → machine.Tally
+inGroup h l x = machine.tItem (bookOf h l (x .counts)) (shelfOf (x .shelf)) (openOf (x .opened))
 
 abbrev pub inFile : Header → List ℕ → Counts → Shelf → machine.Tally
 inFile h l c s = machine.tGroup (bookOf h l c) (shelfOf s)
 
 -- they are small, whatever the header and the earlier numbers are
-abbrev pub LowItem : Counts → Shelf → Open → Type 0
-LowItem c s o = SmallItem (bookOf noHeader [] c) (shelfOf s) (openOf o)
+abbrev pub LowItem : Held → Type 0
+LowItem x = SmallItem (bookOf noHeader [] (x .counts)) (shelfOf (x .shelf)) (openOf (x .opened))
 
 abbrev pub LowGroup : Counts → Shelf → Type 0
 LowGroup c s = SmallGroup (bookOf noHeader [] c) (shelfOf s)
@@ -52,33 +53,36 @@ LowGroup c s = SmallGroup (bookOf noHeader [] c) (shelfOf s)
 abbrev pub lineIn : List ℕ → ℕ → ℕ → Line
 lineIn f at stop = line at (take (stop - at) (drop at f))
 
+-- with an item of this amount and these warnings more
+unfoldable pub heldMore : Held → ℕ → ℕ → Held
+heldMore x amount warnings =
+    let c = x .counts in
+    let s = x .shelf in
+    let o = x .opened in
+    record {
+      counts = record { files = c .files; items = c .items + 1; rows = c .rows + 1; warnings = c .warnings + warnings };
+      shelf = record { items = s .items + 1; groups = s .groups };
+      opened = record { single = o .single; total = o .total; line = o .line; byte = o .byte; sum = o .sum + amount; count = o .count + 1 };
+    }
+
 -- what line k leads to in a group: an item more, the group closed, or the answer
-abbrev pub turned : Sheet → ℕ → machine.Book → machine.Shelf → machine.Open → Turn → machine.Tally
-turned sh k b s o (turn.Item amount warnings) = machine.tItem (machine.moreItem b warnings) (machine.itemMore s) (machine.added o amount)
-turned sh k b s o turn.Close = machine.closed sh b s o 0
-turned sh k b s o (turn.Stop n byte) = machine.tStop (machine.No n k byte)
+abbrev pub turned : Sheet → ℕ → Header → List ℕ → Held → Turn → machine.Tally
+turned sh k h l x (turn.Item amount warnings) = inGroup h l (heldMore x amount warnings)
+turned sh k h l x turn.Close = machine.closed sh (bookOf h l (x .counts)) (shelfOf (x .shelf)) (openOf (x .opened)) 0
+turned sh k h l x (turn.Stop n byte) = machine.tStop (machine.No n k byte)
 
 -- r is what the line t says in a group, whatever today, the line's number, the header and the earlier numbers are
-abbrev pub Turns : Sheet → Line → Counts → Shelf → Open → Turn → Type 0
-Turns sh t c s o r =
-    (today k : ℕ) (h : Header) (l : List ℕ) → turned sh k (bookOf h l c) (shelfOf s) (openOf o) r ≡ machine.step sh today k t (inGroup h l c s o)
+pub record Turns (sh : Sheet) (t : Line) (x : Held) (r : Turn) : Type 0 where
+  pub same : (today k : ℕ) (h : Header) (l : List ℕ) → turned sh k h l x r ≡ machine.step sh today k t (inGroup h l x)
 
 -- ---- a whole group
 
--- with an item of this amount and these warnings more
-abbrev pub countsMore : Counts → ℕ → Counts
-countsMore c warnings = record { files = c .files; items = c .items + 1; rows = c .rows + 1; warnings = c .warnings + warnings }
-
-abbrev pub shelfMore : Shelf → Shelf
-shelfMore s = record { items = s .items + 1; groups = s .groups }
-
-abbrev pub openMore : Open → ℕ → Open
-openMore o amount =
-    record { single = o .single; total = o .total; line = o .line; byte = o .byte; sum = o .sum + amount; count = o .count + 1 }
-
 -- a closed group, behind which line k starts at `at`: 10 at its total, or a group more
-unfoldable pub closedAs : Bool → ℕ → ℕ → Counts → Shelf → Open → GroupEnd
-closedAs strict at k c s o =
+unfoldable pub closedAs : Bool → ℕ → ℕ → Held → GroupEnd
+closedAs strict at k x =
+    let c = x .counts in
+    let s = x .shelf in
+    let o = x .opened in
     pick (totalBroken strict (o .total) (o .sum)) (end.Stop 10 (o .line) (o .byte))
     (end.Closed at k
     (record { files = c .files; items = c .items; rows = c .rows; warnings = c .warnings + differs (o .total) (o .sum) })
@@ -90,10 +94,10 @@ resumeGroup sh today f h l (end.Closed at k c s) = machine.run sh today (length 
 resumeGroup sh today f h l (end.Stop n k byte) = machine.No n k byte
 
 -- reading of f may stand at line k, which starts at `at`: no line's number passes its start, and the numbers are small
-pub record Begun (f : List ℕ) (at k : ℕ) (c : Counts) (s : Shelf) (o : Open) : Type 0 where
+pub record Begun (f : List ℕ) (at k : ℕ) (x : Held) : Type 0 where
   pub inside : at ≤ length f
   pub lines : k ≤ at
-  pub low : LowItem c s o
+  pub low : LowItem x
 
 -- a group that began at `at` ends behind it, where the numbers are small again
 abbrev pub Behind : List ℕ → ℕ → GroupEnd → Type 0
@@ -101,6 +105,6 @@ Behind f at (end.Closed next k c s) = (at < next) × (next ≤ length f) × (k �
 Behind f at (end.Stop n k byte) = Unit {0}
 
 -- r is how the group ends whose lines begin at `at` with line k: the file's answer from there on is the answer from r on
-pub record Ended (sh : Sheet) (f : List ℕ) (at k : ℕ) (c : Counts) (s : Shelf) (o : Open) (r : GroupEnd) : Type 0 where
-  pub same : (today : ℕ) (h : Header) (l : List ℕ) → resumeGroup sh today f h l r ≡ machine.run sh today (length f) k (linesFrom f at) (inGroup h l c s o)
+pub record Ended (sh : Sheet) (f : List ℕ) (at k : ℕ) (x : Held) (r : GroupEnd) : Type 0 where
+  pub same : (today : ℕ) (h : Header) (l : List ℕ) → resumeGroup sh today f h l r ≡ machine.run sh today (length f) k (linesFrom f at) (inGroup h l x)
   pub behind : Behind f at r

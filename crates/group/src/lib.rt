@@ -4,13 +4,13 @@ use judgeitem::Judged;
 use kind::LineKind;
 use sheet::Sheet;
 ghost use mathlib.Core.Path.{_≡_};
-ghost use Prim.Native.Nat.{_+_, _-_, _≤_, _<_};
+ghost use Prim.Native.Nat.{_+_, _-_, _≤_};
 ghost use lib.ListN.{length, take, drop};
 ghost use Rattle.sheet.proofs.Laws.{Sane};
 ghost use Rattle.paper.specs.Entries.{itemLine, groupEnd, kindOf};
 ghost use Rattle.paper.specs.Judge.{totalBroken};
 ghost use Rattle.paper.specs.Spells.{differs};
-ghost use Rattle.group.specs.Stands.{lineIn, Turns, closedAs, LowItem, Begun, Ended, countsMore, shelfMore, openMore};
+ghost use Rattle.group.specs.Stands.{lineIn, heldMore, Turns, closedAs, LowItem, Begun, Ended};
 
 // Of the whole file so far: account files, items, rows and warnings.
 pub struct Counts {
@@ -34,6 +34,13 @@ pub struct Open {
     pub byte: u64,
     pub sum: u64,
     pub count: u64,
+}
+
+// What judging keeps in a group: of the whole file, of the account file, of the group.
+pub struct Held {
+    pub counts: Counts,
+    pub shelf: Shelf,
+    pub opened: Open,
 }
 
 // What one line of a group says: an item's amount and warnings; that the group ends; or a refusal's number and its byte.
@@ -80,77 +87,68 @@ pub fn total_differs(total: u64, sum: u64) -> u64
     1
 }
 
+// The byte of the file at this offset of the line from `at` to `stop`.
+pub fn byte_in(at: usize, off: usize, stop: usize) -> u64
+    requires { ⌜ at + off ≤ stop ⌝ }
+    ensures { λ r. ⌜ r ≡ at + off ⌝ }
+{
+    (at + off) as u64
+}
+
 // An item's line, which is known as one. 15 comes before its fields.
-fn item_turn(
-    f: &[u8],
-    sh: Sheet,
-    at: usize,
-    stop: usize,
-    counts: Counts,
-    shelf: Shelf,
-    opened: Open,
-) -> Turn
+fn item_turn(f: &[u8], sh: Sheet, at: usize, stop: usize, held: Held) -> Turn
     requires { ⌜ Sane sh ⌝ }
     requires { ⌜ (at ≤ stop) × (stop ≤ length (now f)) ⌝ }
     requires { ⌜ kindOf (take (stop - at) (drop at (now f))) ≡ itemLine ⌝ }
-    ensures { λ r. ⌜ Turns sh (lineIn (now (f .entry)) at stop) counts shelf opened r ⌝ }
+    ensures { λ r. ⌜ Turns sh (lineIn (now (f .entry)) at stop) held r ⌝ }
 {
-    let inside = shelf.items;
+    let inside = held.shelf.items;
     if 99999 <= inside {
         return Turn::Stop(15, at as u64);
     }
     let limits = sh.limits();
-    let items = counts.items;
+    let items = held.counts.items;
     if limits.items <= items {
         return Turn::Stop(15, at as u64);
     }
-    match judgeitem::judge_item(&f[at..stop], sh, opened.single) {
+    match judgeitem::judge_item(&f[at..stop], sh, held.opened.single) {
         Judged::Item { amount, warnings } => Turn::Item { amount, warnings },
-        Judged::Refused(n, off) => Turn::Stop(n, (at + off) as u64),
+        Judged::Refused(n, off) => {
+            let byte = byte_in(at, off, stop);
+            Turn::Stop(n, byte)
+        }
     }
 }
 
 // A line that closes the group, which is known as one.
-fn close_turn(
-    f: &[u8],
-    sh: Sheet,
-    at: usize,
-    stop: usize,
-    counts: Counts,
-    shelf: Shelf,
-    opened: Open,
-) -> Turn
+fn close_turn(f: &[u8], sh: Sheet, at: usize, stop: usize, held: Held) -> Turn
+    requires { ⌜ Sane sh ⌝ }
     requires { ⌜ (at ≤ stop) × (stop ≤ length (now f)) ⌝ }
     requires { ⌜ kindOf (take (stop - at) (drop at (now f))) ≡ groupEnd ⌝ }
-    ensures { λ r. ⌜ Turns sh (lineIn (now (f .entry)) at stop) counts shelf opened r ⌝ }
+    ensures { λ r. ⌜ Turns sh (lineIn (now (f .entry)) at stop) held r ⌝ }
 {
-    let count = opened.count;
+    let count = held.opened.count;
     if count == 0 {
         return Turn::Stop(3, at as u64);
     }
     match closing::close_line(&f[at..stop], sh.near) {
         CloseRead::Closed => Turn::Close,
-        CloseRead::Refused(n, off) => Turn::Stop(n, (at + off) as u64),
+        CloseRead::Refused(n, off) => {
+            let byte = byte_in(at, off, stop);
+            Turn::Stop(n, byte)
+        }
     }
 }
 
 // One line of an open group: the bytes of the file from `at` to `stop`.
-fn item_step(
-    f: &[u8],
-    sh: Sheet,
-    at: usize,
-    stop: usize,
-    counts: Counts,
-    shelf: Shelf,
-    opened: Open,
-) -> Turn
+fn item_step(f: &[u8], sh: Sheet, at: usize, stop: usize, held: Held) -> Turn
     requires { ⌜ Sane sh ⌝ }
     requires { ⌜ (at ≤ stop) × (stop ≤ length (now f)) ⌝ }
-    ensures { λ r. ⌜ Turns sh (lineIn (now (f .entry)) at stop) counts shelf opened r ⌝ }
+    ensures { λ r. ⌜ Turns sh (lineIn (now (f .entry)) at stop) held r ⌝ }
 {
     match kind::kind_of(&f[at..stop]) {
-        LineKind::Item => item_turn(f, sh, at, stop, counts, shelf, opened),
-        LineKind::GroupEnd => close_turn(f, sh, at, stop, counts, shelf, opened),
+        LineKind::Item => item_turn(f, sh, at, stop, held),
+        LineKind::GroupEnd => close_turn(f, sh, at, stop, held),
         LineKind::Head => Turn::Stop(3, at as u64),
         LineKind::File => Turn::Stop(3, at as u64),
         LineKind::Group => Turn::Stop(3, at as u64),
@@ -158,110 +156,87 @@ fn item_step(
     }
 }
 
-// An item more in the whole file, with its warnings.
-fn counts_more(c: Counts, warnings: u64) -> Counts
-    requires { ⌜ (c .items + 1 < 18446744073709551616) × (c .rows + 1 < 18446744073709551616) × (c .warnings + warnings < 18446744073709551616) ⌝ }
-    ensures { λ r. ⌜ r ≡ countsMore c warnings ⌝ }
+// An item more, of that amount and with those warnings.
+fn held_more(x: Held, amount: u64, warnings: u64) -> Held
+    requires { ⌜ LowItem (heldMore x amount warnings) ⌝ }
+    ensures { λ r. ⌜ r ≡ heldMore x amount warnings ⌝ }
 {
-    Counts {
-        files: c.files,
-        items: c.items + 1,
-        rows: c.rows + 1,
-        warnings: c.warnings + warnings,
-    }
-}
-
-// An item more in the account file.
-fn shelf_more(s: Shelf) -> Shelf
-    requires { ⌜ s .items + 1 < 18446744073709551616 ⌝ }
-    ensures { λ r. ⌜ r ≡ shelfMore s ⌝ }
-{
-    Shelf {
-        items: s.items + 1,
-        groups: s.groups,
-    }
-}
-
-// An item more in the group, of that amount.
-fn open_more(o: Open, amount: u64) -> Open
-    requires { ⌜ (o .sum + amount < 18446744073709551616) × (o .count + 1 < 18446744073709551616) ⌝ }
-    ensures { λ r. ⌜ r ≡ openMore o amount ⌝ }
-{
-    Open {
-        single: o.single,
-        total: o.total,
-        line: o.line,
-        byte: o.byte,
-        sum: o.sum + amount,
-        count: o.count + 1,
+    let items = x.counts.items + 1;
+    let rows = x.counts.rows + 1;
+    let warned = x.counts.warnings + warnings;
+    let inside = x.shelf.items + 1;
+    let sum = x.opened.sum + amount;
+    let count = x.opened.count + 1;
+    Held {
+        counts: Counts {
+            files: x.counts.files,
+            items,
+            rows,
+            warnings: warned,
+        },
+        shelf: Shelf {
+            items: inside,
+            groups: x.shelf.groups,
+        },
+        opened: Open {
+            single: x.opened.single,
+            total: x.opened.total,
+            line: x.opened.line,
+            byte: x.opened.byte,
+            sum,
+            count,
+        },
     }
 }
 
 // The group's end: 10 at its total, or what stands behind it.
-fn close_group(
-    strict: bool,
-    at: usize,
-    line: u64,
-    counts: Counts,
-    shelf: Shelf,
-    opened: Open,
-) -> GroupEnd
-    requires { ⌜ LowItem counts shelf opened ⌝ }
-    ensures { λ r. ⌜ r ≡ closedAs strict at line counts shelf opened ⌝ }
+fn close_group(strict: bool, at: usize, line: u64, held: Held) -> GroupEnd
+    requires { ⌜ LowItem held ⌝ }
+    ensures { λ r. ⌜ r ≡ closedAs strict at line held ⌝ }
 {
-    let total = opened.total;
-    let sum = opened.sum;
+    let total = held.opened.total;
+    let sum = held.opened.sum;
     if total_broken(strict, total, sum) {
-        return GroupEnd::Stop(10, opened.line, opened.byte);
+        return GroupEnd::Stop(10, held.opened.line, held.opened.byte);
     }
+    let warnings = held.counts.warnings + total_differs(total, sum);
+    let groups = held.shelf.groups + 1;
     GroupEnd::Closed {
         at,
         line,
         counts: Counts {
-            files: counts.files,
-            items: counts.items,
-            rows: counts.rows,
-            warnings: counts.warnings + total_differs(total, sum),
+            files: held.counts.files,
+            items: held.counts.items,
+            rows: held.counts.rows,
+            warnings,
         },
         shelf: Shelf {
-            items: shelf.items,
-            groups: shelf.groups + 1,
+            items: held.shelf.items,
+            groups,
         },
     }
 }
 
 // The lines of an open group, from `at` on, up to the one that closes it or is refused.
-pub fn group_items(
-    f: &[u8],
-    sh: Sheet,
-    at: usize,
-    line: u64,
-    counts: Counts,
-    shelf: Shelf,
-    opened: Open,
-) -> GroupEnd
+pub fn group_items(f: &[u8], sh: Sheet, at: usize, line: u64, held: Held) -> GroupEnd
     requires { ⌜ Sane sh ⌝ }
-    requires { ⌜ Begun (now f) at line counts shelf opened ⌝ }
-    ensures { λ r. ⌜ Ended sh (now (f .entry)) at line counts shelf opened r ⌝ }
+    requires { ⌜ Begun (now f) at line held ⌝ }
+    ensures { λ r. ⌜ Ended sh (now (f .entry)) at line held r ⌝ }
 {
     let mut at = at;
     let mut line = line;
-    let mut counts = counts;
-    let mut shelf = shelf;
-    let mut opened = opened;
+    let mut held = held;
     while at < f.len() {
         let cut = line::next_line(f, at);
         let stop = cut.stop;
-        match item_step(f, sh, at, stop, counts, shelf, opened) {
+        match item_step(f, sh, at, stop, held) {
             Turn::Item { amount, warnings } => {
-                counts = counts_more(counts, warnings);
-                shelf = shelf_more(shelf);
-                opened = open_more(opened, amount);
+                held = held_more(held, amount, warnings);
                 at = cut.next;
                 line = line + 1;
             }
             Turn::Close => {
-                return close_group(sh.strict, cut.next, line + 1, counts, shelf, opened);
+                return close_group(sh.strict, cut.next, line + 1, held);
             }
             Turn::Stop(n, byte) => {
                 return GroupEnd::Stop(n, line, byte);

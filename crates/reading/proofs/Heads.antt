@@ -14,22 +14,23 @@ use Rattle.paper.specs.Batch.{Header, noHeader}
 use Rattle.paper.specs.Lines.{linesOf, linesFrom}
 use Rattle.paper.specs.Entries.{headLine, kindOf}
 use Rattle.paper.specs.FirstLine.{readFirst}
+use Rattle.paper.specs.Spells.{readAs}
+use Rattle.paper.specs.Judge.{onHead}
 use Rattle.paper.proofs.Starts.{kind-long}
 use Rattle.line.specs.declared.Cut.{Cut}
 use Rattle.line.specs.Cutting.{Cuts}
 use Rattle.kind.specs.declared.LineKind.{LineKind}
-use Rattle.kind.specs.declared.LineKind.the-variants as line-kind
 use Rattle.kind.specs.Told as kinds
 use Rattle.firstline.specs.declared.FirstRead.{FirstRead}
 use Rattle.firstline.specs.declared.FirstRead.the-variants as reads
 use Rattle.firstline.specs.Stages.{nameIn}
 use Rattle.firstline.specs.Told as firsts
-use Rattle.tally.specs.Tally.{Brief, No, Tally, tFirst, tFile, tStop, newBook, isDue, endOf, step, run, tally}
+use Rattle.tally.specs.Tally.{Brief, No, Tally, tFirst, tFile, tStop, newBook, isDue, isFull, meet, onSaid, endOf, step, run, tally}
 use Rattle.group.specs.Stands.{lineIn}
+use Rattle.group.proofs.Steps.{not-due, by-fields}
+use Rattle.group.proofs.Turns.{is-kind}
 use Rattle.group.proofs.Going.{run-stop, run-on}
-use Rattle.reading.specs.declared.Head.{Head}
 use Rattle.reading.specs.Answer.{fromFirst}
-use Rattle.accountfile.proofs.Steps.{head-other as top-other, head-got, head-no}
 
 -- a line's bytes in the file
 abbrev top : List ℕ → Cut → List ℕ
@@ -79,29 +80,30 @@ module _ (sh : Sheet) (today : ℕ) (f : List ℕ) (cut : Cut) (cuts : Cuts f 0 
 
   -- 3: r is the kind that was found, v its name
   pub head-other : (r : LineKind) → kinds.told r ≡ kindOf (top f cut) → (v : LineKind) → r ≡ v → isDue tFirst (kinds.told v) ≡ false → No 3 1 0 ≡ tally sh today f
-  head-other r t v e n = stops 3 0 (top-other sh today 1 (lineIn f 0 (cut .stop)) (kinds.told v) n (sym (rw e at t)))
+  unfolding step
+  head-other r t v e d = stops 3 0 (not-due sh today 1 (lineIn f 0 (cut .stop)) tFirst refl (kinds.told v) (is-kind (top f cut) r t v e _ refl) d)
 
-  -- its fields: r is what was read, x the answer from behind it
+  -- its fields: r is what was read, v the variant that this was found to be, x the answer from behind it
   module _ (e : kindOf (top f cut) ≡ headLine) (r : FirstRead) (t : firsts.told (top f cut) r ≡ readFirst sh (top f cut)) where
+    said : (v : FirstRead) → r ≡ v → onSaid sh 1 0 (firsts.told (top f cut) v) tFirst ≡ step sh today 1 (lineIn f 0 (cut .stop)) tFirst
+    unfolding step isDue isFull readAs
+    said v q = by-fields sh today 1 (lineIn f 0 (cut .stop)) tFirst refl headLine e refl refl _ (rw q at t)
+
     pub head-refused : (n off : ℕ) → r ≡ reads.Refused n off → No n 1 off ≡ tally sh today f
+    unfolding onSaid
     head-refused n off q =
         let z : 0 + off ≡ off = omega arith in
-        stops n off (rw z at (head-no sh today 1 (lineIn f 0 (cut .stop)) e n off (rw q at t)))
+        stops n off (rw z at (said (reads.Refused n off) q))
 
     pub head-plain : r ≡ reads.Plain → (x : Brief) → x ≡ fromFirst sh today f (cut .next) (record { date = 0; client = 0; from = 0; to = 0; named = false }) → x ≡ tally sh today f
-    unfolding fromFirst pick
-    head-plain q x a = a ∙ leads (tFile (newBook noHeader 0)) (head-got sh today 1 (lineIn f 0 (cut .stop)) e noHeader [] (rw q at t))
+    unfolding fromFirst onSaid meet onHead pick
+    head-plain q x a = a ∙ leads (tFile (newBook noHeader 0)) (said reads.Plain q)
 
     pub head-fields : firsts.Sound (top f cut) r → (date client from to : ℕ) → r ≡ reads.Header date client from to
         → (x : Brief) → x ≡ fromFirst sh today f (cut .next) (record { date = date; client = client; from = from; to = to; named = true }) → x ≡ tally sh today f
-    unfolding fromFirst pick
+    unfolding fromFirst onSaid meet onHead pick
     head-fields sound date client from to q x a =
         a
-        ∙ rw (← (name-same f cut (header-long f cut r sound date client from to q)))
-        (leads _ (head-got sh today 1 (lineIn f 0 (cut .stop)) e (record { date = date; name = nameIn (top f cut); client = client; from = from; to = to }) [] (rw q at t)))
+        ∙ rw (← (name-same f cut (header-long f cut r sound date client from to q))) (leads _ (said (reads.Header date client from to) q))
 
--- r is the kind that was found
-pub is-head : (f : List ℕ) (cut : Cut) (r : LineKind) → kinds.told r ≡ kindOf (top f cut) → r ≡ line-kind.Head → kindOf (top f cut) ≡ headLine
-is-head f cut r t e = sym (rw e at t)
-
-pub ruleset heads = (no-line, is-head, head-other, head-long, head-refused, head-plain, head-fields, named, unnamed)
+pub ruleset heads = (no-line, is-kind, head-other, head-long, head-refused, head-plain, head-fields, named, unnamed)

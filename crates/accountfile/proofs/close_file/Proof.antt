@@ -1,7 +1,6 @@
 -- `close_file` meets its contract: no group yet, the line refused, or the account file is closed. Assumes nothing.
 use borrow.Author.Needs.{needs}
-use native.Mathlib.Omega.{arith}
-use Rattle.accountfile.proofs.Groups.{end-within, file-closings}
+use Rattle.accountfile.proofs.Groups.{closing-places, file-closings}
 use Rattle.accountfile.proofs.close_file.Statement.{statement}
 use Rattle.accountfile.proofs.close_file.Tie as tie
 
@@ -23,18 +22,14 @@ close-line-requires c κs = search needs
 enum-told : tie.Need-enum-told
 enum-told c = search needs
 
-add-t20 : tie.Need-add-t20
-add-t20 c = search needs
+add-following : tie.Need-add-following
+add-following c = search needs
 
 enum-known-n : tie.Need-enum-known-n
 enum-known-n c = search needs
 
-add-t21 : tie.Need-add-t21
-add-t21 c =
-    let start = c .before .before .before .before .before .before .before in
-    let a = start .args in
-    omega
-    (arith, end-within (a .f .now) (a .at) (a .cut) (start .pre .1 .1 .0) (a .sh) (start .pre .1 .1 .1) _ (c .before .before .before .close-line .ensures) _ _ (c .before .n .given .1), start .pre .1 .1 .0 .to, start .pre .1 .1 .0 .inside)
+byte-in-requires : tie.Need-byte-in-requires
+byte-in-requires c κs = search (closing-places, needs)
 
 returns-2 : tie.Need-returns-2
 returns-2 c = search file-closings
@@ -52,8 +47,8 @@ close-file-spec =
     part-close-line-end
     close-line-requires
     enum-told
-    add-t20
+    add-following
     enum-known-n
-    add-t21
+    byte-in-requires
     returns-2
     returns-3)

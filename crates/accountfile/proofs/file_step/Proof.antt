@@ -1,6 +1,8 @@
 -- `file_step` meets its contract: the end of the file, an account file, or 3 for each other kind of line. Assumes nothing.
 use borrow.Author.Needs.{needs}
-use Rattle.accountfile.proofs.Files.{file-ends, is-file, file-others}
+use Rattle.tally.specs.Tally.{isDue}
+use Rattle.group.proofs.Turns.{is-kind}
+use Rattle.accountfile.proofs.Files.{file-lines}
 use Rattle.accountfile.proofs.file_step.Statement.{statement}
 use Rattle.accountfile.proofs.file_step.Tie as tie
 
@@ -8,7 +10,7 @@ end-file-requires : tie.Need-end-file-requires
 end-file-requires c κs = search needs
 
 returns : tie.Need-returns
-returns c = search file-ends
+returns c = search file-lines
 
 next-line-requires : tie.Need-next-line-requires
 next-line-requires c κs = search needs
@@ -29,9 +31,7 @@ enum-told : tie.Need-enum-told
 enum-told c = search needs
 
 open-file-requires : tie.Need-open-file-requires
-open-file-requires c κs =
-    let start = c .before .before .before .before .before .before .before .before in
-    (start .pre .0, (start .pre .1, (c .before .before .before .before .before .next-line .ensures, search is-file)))
+open-file-requires c κs = (search needs, (search needs, (search needs, search is-kind)))
 
 enum-told-2 : tie.Need-enum-told-2
 enum-told-2 c = search needs
@@ -52,19 +52,24 @@ returns-2 : tie.Need-returns-2
 returns-2 c = search needs
 
 returns-3 : tie.Need-returns-3
-returns-3 c = search file-others
+unfolding isDue
+returns-3 c = search file-lines
 
 returns-4 : tie.Need-returns-4
-returns-4 c = search file-others
+unfolding isDue
+returns-4 c = search file-lines
 
 returns-5 : tie.Need-returns-5
-returns-5 c = search file-others
+unfolding isDue
+returns-5 c = search file-lines
 
 returns-6 : tie.Need-returns-6
-returns-6 c = search file-others
+unfolding isDue
+returns-6 c = search file-lines
 
 returns-7 : tie.Need-returns-7
-returns-7 c = search file-others
+unfolding isDue
+returns-7 c = search file-lines
 
 pub file-step-spec : {M : Type 1} → statement M
 file-step-spec =

@@ -1,11 +1,14 @@
 -- `group_step` meets its contract: a group, the end of the account file, or 3 for each other kind of line. Assumes nothing.
 use borrow.Author.Needs.{needs}
-use Rattle.accountfile.proofs.Groups.{group-ends, is-group, is-file-end, group-others}
+use Rattle.base.specs.Pick.{pick}
+use Rattle.tally.specs.Tally.{isDue}
+use Rattle.group.proofs.Turns.{is-kind}
+use Rattle.accountfile.proofs.Groups.{group-lines}
 use Rattle.accountfile.proofs.group_step.Statement.{statement}
 use Rattle.accountfile.proofs.group_step.Tie as tie
 
 returns : tie.Need-returns
-returns c = search group-ends
+returns c = search group-lines
 
 next-line-requires : tie.Need-next-line-requires
 next-line-requires c κs = search needs
@@ -26,17 +29,13 @@ enum-told : tie.Need-enum-told
 enum-told c = search needs
 
 open-group-requires : tie.Need-open-group-requires
-open-group-requires c κs =
-    let start = c .before .before .before .before .before .before .before in
-    (start .pre .0, (start .pre .1, (c .before .before .before .before .next-line .ensures, search is-group)))
+open-group-requires c κs = (search needs, (search needs, (search needs, search is-kind)))
 
 enum-told-2 : tie.Need-enum-told-2
 enum-told-2 c = search needs
 
 close-file-requires : tie.Need-close-file-requires
-close-file-requires c κs =
-    let start = c .before .before .before .before .before .before .before in
-    (start .pre .0 .0, (start .pre .1, (c .before .before .before .before .next-line .ensures, search is-file-end)))
+close-file-requires c κs = (search needs, (search needs, (search needs, search is-kind)))
 
 enum-told-3 : tie.Need-enum-told-3
 enum-told-3 c = search needs
@@ -54,20 +53,23 @@ returns-2 : tie.Need-returns-2
 returns-2 c = search needs
 
 returns-3 : tie.Need-returns-3
-returns-3 c =
-    c .close-file .ensures _
+returns-3 c = search group-lines
 
 returns-4 : tie.Need-returns-4
-returns-4 c = search group-others
+unfolding isDue pick
+returns-4 c = search group-lines
 
 returns-5 : tie.Need-returns-5
-returns-5 c = search group-others
+unfolding isDue pick
+returns-5 c = search group-lines
 
 returns-6 : tie.Need-returns-6
-returns-6 c = search group-others
+unfolding isDue pick
+returns-6 c = search group-lines
 
 returns-7 : tie.Need-returns-7
-returns-7 c = search group-others
+unfolding isDue pick
+returns-7 c = search group-lines
 
 pub group-step-spec : {M : Type 1} → statement M
 group-step-spec =

@@ -1,12 +1,11 @@
 -- `open_file` meets its contract: 15, the line refused, or its number put to those seen; offsets stay in the file. Assumes nothing.
 use borrow.Author.Needs.{needs}
-use native.Mathlib.Omega.{arith}
-use Rattle.accountfile.proofs.Files.{file-long, series-low, file-within, file-15, file-opened, file-refused}
+use Rattle.accountfile.proofs.Files.{file-places, file-lines}
 use Rattle.accountfile.proofs.open_file.Statement.{statement}
 use Rattle.accountfile.proofs.open_file.Tie as tie
 
 returns : tie.Need-returns
-returns c = search file-15
+returns c = search file-lines
 
 sub-file-line : tie.Need-sub-file-line
 sub-file-line c = search needs
@@ -18,16 +17,16 @@ part-file-line-end : tie.Need-part-file-line-end
 part-file-line-end c = search needs
 
 file-line-requires : tie.Need-file-line-requires
-file-line-requires c κs = search (file-long, needs)
+file-line-requires c κs = search (file-places, needs)
 
 enum-known-number : tie.Need-enum-known-number
 enum-known-number c = search needs
 
 mark-requires : tie.Need-mark-requires
-mark-requires c κs = search (series-low, needs)
+mark-requires c κs = search (file-places, needs)
 
-add-t27 : tie.Need-add-t27
-add-t27 c = search needs
+add-following : tie.Need-add-following
+add-following c = search needs
 
 file-more-requires : tie.Need-file-more-requires
 file-more-requires c κs = search needs
@@ -35,18 +34,14 @@ file-more-requires c κs = search needs
 enum-known-n : tie.Need-enum-known-n
 enum-known-n c = search needs
 
-add-t30 : tie.Need-add-t30
-add-t30 c =
-    let start = c .before .before .before .before .before .before .before .before in
-    let a = start .args in
-    omega
-    (arith, file-within (a .sh) _ (a .f .now) (a .at) (a .cut) (start .pre .1 .1 .0) (start .pre .1 .1 .1) _ (c .before .before .before .file-line .ensures) _ _ (c .before .n .given .1), start .pre .1 .1 .0 .to, start .pre .1 .1 .0 .inside)
+byte-in-requires : tie.Need-byte-in-requires
+byte-in-requires c κs = search (file-places, needs)
 
 returns-2 : tie.Need-returns-2
-returns-2 c = search file-opened
+returns-2 c = search file-lines
 
 returns-3 : tie.Need-returns-3
-returns-3 c = search file-refused
+returns-3 c = search file-lines
 
 pub open-file-spec : {M : Type 1} → statement M
 open-file-spec =
@@ -59,9 +54,9 @@ open-file-spec =
     file-line-requires
     enum-known-number
     mark-requires
-    add-t27
+    add-following
     file-more-requires
     enum-known-n
-    add-t30
+    byte-in-requires
     returns-2
     returns-3)

@@ -1,6 +1,6 @@
 -- `whole_group` meets its contract: where reading stands behind the group is what `group_items` answered. Assumes nothing.
 use borrow.Author.Needs.{needs}
-use Rattle.accountfile.proofs.Groups.{group-closed, group-stopped}
+use Rattle.accountfile.proofs.Groups.{behind-group}
 use Rattle.accountfile.proofs.whole_group.Statement.{statement}
 use Rattle.accountfile.proofs.whole_group.Tie as tie
 
@@ -14,10 +14,10 @@ enum-known-n : tie.Need-enum-known-n
 enum-known-n c = search needs
 
 returns : tie.Need-returns
-returns c = search (group-closed, group-stopped)
+returns c = search behind-group
 
 returns-2 : tie.Need-returns-2
-returns-2 c = search (group-closed, group-stopped)
+returns-2 c = search behind-group
 
 pub whole-group-spec : {M : Type 1} → statement M
 whole-group-spec =

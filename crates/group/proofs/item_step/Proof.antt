@@ -1,6 +1,8 @@
 -- `item_step`: a line of an open group by its kind. Assumes nothing.
 use borrow.Author.Needs.{needs}
-use Rattle.group.proofs.Turns.{is-item, is-end, others}
+use Rattle.base.specs.Pick.{pick}
+use Rattle.tally.specs.Tally.{isDue}
+use Rattle.group.proofs.Turns.{turns}
 use Rattle.group.proofs.item_step.Statement.{statement}
 use Rattle.group.proofs.item_step.Tie as tie
 
@@ -20,13 +22,13 @@ enum-told : tie.Need-enum-told
 enum-told c = search needs
 
 item-turn-requires : tie.Need-item-turn-requires
-item-turn-requires c κs = search (is-item, needs)
+item-turn-requires c κs = search (turns, needs)
 
 enum-told-2 : tie.Need-enum-told-2
 enum-told-2 c = search needs
 
 close-turn-requires : tie.Need-close-turn-requires
-close-turn-requires c κs = search (is-end, needs)
+close-turn-requires c κs = search (turns, needs)
 
 enum-told-3 : tie.Need-enum-told-3
 enum-told-3 c = search needs
@@ -47,16 +49,20 @@ returns-2 : tie.Need-returns-2
 returns-2 c = search needs
 
 returns-3 : tie.Need-returns-3
-returns-3 c = search others
+unfolding isDue pick
+returns-3 c = search turns
 
 returns-4 : tie.Need-returns-4
-returns-4 c = search others
+unfolding isDue pick
+returns-4 c = search turns
 
 returns-5 : tie.Need-returns-5
-returns-5 c = search others
+unfolding isDue pick
+returns-5 c = search turns
 
 returns-6 : tie.Need-returns-6
-returns-6 c = search others
+unfolding isDue pick
+returns-6 c = search turns
 
 pub item-step-spec : {M : Type 1} → statement M
 item-step-spec =

@@ -1,18 +1,17 @@
 -- `item_turn`: 15 before the fields, then the item as it is judged. Assumes nothing.
 use borrow.Author.Needs.{needs}
-use native.Mathlib.Omega.{arith}
-use Rattle.group.proofs.Turns.{item-within, items-turn}
+use Rattle.group.proofs.Turns.{places, turns}
 use Rattle.group.proofs.item_turn.Statement.{statement}
 use Rattle.group.proofs.item_turn.Tie as tie
 
 returns : tie.Need-returns
-returns c = search items-turn
+returns c = search turns
 
 limits-requires : tie.Need-limits-requires
 limits-requires c κs = search needs
 
 returns-2 : tie.Need-returns-2
-returns-2 c = search items-turn
+returns-2 c = search turns
 
 sub-judge-item : tie.Need-sub-judge-item
 sub-judge-item c = search needs
@@ -32,17 +31,14 @@ enum-known-amount c = search needs
 enum-known-n : tie.Need-enum-known-n
 enum-known-n c = search needs
 
-add-t24 : tie.Need-add-t24
-add-t24 c =
-    let a = c .before .before .before .before .before .before .before .before .before .before .args in
-    omega
-    (arith, item-within (a .sh) (a .opened .single) (a .f .now) (a .at) (a .stop) _ (c .before .before .before .judge-item .ensures) _ _ (c .before .n .given .1) (omega arith) (omega arith))
+byte-in-requires : tie.Need-byte-in-requires
+byte-in-requires c κs = search (places, needs)
 
 returns-3 : tie.Need-returns-3
-returns-3 c = search items-turn
+returns-3 c = search turns
 
 returns-4 : tie.Need-returns-4
-returns-4 c = search items-turn
+returns-4 c = search turns
 
 pub item-turn-spec : {M : Type 1} → statement M
 item-turn-spec =
@@ -57,6 +53,6 @@ item-turn-spec =
     judge-item-requires
     enum-known-amount
     enum-known-n
-    add-t24
+    byte-in-requires
     returns-3
     returns-4)
