@@ -1,5 +1,5 @@
 -- The line of an account file, and the file's end: where reading stands behind it. Assumes nothing.
-use mathlib.Core.Path.{_≡_, refl, sym, ap, _∙_}
+use mathlib.Core.Path.{_≡_, refl, ap, _∙_}
 use mathlib.Core.Bool.{Bool, false}
 use mathlib.Core.List.{List, [], _∷_}
 use Prim.Native.Nat.{ℕ, _+_, _/_, _≤_, _<_}
@@ -9,7 +9,6 @@ use borrow.Author.Tests.{le-leb, lt-leb, eq-eqb, ne-eqb}
 use Rattle.base.specs.Pick.{pick}
 use Rattle.sheet.specs.declared.Sheet.{Sheet}
 use Rattle.paper.specs.Batch.{Header}
-use Rattle.paper.specs.Lines.{linesFrom}
 use Rattle.paper.specs.Entries.{file, got, no, Kind, fileLine, kindOf}
 use Rattle.paper.specs.Spells.{allowedIn, readAs}
 use Rattle.paper.specs.Judge.{onFile}
@@ -28,13 +27,13 @@ use Rattle.fileline.specs.declared.FileRead.the-variants as reads
 use Rattle.fileline.specs.Free.{numberFree}
 use Rattle.fileline.specs.Told as files
 use Rattle.fileline.proofs.Set.{free-allowed}
-use Rattle.tally.specs.Tally.{No, Tally, tFile, tStop, contextOf, isDue, isFull, meet, onSaid, endOf, step, run}
+use Rattle.tally.specs.Tally.{No, tFile, tStop, contextOf, isDue, isFull, meet, onSaid, endOf, step, run}
 use Rattle.tally.proofs.Small.{file-limits}
 use Rattle.group.specs.declared.Counts.{Counts}
 use Rattle.group.specs.Stands.{bookOf, lineIn}
 use Rattle.group.proofs.Steps.{not-due, no-room, by-fields}
 use Rattle.group.proofs.Turns.{cut as cut-of, is-kind, known-long, within}
-use Rattle.group.proofs.Going.{run-stop, run-on}
+use Rattle.group.proofs.Going.{run-stops, run-on}
 use Rattle.accountfile.specs.declared.Left.{Left}
 use Rattle.accountfile.specs.declared.Left.the-variants as left
 use Rattle.accountfile.specs.Resume.{resume, AtFile, fileMore, Moved, Ends, Stepped}
@@ -92,12 +91,6 @@ module _ (at k : ℕ) (c : Counts) where
 pub ruleset endings = (end-early, end-accepted)
 
 module _ (sh : Sheet) (f : List ℕ) (at k : ℕ) (c : Counts) (cut : Cut) (cuts : Cuts f at cut) where
-  -- the line leads to d
-  leads : (today : ℕ) (h : Header) (l : List ℕ) (d : Tally) → d ≡ step sh today k (lineIn f at (cut .stop)) (tFile (bookOf h l c))
-      → run sh today (length f) (k + 1) (linesFrom f (cut .next)) d ≡ resume sh today f h l (left.File at k c)
-  unfolding resume
-  leads today h l d e = run-on sh today (length f) k f at cut cuts (tFile (bookOf h l c)) d e
-
   module _ (from to : ℕ) (words : List ℕ) where
     -- it is refused
     stops : (n byte : ℕ)
@@ -107,7 +100,7 @@ module _ (sh : Sheet) (f : List ℕ) (at k : ℕ) (c : Counts) (cut : Cut) (cuts
     stops n byte e =
         record {
           same = λ today h p q l held.
-              (l, held, sym (run-stop sh today (length f) (k + 1) (linesFrom f (cut .next)) (No n k byte)) ∙ leads today h l (tStop (No n k byte)) (e today h p q l held));
+              (l, held, run-stops sh today (length f) k f at cut cuts (tFile (bookOf h l c)) (No n k byte) (e today h p q l held));
           good = tt;
           less = omega arith;
         }
@@ -150,7 +143,7 @@ module _ (sh : Sheet) (f : List ℕ) (at k : ℕ) (c : Counts) (cut : Cut) (cuts
           unfolding resume onSaid meet onFile
           opened-same today h p q l held =
               let z : c .warnings + 0 ≡ c .warnings = omega arith in
-              leads today h l _ (rw z at (said (reads.File kind number) x today h p q l held))
+              run-on sh today (length f) k f at cut cuts (tFile (bookOf h l c)) _ (rw z at (said (reads.File kind number) x today h p q l held))
 
           pub file-opened : (more : Counts) → more ≡ fileMore c
               → Stepped sh from to f (left.File at k c) words after (left.Group (cut .next) (k + 1) more (record { items = 0; groups = 0 }))

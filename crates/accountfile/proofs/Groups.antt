@@ -1,5 +1,5 @@
 -- A whole group, and the line that closes an account file: where reading stands behind it. Assumes nothing.
-use mathlib.Core.Path.{_≡_, refl, sym, _∙_}
+use mathlib.Core.Path.{_≡_, refl, _∙_}
 use mathlib.Core.Bool.{Bool, false}
 use mathlib.Core.List.{List, [], _∷_}
 use Prim.Native.Nat.{ℕ, _+_, _≤_}
@@ -10,7 +10,6 @@ use Rattle.base.specs.Pick.{pick}
 use Rattle.sheet.specs.declared.Sheet.{Sheet}
 use Rattle.paper.specs.Accounts.{Account, account, isNobody}
 use Rattle.paper.specs.Batch.{Header}
-use Rattle.paper.specs.Lines.{linesFrom}
 use Rattle.paper.specs.Entries.{Entry, group, closeFile, got, no, groupLine, fileEnd, kindOf}
 use Rattle.paper.specs.GroupLine.{readGroup}
 use Rattle.paper.specs.ClosingLine.{readClose}
@@ -35,15 +34,15 @@ use Rattle.group.specs.declared.Shelf.{Shelf}
 use Rattle.group.specs.declared.Held.{Held}
 use Rattle.group.specs.declared.GroupEnd.{GroupEnd}
 use Rattle.group.specs.declared.GroupEnd.the-variants as end
-use Rattle.group.specs.Stands.{inGroup, inFile, LowItem, LowGroup, lineIn, resumeGroup, Begun, Ended}
+use Rattle.group.specs.Stands.{inFile, LowGroup, lineIn, resumeGroup, Begun, Ended}
 use Rattle.group.proofs.Steps.{not-due, by-fields}
 use Rattle.group.proofs.Turns.{cut as cut-of, is-kind, known-long, close-within, within}
-use Rattle.group.proofs.Going.{run-stop, run-on}
+use Rattle.group.proofs.Going.{run-stops, run-on}
 use Rattle.accountfile.specs.declared.Opening.{Opening}
 use Rattle.accountfile.specs.declared.Opening.the-variants as opening
 use Rattle.accountfile.specs.declared.Left.{Left}
 use Rattle.accountfile.specs.declared.Left.the-variants as left
-use Rattle.accountfile.specs.Resume.{resume, AtGroup, groupHeld, Opens, Grouped, Moved}
+use Rattle.accountfile.specs.Resume.{resume, AtGroup, groupHeld, NewHeld, Opens, Grouped, Moved}
 use Rattle.accountfile.proofs.Files.{cut-inside}
 
 -- ---- places in a line
@@ -65,16 +64,28 @@ module _ (f : List ℕ) (at stop : ℕ) (p : at ≤ stop) (q : stop ≤ length f
 pub warns-once : (r : GroupRead) → groups.Low r → (prefix base total date warnings spot : ℕ) → r ≡ reads.Group prefix base total date warnings spot → warnings ≤ 1
 warns-once r low prefix base total date warnings spot q = let x : groups.Low (reads.Group prefix base total date warnings spot) = rw q at low in x .1
 
--- an open group as the code makes it
-pub held-new : (c : Counts) (s : Shelf) (warnings : ℕ) (payer : Account) (total k byte : ℕ) (single : Bool) → single ≡ isNobody payer
-    → record {
+-- an open group as the code makes it: its numbers are small
+pub held-new : (c : Counts) (s : Shelf) (warnings : ℕ) (payer : Account) (total k byte : ℕ) → LowGroup c s → warnings ≤ 1 → (single : Bool) → single ≡ isNobody payer
+    → NewHeld c s warnings payer total k byte
+    (record {
       counts = record { files = c .files; items = c .items; rows = c .rows + 1; warnings = c .warnings + warnings };
       shelf = s;
       opened = record { single = single; total = total; line = k; byte = byte; sum = 0; count = 0 };
-    }
-    ≡ groupHeld c s warnings payer total k byte
+    })
 unfolding groupHeld
-held-new c s warnings payer total k byte single e = rw e
+held-new c s warnings payer total k byte low one single e =
+    record {
+      same = rw e;
+      low = record {
+        files = low .files;
+        items = low .items;
+        rows = omega (arith, low .rows);
+        warnings = omega (arith, low .warnings);
+        shelf = low .shelf;
+        groups = omega (arith, low .groups);
+        sum = omega arith;
+      };
+    }
 
 -- ---- a group's line: r is what it says, v the variant that this was found to be
 
@@ -88,29 +99,12 @@ module _ (sh : Sheet) (today : ℕ) (f : List ℕ) (at stop k : ℕ) (c : Counts
   unfolding onSaid
   opening-refused n off q byte y = rw y (record { same = said (reads.Refused n off) q; low = tt })
 
-  module _ (prefix base total date warnings spot : ℕ) (q : r ≡ reads.Group prefix base total date warnings spot) where
-    -- its numbers are small
-    opening-low : LowGroup c s → warnings ≤ 1 → (byte : ℕ) → LowItem (groupHeld c s warnings (account prefix base) total k byte)
-    unfolding groupHeld
-    opening-low low one byte =
-        record {
-          files = low .files;
-          items = low .items;
-          rows = omega (arith, low .rows);
-          warnings = omega (arith, low .warnings);
-          shelf = low .shelf;
-          groups = omega (arith, low .groups);
-          sum = omega arith;
-        }
-
-    opening-same : (h : Header) (l : List ℕ) → inGroup h l (groupHeld c s warnings (account prefix base) total k (at + spot)) ≡ step sh today k (lineIn f at stop) (inFile h l c s)
-    unfolding onSaid meet onGroup firstOr0 groupHeld
-    opening-same = said (reads.Group prefix base total date warnings spot) q
-
-    pub opening-group : groups.Low r → LowGroup c s → (byte : ℕ) → byte ≡ at + spot → (x : Held) → x ≡ groupHeld c s warnings (account prefix base) total k byte
-        → Opens sh today (lineIn f at stop) k c s (opening.Group x)
-    opening-group warns low byte y x m =
-        rw (m, y) (record { same = opening-same; low = opening-low low (warns-once r warns prefix base total date warnings spot q) (at + spot) })
+  pub opening-group : (prefix base total date warnings spot : ℕ) → r ≡ reads.Group prefix base total date warnings spot → (byte : ℕ) → byte ≡ at + spot
+      → (x : Held) → NewHeld c s warnings (account prefix base) total k byte x → Opens sh today (lineIn f at stop) k c s (opening.Group x)
+  unfolding onSaid meet onGroup firstOr0 groupHeld
+  opening-group prefix base total date warnings spot q byte y x new =
+      let same : x ≡ groupHeld c s warnings (account prefix base) total k (at + spot) = rw y at (new .same) in
+      record { same = λ h l. rw same (said (reads.Group prefix base total date warnings spot) q h l); low = new .low }
 
 -- ---- behind a group
 
@@ -148,9 +142,7 @@ module _ (sh : Sheet) (f : List ℕ) (at k : ℕ) (c : Counts) (s : Shelf) (cut 
   unfolding resume
   stops today n byte e =
       record {
-        same = λ h l.
-            sym (run-stop sh today (length f) (k + 1) (linesFrom f (cut .next)) (No n k byte))
-            ∙ run-on sh today (length f) k f at cut cuts (inFile h l c s) (tStop (No n k byte)) (e h l);
+        same = λ h l. run-stops sh today (length f) k f at cut cuts (inFile h l c s) (No n k byte) (e h l);
         good = tt;
         less = omega arith;
       }

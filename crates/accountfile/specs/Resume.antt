@@ -71,11 +71,17 @@ groupHeld c s warnings payer total k byte =
       opened = record { single = isNobody payer; total = total; line = k; byte = byte; sum = 0; count = 0 };
     }
 
+-- x is that group, and its numbers are small
+pub record NewHeld (c : Counts) (s : Shelf) (warnings : ℕ) (payer : Account) (total k byte : ℕ) (x : Held) : Type 0 where
+  pub same : x ≡ groupHeld c s warnings payer total k byte
+  pub low : LowItem x
+
 -- what line k, a group's, leads to: the open group, or the answer
 abbrev pub openedTo : ℕ → Header → List ℕ → Opening → Tally
 openedTo k h l (opening.Group x) = inGroup h l x
 openedTo k h l (opening.Refused n byte) = tStop (No n k byte)
 
+-- the group's numbers are small
 abbrev pub LowOpening : Opening → Type 0
 LowOpening (opening.Group x) = LowItem x
 LowOpening (opening.Refused n byte) = Unit {0}

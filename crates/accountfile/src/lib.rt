@@ -21,7 +21,7 @@ ghost use Rattle.paper.specs.Days.{realDay};
 ghost use Rattle.paper.specs.Entries.{fileLine, groupLine, fileEnd, kindOf};
 ghost use Rattle.line.specs.Cutting.{Cuts};
 ghost use Rattle.group.specs.Stands.{LowGroup, lineIn, Begun};
-ghost use Rattle.accountfile.specs.Resume.{fileMore, groupHeld, Opens, Good, Grouped, Moved, Ends, Stepped};
+ghost use Rattle.accountfile.specs.Resume.{fileMore, NewHeld, Opens, Good, Grouped, Moved, Ends, Stepped};
 
 // Where reading stands: before an account file or its end, at a place with its line's number; before a group or the account file's end;
 // or at the answer.
@@ -152,7 +152,7 @@ fn group_held(
     byte: u64,
 ) -> Held
     requires { ⌜ LowGroup counts shelf × (warnings ≤ 1) ⌝ }
-    ensures { λ r. ⌜ r ≡ groupHeld counts shelf warnings (account prefix base) total line byte ⌝ }
+    ensures { λ r. ⌜ NewHeld counts shelf warnings (account prefix base) total line byte r ⌝ }
 {
     let rows = counts.rows + 1;
     let warned = counts.warnings + warnings;

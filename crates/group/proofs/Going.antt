@@ -34,7 +34,7 @@ use Rattle.group.specs.Stands.{bookOf, shelfOf, inGroup, LowItem, LowGro
 -- ---- lines
 
 -- an answer stays as it is
-pub run-stop : (sh : Sheet) (today n k : ℕ) (ts : List Line) (a : Brief) → run sh today n k ts (tStop a) ≡ a
+run-stop : (sh : Sheet) (today n k : ℕ) (ts : List Line) (a : Brief) → run sh today n k ts (tStop a) ≡ a
 unfolding run step endOf
 run-stop sh today n k [] a = refl
 run-stop sh today n k (t ∷ ts) a = run-stop sh today n (suc k) ts a
@@ -44,6 +44,10 @@ module _ (sh : Sheet) (today n k : ℕ) (f : List ℕ) (at : ℕ) (cut : Cut) (c
   pub run-on : (c c′ : Tally) → c′ ≡ step sh today k (lineIn f at (cut .stop)) c → run sh today n (k + 1) (linesFrom f (cut .next)) c′ ≡ run sh today n k (linesFrom f at) c
   unfolding run
   run-on c c′ e = rw (cuts .lines, e, add-one)
+
+  -- .. which ends it
+  pub run-stops : (c : Tally) (a : Brief) → tStop a ≡ step sh today k (lineIn f at (cut .stop)) c → a ≡ run sh today n k (linesFrom f at) c
+  run-stops c a e = sym (run-stop sh today n (k + 1) (linesFrom f (cut .next)) a) ∙ run-on c (tStop a) e
 
 -- ---- what is small stays so
 

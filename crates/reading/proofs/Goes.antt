@@ -2,7 +2,7 @@
 use mathlib.Core.Path.{_≡_, refl, sym, ap, _∙_}
 use mathlib.Core.Bool.{true}
 use mathlib.Core.List.{List, []}
-use Prim.Native.Nat.{ℕ, _-_, _≤_, _<_, min}
+use Prim.Native.Nat.{ℕ, _+_, _-_, _≤_, _<_, min}
 use native.Mathlib.Omega.{arith}
 use lib.ListN.{length, replicate}
 use Rattle.sheet.specs.declared.Sheet.{Sheet}
@@ -15,7 +15,7 @@ use Rattle.group.specs.declared.Counts.{Counts}
 use Rattle.group.specs.declared.Shelf.{Shelf}
 use Rattle.accountfile.specs.declared.Left.{Left}
 use Rattle.accountfile.specs.declared.Left.the-variants as left
-use Rattle.accountfile.specs.Resume.{resume, AtFile, AtGroup, Good, toGo, Moved, Stepped}
+use Rattle.accountfile.specs.Resume.{resume, AtFile, AtGroup, Good, toGo, Moved, Same, Stepped}
 
 -- ---- the readers: m is a step's answer, which was found to be n
 
@@ -28,6 +28,22 @@ went-none sh today from to f o b words e good =
 pub budget-less : (b t : ℕ) → b ≡ t → (b ≡ 0 → ⊥) → b - 1 < t
 budget-less b t e n = omega arith
 
+-- a step led from o to n: a reader went on from n with one less of the budget, or reading stops at n
+module _ {sh : Sheet} {today from to : ℕ} {f : List ℕ} {o n : Left} {before between : List ℕ} (same : Same sh today from to f o before between n) (less : toGo f n + 1 ≤ toGo f o) where
+  goes-on : {b : ℕ} {after : List ℕ} {r : Left} → Went sh today from to f n (b - 1) between after r → Went sh today from to f o b before after r
+  goes-on w =
+      record {
+        same = λ h i j l held.
+            let x = same h i j l held in
+            let y = w .same h i j (x .0) (x .1) in
+            (y .0, y .1, y .2 ∙ x .2);
+        good = w .good;
+        less = omega (arith, w .less);
+      }
+
+  goes-last : {b : ℕ} → Good f n → Went sh today from to f o b before between n
+  goes-last good = record { same = same; good = good; less = omega arith }
+
 -- a step that may change the words
 module _ (sh : Sheet) (from to : ℕ) (f : List ℕ) (o m : Left) (before between : List ℕ) (p : Stepped sh from to f o before between m) where
   pub stepped-group : (at k : ℕ) (c : Counts) (s : Shelf) → m ≡ left.Group at k c s → AtGroup f at k c s
@@ -37,23 +53,13 @@ module _ (sh : Sheet) (from to : ℕ) (f : List ℕ) (o m : Left) (before betwee
     stepped : Stepped sh from to f o before between n
     stepped = rw e at p
 
-    -- a reader went on from n, with one less of the budget
     pub stepped-on : (after : List ℕ) (r : Left) → Went sh today from to f n (b - 1) between after r → Went sh today from to f o b before after r
-    stepped-on after r w =
-        record {
-          same = λ h i j l held.
-              let x = stepped .same today h i j l held in
-              let y = w .same h i j (x .0) (x .1) in
-              (y .0, y .1, y .2 ∙ x .2);
-          good = w .good;
-          less = omega (arith, stepped .less, w .less);
-        }
+    stepped-on after r w = goes-on (stepped .same today) (stepped .less) w
 
-    -- reading stops at n
     pub stepped-last : Went sh today from to f o b before between n
-    stepped-last = record { same = stepped .same today; good = stepped .good; less = omega (arith, stepped .less) }
+    stepped-last = goes-last (stepped .same today) (stepped .less) (stepped .good)
 
--- the same of a step that leaves the words
+-- a step that leaves them
 module _ (sh : Sheet) (today : ℕ) (f : List ℕ) (o m : Left) (p : Moved sh today f o m) where
   pub moved-group : (at k : ℕ) (c : Counts) (s : Shelf) → m ≡ left.Group at k c s → AtGroup f at k c s
   moved-group at k c s e = let q : Moved sh today f o (left.Group at k c s) = rw e at p in q .good
@@ -65,18 +71,14 @@ module _ (sh : Sheet) (today : ℕ) (f : List ℕ) (o m : Left) (p : Moved sh to
     moved : Moved sh today f o n
     moved = rw e at p
 
+    same-words : Same sh today from to f o words words n
+    same-words h i j l held = (l, held, moved .same h l)
+
     pub moved-on : (after : List ℕ) (r : Left) → Went sh today from to f n (b - 1) words after r → Went sh today from to f o b words after r
-    moved-on after r w =
-        record {
-          same = λ h i j l held.
-              let y = w .same h i j l held in
-              (y .0, y .1, y .2 ∙ moved .same h l);
-          good = w .good;
-          less = omega (arith, moved .less, w .less);
-        }
+    moved-on after r w = goes-on same-words (moved .less) w
 
     pub moved-last : Went sh today from to f o b words words n
-    moved-last = record { same = λ h i j l held. (l, held, moved .same h l); good = moved .good; less = omega (arith, moved .less) }
+    moved-last = goes-last same-words (moved .less) (moved .good)
 
 pub ruleset readers = (went-none, stepped-on, stepped-last, moved-on, moved-last)
 

@@ -29,7 +29,7 @@ use Rattle.tally.specs.Tally.{Brief, No, Tally, tFirst, tFile, tStop, newBook, 
 use Rattle.group.specs.Stands.{lineIn}
 use Rattle.group.proofs.Steps.{not-due, by-fields}
 use Rattle.group.proofs.Turns.{is-kind}
-use Rattle.group.proofs.Going.{run-stop, run-on}
+use Rattle.group.proofs.Going.{run-stops, run-on}
 use Rattle.reading.specs.Answer.{fromFirst}
 
 -- a line's bytes in the file
@@ -76,7 +76,8 @@ module _ (sh : Sheet) (today : ℕ) (f : List ℕ) (cut : Cut) (cuts : Cuts f 0 
   leads c e = run-on sh today (length f) 1 f 0 cut cuts tFirst c e
 
   stops : (n byte : ℕ) → tStop (No n 1 byte) ≡ step sh today 1 (lineIn f 0 (cut .stop)) tFirst → No n 1 byte ≡ tally sh today f
-  stops n byte e = sym (run-stop sh today (length f) 2 (linesFrom f (cut .next)) (No n 1 byte)) ∙ leads (tStop (No n 1 byte)) e
+  unfolding tally linesFrom
+  stops n byte e = run-stops sh today (length f) 1 f 0 cut cuts tFirst (No n 1 byte) e
 
   -- 3: r is the kind that was found, v its name
   pub head-other : (r : LineKind) → kinds.told r ≡ kindOf (top f cut) → (v : LineKind) → r ≡ v → isDue tFirst (kinds.told v) ≡ false → No 3 1 0 ≡ tally sh today f
