@@ -1,3 +1,6 @@
 pub mod Small
 pub mod Judging
 pub mod Bounds
+pub mod Tests
+pub mod Bytes
+pub mod Next

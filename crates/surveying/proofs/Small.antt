@@ -3,16 +3,14 @@ use mathlib.Core.Path.{_≡_}
 use Prim.Native.Nat.{ℕ, _+_}
 use lib.ListN.{length}
 use Rattle.paper.specs.Numerals.{decimal}
-use Rattle.paper.specs.Proper.{Verdict}
 use Rattle.flat.specs.Count.{groupClosing, fileClosing}
 use Rattle.rowread.specs.declared.Check.{Check}
 use Rattle.rowread.specs.declared.Check.the-variants as check
-use Rattle.rowread.specs.After.{after}
 use Rattle.surveying.specs.declared.Stage.{Stage}
 use Rattle.surveying.specs.declared.Stage.the-variants as stage
 use Rattle.surveying.specs.declared.Found.{Found}
 use Rattle.surveying.specs.declared.Found.the-variants as found
-use Rattle.surveying.specs.Stands.{stageOf, kept}
+use Rattle.surveying.specs.Stands.{stageOf, Keeps}
 
 -- ---- bytes that close what is open
 
@@ -54,15 +52,15 @@ module _ (st : Stage) (sum : ℕ) where
 -- ---- what was found
 
 module _ (f : Found) (k : ℕ) (c : Check) where
-  pub keep-first : (row field : ℕ) → f ≡ found.At row field → (v : Verdict) → kept (found.At row field) v ≡ kept f (after k c v)
-  keep-first row field e v = rw e
+  pub keep-first : (row field : ℕ) → f ≡ found.At row field → Keeps k f c (found.At row field)
+  keep-first row field e = record { same = λ v. rw e }
 
   module _ (e : f ≡ found.Nothing) where
-    pub keep-nothing : c ≡ check.Fine → (v : Verdict) → kept found.Nothing v ≡ kept f (after k c v)
-    keep-nothing d v = rw (e, d)
+    pub keep-nothing : c ≡ check.Fine → Keeps k f c found.Nothing
+    keep-nothing d = record { same = λ v. rw (e, d) }
 
-    pub keep-this : (field : ℕ) → c ≡ check.Wrong field → (v : Verdict) → kept (found.At k field) v ≡ kept f (after k c v)
-    keep-this field d v = rw (e, d)
+    pub keep-this : (field : ℕ) → c ≡ check.Wrong field → Keeps k f c (found.At k field)
+    keep-this field d = record { same = λ v. rw (e, d) }
 
 pub ruleset closings =
     (file-closing-top, file-closing-empty, file-closing-bare, file-closing-open, group-closing-top, group-closing-empty, group-closing-bare, group-closing-open)

@@ -1,3 +1,4 @@
 pub mod Stands
 pub mod Low
 pub mod Goes
+pub mod Row

@@ -1,5 +1,6 @@
 -- The numbers of the code as those of the definitions, and the answer from a state on. Document 01, "Numbers returned". Assumes nothing.
 use Prim.Native.Nat.{ℕ, _+_}
+use mathlib.Core.Path.{_≡_}
 use mathlib.Core.Bool.{false}
 use mathlib.Core.List.{List}
 use Rattle.sheet.specs.declared.Sheet.{Sheet}
@@ -7,6 +8,8 @@ use Rattle.paper.specs.Batch.{Header, Thing}
 use Rattle.paper.specs.Proper as paper
 use Rattle.paper.specs.Carried.{rowsCarried}
 use Rattle.flat.specs.Count.{count}
+use Rattle.rowread.specs.declared.Check.{Check}
+use Rattle.rowread.specs.After.{after}
 use Rattle.surveying.specs.declared.Stage.{Stage}
 use Rattle.surveying.specs.declared.Stage.the-variants as stage
 use Rattle.surveying.specs.declared.Found.{Found}
@@ -28,6 +31,10 @@ beforeOf st = record { stage = stageOf (st .stage); files = st .files; items = s
 abbrev pub kept : Found → paper.Verdict → paper.Verdict
 kept found.Nothing v = v
 kept (found.At row field) v = paper.wrong row field
+
+-- g is what was found once row k is tested besides, which the test c judges: the first fault stays
+pub record Keeps (k : ℕ) (f : Found) (c : Check) (g : Found) : Type 0 where
+  pub same : (v : paper.Verdict) → kept g v ≡ kept f (after k c v)
 
 -- before the first row
 abbrev pub atStart : State

@@ -5,10 +5,9 @@ ghost use mathlib.Core.Bool.{false};
 ghost use Prim.Native.Nat.{_≤_};
 ghost use lib.Dec.{ltb};
 ghost use Rattle.base.specs.Pick.{pick};
-ghost use Rattle.paper.specs.Proper.{Verdict, fileDue, groupDue, itemDue};
+ghost use Rattle.paper.specs.Proper.{fileDue, groupDue, itemDue};
 ghost use Rattle.flat.specs.Count.{groupClosing, fileClosing};
-ghost use Rattle.rowread.specs.After.{after};
-ghost use Rattle.surveying.specs.Stands.{stageOf, kept, atStart};
+ghost use Rattle.surveying.specs.Stands.{stageOf, Keeps, atStart};
 
 // What may come next: an account file, a group, an item, or any of them.
 pub enum Stage {
@@ -123,7 +122,7 @@ pub fn group_closing(stage: Stage, sum: u64) -> u64
 
 // What was found once row k is tested besides: the first fault stays.
 pub fn keep(found: Found, k: u64, c: Check) -> Found
-    ensures { λ r. ⌜ ((v : Verdict) → kept r v ≡ kept found (after k c v)) ⌝ }
+    ensures { λ r. ⌜ Keeps k found c r ⌝ }
 {
     match found {
         Found::At(row, field) => Found::At(row, field),

@@ -1,6 +1,6 @@
 -- `item_fits` meets its contract: the file's items first, then the item's own tests. Assumes nothing.
 use borrow.Author.Needs.{needs}
-use Rattle.surveying.proofs.Judging.{items-many, items-few}
+use Rattle.rowstep.proofs.Finding.{finding}
 use Rattle.rowstep.proofs.item_fits.Statement.{statement}
 use Rattle.rowstep.proofs.item_fits.Tie as tie
 
@@ -8,13 +8,13 @@ limits-requires : tie.Need-limits-requires
 limits-requires c κs = search needs
 
 returns : tie.Need-returns
-returns c = search (items-many, needs)
+returns c = search (finding, needs)
 
 item-carried-requires : tie.Need-item-carried-requires
 item-carried-requires c κs = search needs
 
 returns-2 : tie.Need-returns-2
-returns-2 c = search (items-few, needs)
+returns-2 c = search (finding, needs)
 
 pub item-fits-spec : {M : Type 1} → statement M
 item-fits-spec = tie.close (tie.spec limits-requires returns item-carried-requires returns-2)
