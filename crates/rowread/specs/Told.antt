@@ -9,6 +9,9 @@ use Rattle.paper.specs.Batch.{Item, Thing, aFile, aGroup, anItem, strange}
 use Rattle.paper.specs.Words.{wordOf}
 use Rattle.span.specs.declared.Span.{Span}
 use Rattle.rowread.specs.declared.ItemRow.{ItemRow}
+use Rattle.rowread.specs.declared.Sides.{Sides}
+use Rattle.rowread.specs.declared.Symbols.{Symbols}
+use Rattle.rowread.specs.declared.Texts.{Texts}
 use Rattle.rowread.specs.declared.RowRead.{RowRead}
 use Rattle.rowread.specs.declared.RowRead.the-variants.{File, Group, Item as AnItem, Strange}
 
@@ -49,9 +52,9 @@ wordHere rows at = wordOf (take 8 (drop at rows))
 abbrev pub spanHere : List ℕ → ℕ → Span
 spanHere rows at = record { at = wordHere rows at; len = wordHere rows (at + 8) }
 
--- the item whose row begins at a place
-abbrev pub itemHere : List ℕ → ℕ → ItemRow
-itemHere rows at =
+-- the words of an item whose row begins at a place
+abbrev pub sidesHere : List ℕ → ℕ → Sides
+sidesHere rows at =
     record {
       payerprefix = wordHere rows (at + 8);
       payerbase = wordHere rows (at + 16);
@@ -59,13 +62,48 @@ itemHere rows at =
       payeebase = wordHere rows (at + 32);
       bank = wordHere rows (at + 40);
       amount = wordHere rows (at + 48);
+    }
+
+abbrev pub symbolsHere : List ℕ → ℕ → Symbols
+symbolsHere rows at =
+    record {
       variable = wordHere rows (at + 56);
       specific = wordHere rows (at + 64);
       constant = wordHere rows (at + 72);
       priority = wordHere rows (at + 80);
+    }
+
+abbrev pub textsHere : List ℕ → ℕ → Texts
+textsHere rows at =
+    record {
       part1 = spanHere rows (at + 88);
       part2 = spanHere rows (at + 104);
       part3 = spanHere rows (at + 120);
       part4 = spanHere rows (at + 136);
       name = spanHere rows (at + 152);
     }
+
+-- the item with these words
+abbrev pub itemWith : Sides → Symbols → Texts → ItemRow
+itemWith w y t =
+    record {
+      payerprefix = w .payerprefix;
+      payerbase = w .payerbase;
+      payeeprefix = w .payeeprefix;
+      payeebase = w .payeebase;
+      bank = w .bank;
+      amount = w .amount;
+      variable = y .variable;
+      specific = y .specific;
+      constant = y .constant;
+      priority = y .priority;
+      part1 = t .part1;
+      part2 = t .part2;
+      part3 = t .part3;
+      part4 = t .part4;
+      name = t .name;
+    }
+
+-- the item whose row begins at a place
+abbrev pub itemHere : List ℕ → ℕ → ItemRow
+itemHere rows at = itemWith (sidesHere rows at) (symbolsHere rows at) (textsHere rows at)

@@ -6,7 +6,7 @@ ghost use Prim.Native.Nat.{ℕ, _+_, _≤_};
 ghost use lib.Dec.{leb};
 ghost use lib.ListN.{length, drop};
 ghost use Rattle.paper.specs.Rows.{words, thingIn};
-ghost use Rattle.rowread.specs.Told.{told, itemHere, spanHere};
+ghost use Rattle.rowread.specs.Told.{told, spanHere, sidesHere, symbolsHere, textsHere, itemWith, itemHere};
 
 // An item's row. No payer is prefix and base 0; the texts may lie outside what was lent.
 pub struct ItemRow {
@@ -20,6 +20,31 @@ pub struct ItemRow {
     pub specific: u64,
     pub constant: u64,
     pub priority: u64,
+    pub part1: Span,
+    pub part2: Span,
+    pub part3: Span,
+    pub part4: Span,
+    pub name: Span,
+}
+
+// An item's row in the order of its words: who pays whom how much; the symbols; the texts.
+pub struct Sides {
+    pub payerprefix: u64,
+    pub payerbase: u64,
+    pub payeeprefix: u64,
+    pub payeebase: u64,
+    pub bank: u64,
+    pub amount: u64,
+}
+
+pub struct Symbols {
+    pub variable: u64,
+    pub specific: u64,
+    pub constant: u64,
+    pub priority: u64,
+}
+
+pub struct Texts {
     pub part1: Span,
     pub part2: Span,
     pub part3: Span,
@@ -63,28 +88,82 @@ fn span_at(rows: &[u8], at: usize) -> Span
     Span { at: place, len }
 }
 
-// The item whose row begins at `at`.
-fn item_at(rows: &[u8], at: usize) -> ItemRow
+// The words of its accounts, its bank and its amount.
+fn sides_at(rows: &[u8], at: usize) -> Sides
     requires { ⌜ at + 192 ≤ length (now rows) ⌝ }
-    ensures { λ r. ⌜ r ≡ itemHere (now (rows .entry)) at ⌝ }
+    ensures { λ r. ⌜ r ≡ sidesHere (now (rows .entry)) at ⌝ }
 {
-    ItemRow {
+    Sides {
         payerprefix: word::word_at(rows, at + 8),
         payerbase: word::word_at(rows, at + 16),
         payeeprefix: word::word_at(rows, at + 24),
         payeebase: word::word_at(rows, at + 32),
         bank: word::word_at(rows, at + 40),
         amount: word::word_at(rows, at + 48),
+    }
+}
+
+// The words of its symbols and its priority.
+fn symbols_at(rows: &[u8], at: usize) -> Symbols
+    requires { ⌜ at + 192 ≤ length (now rows) ⌝ }
+    ensures { λ r. ⌜ r ≡ symbolsHere (now (rows .entry)) at ⌝ }
+{
+    Symbols {
         variable: word::word_at(rows, at + 56),
         specific: word::word_at(rows, at + 64),
         constant: word::word_at(rows, at + 72),
         priority: word::word_at(rows, at + 80),
+    }
+}
+
+// The places of its texts.
+fn texts_at(rows: &[u8], at: usize) -> Texts
+    requires { ⌜ at + 192 ≤ length (now rows) ⌝ }
+    ensures { λ r. ⌜ r ≡ textsHere (now (rows .entry)) at ⌝ }
+{
+    Texts {
         part1: span_at(rows, at + 88),
         part2: span_at(rows, at + 104),
         part3: span_at(rows, at + 120),
         part4: span_at(rows, at + 136),
         name: span_at(rows, at + 152),
     }
+}
+
+// The item with these words.
+fn item_with(w: Sides, y: Symbols, t: Texts) -> ItemRow
+    ensures { λ r. ⌜ r ≡ itemWith w y t ⌝ }
+{
+    let part1 = t.part1;
+    let part2 = t.part2;
+    let part3 = t.part3;
+    let part4 = t.part4;
+    let name = t.name;
+    ItemRow {
+        payerprefix: w.payerprefix,
+        payerbase: w.payerbase,
+        payeeprefix: w.payeeprefix,
+        payeebase: w.payeebase,
+        bank: w.bank,
+        amount: w.amount,
+        variable: y.variable,
+        specific: y.specific,
+        constant: y.constant,
+        priority: y.priority,
+        part1,
+        part2,
+        part3,
+        part4,
+        name,
+    }
+}
+
+// The item whose row begins at `at`.
+fn item_at(rows: &[u8], at: usize) -> ItemRow
+    requires { ⌜ at + 192 ≤ length (now rows) ⌝ }
+    ensures { λ r. ⌜ r ≡ itemHere (now (rows .entry)) at ⌝ }
+{
+    item_with(sides_at(rows, at), symbols_at(rows, at), texts_at(rows, at))
 }
 
 // The row that begins at `at`.

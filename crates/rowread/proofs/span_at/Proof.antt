@@ -1,5 +1,6 @@
 -- `span_at` meets its contract: two words. Assumes nothing.
 use borrow.Author.Needs.{needs}
+use Rattle.rowread.proofs.Words.{parts}
 use Rattle.rowread.proofs.span_at.Statement.{statement}
 use Rattle.rowread.proofs.span_at.Tie as tie
 
@@ -13,7 +14,7 @@ word-at-requires-2 : tie.Need-word-at-requires-2
 word-at-requires-2 c κs = search needs
 
 returns : tie.Need-returns
-returns c = rw (c .before .word-at .ensures, c .word-at2 .ensures)
+returns c = search parts
 
 pub span-at-spec : {M : Type 1} → statement M
 span-at-spec = tie.close (tie.spec word-at-requires add-word-at word-at-requires-2 returns)
