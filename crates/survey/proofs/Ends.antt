@@ -5,13 +5,13 @@ use Prim.Native.Nat.{ℕ, _+_}
 use Rattle.base.specs.Pick.{pick}
 use Rattle.sheet.specs.declared.Sheet.{Sheet}
 use Rattle.paper.specs.Batch.{Header}
-use Rattle.paper.specs.Proper.{check, mayStop, rowsProper}
+use Rattle.paper.specs.Proper.{any, check, mayStop, rowsProper}
 use Rattle.paper.specs.Carried.{rowsCarried}
 use Rattle.flat.specs.Count.{fileClosing, count}
 use Rattle.surveying.specs.declared.Stage.the-variants as stage
 use Rattle.surveying.specs.declared.Found.the-variants as found
 use Rattle.surveying.specs.declared.State.{State}
-use Rattle.surveying.specs.Stands.{stageOf, improper, unfit, fits, surveyOf, resume}
+use Rattle.surveying.specs.Stands.{improper, unfit, fits, surveyOf, resume}
 
 module _ (sh : Sheet) (today : ℕ) (h : Header) (l : List ℕ) (k : ℕ) (st : State) where
   -- 20: a row is missing
@@ -32,9 +32,8 @@ module _ (sh : Sheet) (today : ℕ) (h : Header) (l : List ℕ) (k : ℕ) (st : 
     unfolding resume surveyOf rowsProper mayStop check pick
     end-unfit row field f = rw (e, f)
 
-    -- a are the bytes of the open group's total and of the lines that close
-    pub end-fits : st .found ≡ found.Nothing → (a : ℕ) → a ≡ fileClosing (stageOf stage.Any) (st .sum) → fits (st .bytes + a) ≡ resume sh today h k l st []
+    pub end-fits : st .found ≡ found.Nothing → (n : ℕ) → n ≡ st .bytes + fileClosing any (st .sum) → fits n ≡ resume sh today h k l st []
     unfolding resume surveyOf rowsProper rowsCarried count mayStop check pick
-    end-fits f a c = rw (e, f, c)
+    end-fits f n c = rw (e, f, c)
 
 pub ruleset ends = (end-no-file, end-no-group, end-no-item, end-unfit, end-fits)

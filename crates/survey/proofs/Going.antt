@@ -1,7 +1,7 @@
 -- Judging on, row by row: the outcome of all rows stays, the place moves on, and the numbers stay small. Assumes nothing.
 use mathlib.Core.Path.{_≡_, sym, ap, _∙_}
 use mathlib.Core.List.{List, [], _∷_}
-use Prim.Native.Nat.{ℕ, _+_, _≤_, _<_}
+use Prim.Native.Nat.{ℕ, _+_, _-_, _≤_, _<_}
 use native.Mathlib.Nat.{zero-add}
 use native.Mathlib.Omega.{arith}
 use lib.ListN.{length, drop}
@@ -20,7 +20,7 @@ use Rattle.surveying.specs.Stands.{atStart, resume}
 use Rattle.surveying.specs.Low.{Low, LowStep}
 use Rattle.surveying.specs.Goes.{Goes}
 use Rattle.surveying.proofs.Judging.{goes-strange}
-use Rattle.surveying.proofs.Bounds.{low-start}
+use Rattle.surveying.proofs.Bounds.{low-start, limits}
 use Rattle.survey.specs.declared.Surveyed.{Surveyed}
 use Rattle.survey.specs.declared.Surveyed.the-variants as answer
 use Rattle.survey.specs.Told.{told, judged}
@@ -34,6 +34,7 @@ all-rows sh today h ts = rw zero-add
 pub record Going (sh : Sheet) (today from to : ℕ) (texts rows : List ℕ) (at k : ℕ) (seen : List ℕ) (st : State) : Type 0 where
   pub inside : at ≤ length rows
   pub low : Low k st
+  pub few : k ≤ 200000001
   pub earlier : List ℕ
   pub holds : Holds seen earlier
   pub same : (h : Header) → h .from ≡ from → h .to ≡ to → resume sh today h k earlier st (thingsFrom texts rows at) ≡ judged sh today h (thingsIn texts (rowsIn rows))
@@ -49,6 +50,7 @@ module _ (sh : Sheet) (today from to : ℕ) (texts rows : List ℕ) where
       (record {
         inside = omega arith;
         low = low-start;
+        few = omega arith;
         earlier = [];
         holds = e;
         same = λ h f t. all-rows sh today h (thingsIn texts (rowsIn rows));
@@ -60,13 +62,18 @@ Stepped sh today from to texts rows at k seen st r =
     (h : Header) (l : List ℕ) → h .from ≡ from → h .to ≡ to → Holds seen l → Goes sh today h l k st (thingIn texts (words 24 (drop at rows))) r
 
 module _ {sh : Sheet} {today from to : ℕ} {texts rows : List ℕ} {at k : ℕ} {seen : List ℕ} {st : State} (going : Going sh today from to texts rows at k seen st) where
-  module _ (room : at + 192 ≤ length rows) (r : Step) (low : LowStep k r) (stepped : Stepped sh today from to texts rows at k seen st r) where
+  module _ (test : 192 ≤ length rows - at) (r : Step) (low : LowStep k r) (stepped : Stepped sh today from to texts rows at k seen st r) where
+    room : at + 192 ≤ length rows
+    room = omega (arith, going .inside)
+
     pub going-on : (next : State) → r ≡ step.On next → Going sh today from to texts rows (at + 192) (k + 1) seen next
     going-on next e =
         let goes : Stepped sh today from to texts rows at k seen st (step.On next) = rw e at stepped in
+        let small : LowStep k (step.On next) = rw e at low in
         record {
           inside = room;
-          low = rw e at low;
+          low = small;
+          few = limits (k + 1) next small .row;
           earlier = going .earlier;
           holds = going .holds;
           same = λ h f t.
@@ -83,6 +90,7 @@ module _ {sh : Sheet} {today from to : ℕ} {texts rows : List ℕ} {at k : ℕ}
         record {
           inside = room;
           low = small .0;
+          few = limits (k + 1) next (small .0) .row;
           earlier = first ∷ going .earlier;
           holds = with (going .earlier) (going .holds);
           same = λ h f t.
@@ -100,13 +108,15 @@ module _ {sh : Sheet} {today from to : ℕ} {texts rows : List ℕ} {at k : ℕ}
         ∙ (ap (resume sh today h k (going .earlier) st) (sym (things-step rows at texts room)) ∙ going .same h f t)
 
   -- bytes that are no whole row
-  pub going-rest : at < length rows → length rows < at + 192 → Answers sh today from to texts rows (answer.Improper k 0)
+  pub going-rest : at < length rows → length rows - at < 192 → Answers sh today from to texts rows (answer.Improper k 0)
   going-rest p q h f t =
       goes-strange sh today h (going .earlier) k st []
-      ∙ (ap (resume sh today h k (going .earlier) st) (sym (things-rest rows at texts p q)) ∙ going .same h f t)
+      ∙ (ap (resume sh today h k (going .earlier) st) (sym (things-rest rows at texts p (omega arith))) ∙ going .same h f t)
 
   pub going-end : length rows ≤ at → (r : Surveyed) → ((sh : Sheet) (today : ℕ) (h : Header) (l : List ℕ) → told r ≡ resume sh today h k l st [])
       → Answers sh today from to texts rows r
   going-end p r e h f t =
       e sh today h (going .earlier)
       ∙ (ap (resume sh today h k (going .earlier) st) (sym (things-end rows at texts p)) ∙ going .same h f t)
+
+pub ruleset goings = (going-start, going-on, going-file, first-small, going-wrong, going-rest, going-end)

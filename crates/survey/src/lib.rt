@@ -8,11 +8,13 @@ use surveying::Step;
 ghost use mathlib.Core.Path.{_≡_};
 ghost use mathlib.Core.Bool.{true};
 ghost use mathlib.Core.List.{List, []};
-ghost use Prim.Native.Nat.{ℕ};
+ghost use Prim.Native.Nat.{ℕ, _+_, _≤_};
 ghost use Rattle.sheet.specs.declared.Sheet as sheets;
 ghost use Rattle.paper.specs.Days.{realDay};
 ghost use Rattle.paper.specs.Batch.{Header};
+ghost use Rattle.paper.specs.Proper.{any};
 ghost use Rattle.paper.specs.Rows.{rowsIn, thingsIn};
+ghost use Rattle.flat.specs.Count.{fileClosing};
 ghost use Rattle.surveying.specs.Stands.{resume};
 ghost use Rattle.surveying.specs.Low.{Low};
 ghost use Rattle.survey.specs.Told.{told, judged, Small};
@@ -22,6 +24,15 @@ pub enum Surveyed {
     Improper(u64, u64),
     Unfit(u64, u64),
     Fits(u64),
+}
+
+// The bytes of all lines behind the first, once the lines that close are added.
+fn all_bytes(st: State) -> u64
+    requires { ⌜ st .bytes ≤ 100000000000 ⌝ }
+    ensures { λ r. ⌜ (r ≡ st .bytes + fileClosing any (st .sum)) × (r ≤ 200000000000) ⌝ }
+{
+    let closing = surveying::file_closing(Stage::Any, st.sum);
+    st.bytes + closing
 }
 
 // Behind the last row, where row k would stand.
@@ -38,9 +49,7 @@ fn finish(k: u64, st: State) -> Surveyed
         Stage::NeedItem => Surveyed::Improper(k, 0),
         Stage::Any => match found {
             Found::At(row, field) => Surveyed::Unfit(row, field),
-            Found::Nothing => Surveyed::Fits(
-                st.bytes + surveying::file_closing(Stage::Any, st.sum),
-            ),
+            Found::Nothing => Surveyed::Fits(all_bytes(st)),
         },
     }
 }

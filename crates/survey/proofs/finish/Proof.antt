@@ -1,7 +1,6 @@
 -- `finish` meets its contract: by the stage, and by what was found. Assumes nothing.
 use borrow.Author.Needs.{needs}
-use native.Mathlib.Omega.{arith}
-use Rattle.surveying.proofs.Bounds.{limits}
+use Rattle.surveying.proofs.Next.{lows}
 use Rattle.survey.proofs.Ends.{ends}
 use Rattle.survey.proofs.finish.Statement.{statement}
 use Rattle.survey.proofs.finish.Tie as tie
@@ -24,13 +23,8 @@ enum-known-found c = search needs
 enum-told-5 : tie.Need-enum-told-5
 enum-told-5 c = search needs
 
-file-closing-requires : tie.Need-file-closing-requires
-file-closing-requires c κs = search needs
-
-add-t11 : tie.Need-add-t11
-add-t11 c =
-    let start = c .before .before .before .before .before .before in
-    omega (arith, limits (start .args .k) (start .args .st) (start .pre) .bytes)
+all-bytes-requires : tie.Need-all-bytes-requires
+all-bytes-requires c κs = search (lows, needs)
 
 returns : tie.Need-returns
 returns c = (λ sh today h l. search ends, tt)
@@ -45,9 +39,7 @@ returns-4 : tie.Need-returns-4
 returns-4 c = (λ sh today h l. search ends, tt)
 
 returns-5 : tie.Need-returns-5
-returns-5 c =
-    let start = c .before .before .before .before .before .before in
-    (λ sh today h l. search ends, omega (arith, limits (start .args .k) (start .args .st) (start .pre) .bytes, c .before .file-closing .ensures .1))
+returns-5 c = (λ sh today h l. search ends, search needs)
 
 pub finish-spec : {M : Type 1} → statement M
 finish-spec =
@@ -59,8 +51,7 @@ finish-spec =
     enum-told-4
     enum-known-found
     enum-told-5
-    file-closing-requires
-    add-t11
+    all-bytes-requires
     returns
     returns-2
     returns-3
