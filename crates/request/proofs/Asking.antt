@@ -4,10 +4,10 @@ use mathlib.Core.Bool.{true, false}
 use mathlib.Core.List.{List, [], _∷_}
 use Prim.Native.Nat.{ℕ, zero, suc, _-_, _≤_, _<_}
 use native.Mathlib.Omega.{arith}
-use lib.Dec.{eqb, lit≤}
+use lib.Dec.{eqb, leb}
 use lib.ListN.{length, getD, take, drop}
 use lib.Seq.{take-all}
-use borrow.Author.Tests.{lt-ltb, le-ltb, eq-eqb, ne-eqb}
+use borrow.Author.Tests.{leb-true, lt-ltb, le-ltb, eq-eqb, ne-eqb}
 use Rattle.base.specs.Pick.{pick}
 use Rattle.base.proofs.Cases.{by-test, pick-true, pick-false}
 use Rattle.sheet.specs.declared.Sheet.{Sheet}
@@ -77,7 +77,7 @@ today-real (x ∷ s) d e =
 
 letter-high : (b : ℕ) (sh : Sheet) → sheetBy b ≡ known.Sheet sh → 14 ≤ b
 letter-high b sh e =
-    let h = every-letter (λ x. 14 ≤ x .letter) (lit≤ tt) (lit≤ tt) (lit≤ tt) (lit≤ tt) b sh e in
+    let h = leb-true 14 (sh .letter) (every-letter b sh e (λ x. leb 14 (x .letter)) refl) in
     omega (arith, h, sheet-letter b sh e)
 
 letter-first : (b : ℕ) (s : List ℕ) → 14 ≤ b → firstLine (b ∷ s) ≡ b ∷ firstLine s

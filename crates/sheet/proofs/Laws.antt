@@ -1,77 +1,90 @@
 -- What holds of every sheet that a number or a letter names. Assumes nothing.
-use mathlib.Core.Path.{_≡_, refl, sym, subst, _∙_}
-use mathlib.Core.Bool.{Bool, true, false}
+use mathlib.Core.Path.{_≡_, refl, sym, _∙_}
+use mathlib.Core.Bool.{Bool, true, false, not, _&&_, _||_}
+use mathlib.Core.List.{List, [], _∷_}
 use Prim.Native.Nat.{ℕ, _^_, _≤_, _<_}
 use native.Mathlib.Omega.{arith}
-use lib.Dec.{lit≤, lit<}
-use borrow.Author.Tests.{eqb-true}
+use lib.Dec.{leb, ltb, eqb}
+use borrow.Author.Tests.{leb-true, ltb-true, eqb-true, eq-eqb, not-true}
 use Rattle.base.specs.Pick.{pick}
-use Rattle.base.proofs.Seek.{never}
+use Rattle.base.proofs.Cases.{both, pick-true, pick-false}
 use Rattle.sheet.specs.declared.Sheet.{Sheet}
 use Rattle.sheet.specs.declared.Known.{Known}
 use Rattle.sheet.specs.declared.Known.the-variants as known
-use Rattle.sheet.specs.Sheets.{sheetK, sheetS, sheetC, sheetE, sheetOf, sheetBy}
+use Rattle.sheet.specs.Sheets.{sheets, firstNamed, sheetOf, sheetBy}
 
 -- ---- by its name
 
-module _ (P : Sheet → Type 0) where
-  -- one test: it names a, or the others name the sheet
-  named : (t : Bool) (a s : Sheet) (rest : Known) → (t ≡ true → P a) → (rest ≡ known.Sheet s → P s) → pick t (known.Sheet a) rest ≡ known.Sheet s → P s
-  unfolding pick
-  named true a s rest p q e = let z : a ≡ s = cc in subst P z (p refl)
-  named false a s rest p q e = q e
+-- a test holds of every sheet of a list
+abbrev pub every : (Sheet → Bool) → List Sheet → Bool
+every t [] = true
+every t (a ∷ shs) = t a && every t shs
 
-  nothing : (s : Sheet) → known.Nothing ≡ known.Sheet s → P s
-  nothing s e = absurd (let z : _≡_ {A = ℕ} 0 1 = cc in omega arith)
+-- no two sheets of a list have one name
+abbrev apart : (Sheet → ℕ) → List Sheet → Bool
+apart name [] = true
+apart name (a ∷ shs) = every (λ x. not (eqb (name x) (name a))) shs && apart name shs
 
-  -- what holds of the four holds of the sheet that a number names
-  pub every-sheet : P sheetK → P sheetS → P sheetC → P sheetE → (n : ℕ) (s : Sheet) → sheetOf n ≡ known.Sheet s → P s
+nothing : {P : Type 0} (s : Sheet) → known.Nothing ≡ known.Sheet s → P
+nothing s e = absurd (let z : _≡_ {A = ℕ} 0 1 = cc in omega arith)
+
+-- one test: it names a, or the others name the sheet
+either-named : {P : Type 0} (t : Bool) (a s : Sheet) (rest : Known) → (t ≡ true → a ≡ s → P) → (rest ≡ known.Sheet s → P)
+    → pick t (known.Sheet a) rest ≡ known.Sheet s → P
+unfolding pick
+either-named true a s rest p q e = p refl (cc)
+either-named false a s rest p q e = q e
+
+module _ (name : Sheet → ℕ) (n : ℕ) (s : Sheet) where
+  -- what is tested of every sheet of a list holds of the one that is named
+  tested : (t : Sheet → Bool) (shs : List Sheet) → every t shs ≡ true → firstNamed name n shs ≡ known.Sheet s → t s ≡ true
+  tested t [] w e = nothing s e
+  tested t (a ∷ shs) w e =
+      let (here, there) = both (t a) (every t shs) w in
+      either-named _ a s _ (λ _ same. rw same at here) (tested t shs there) e
+
+  -- it has that name
+  has-name : (shs : List Sheet) → firstNamed name n shs ≡ known.Sheet s → name s ≡ n
+  has-name [] e = nothing s e
+  has-name (a ∷ shs) e = either-named _ a s _ (λ t same. rw same at (sym (eqb-true n (name a) t))) (has-name shs) e
+
+  -- and where no two of them have one name of another sort, that one names it too
+  named-also : (other : Sheet → ℕ) (shs : List Sheet) → apart other shs ≡ true → firstNamed name n shs ≡ known.Sheet s
+      → firstNamed other (other s) shs ≡ known.Sheet s
+  named-also other [] w e = nothing s e
+  named-also other (a ∷ shs) w e =
+      let (fresh, rest) = both (every (λ x. not (eqb (other x) (other a))) shs) (apart other shs) w in
+      either-named _ a s _
+      (λ _ same. rw same (pick-true _ _ (eq-eqb (other s) (other s) refl)))
+      (λ q. pick-false _ _ (not-true _ (tested (λ x. not (eqb (other x) (other a))) shs fresh q)) ∙ named-also other shs rest q)
+      e
+
+module _ (n : ℕ) (s : Sheet) (named : sheetOf n ≡ known.Sheet s) where
+  -- what is tested of every known sheet holds of the one that a number names
+  pub every-sheet : (t : Sheet → Bool) → every t sheets ≡ true → t s ≡ true
   unfolding sheetOf
-  every-sheet k s c e n x h =
-      named _ sheetK x _ (λ _. k) (named _ sheetS x _ (λ _. s) (named _ sheetC x _ (λ _. c) (named _ sheetE x _ (λ _. e) (nothing x)))) h
+  every-sheet t w = tested (λ x. x .number) n s t sheets w named
 
-  -- .. and of the sheet that a letter names
-  pub every-letter : P sheetK → P sheetS → P sheetC → P sheetE → (b : ℕ) (s : Sheet) → sheetBy b ≡ known.Sheet s → P s
+  -- its letter names it too
+  pub letter-same : sheetBy (s .letter) ≡ known.Sheet s
+  unfolding sheetOf sheetBy
+  letter-same = named-also (λ x. x .number) n s (λ x. x .letter) sheets refl named
+
+module _ (b : ℕ) (s : Sheet) (named : sheetBy b ≡ known.Sheet s) where
+  -- .. and of the one that a letter names
+  pub every-letter : (t : Sheet → Bool) → every t sheets ≡ true → t s ≡ true
   unfolding sheetBy
-  every-letter k s c e b x h =
-      named _ sheetK x _ (λ _. k) (named _ sheetS x _ (λ _. s) (named _ sheetC x _ (λ _. c) (named _ sheetE x _ (λ _. e) (nothing x)))) h
+  every-letter t w = tested (λ x. x .letter) b s t sheets w named
 
--- a sheet has the letter that names it
-abbrev Lettered : ℕ → Sheet → Type 0
-Lettered b s = s .letter ≡ b
+  -- it has that letter,
+  pub sheet-letter : s .letter ≡ b
+  unfolding sheetBy
+  sheet-letter = has-name (λ x. x .letter) b s sheets named
 
-pub sheet-letter : (b : ℕ) (s : Sheet) → sheetBy b ≡ known.Sheet s → s .letter ≡ b
-unfolding sheetBy
-sheet-letter b x h =
-    named (Lettered b) _ sheetK x _ (λ t. sym (eqb-true b 75 t))
-    (named (Lettered b) _ sheetS x _ (λ t. sym (eqb-true b 83 t))
-    (named (Lettered b) _ sheetC x _ (λ t. sym (eqb-true b 67 t))
-    (named (Lettered b) _ sheetE x _ (λ t. sym (eqb-true b 69 t)) (nothing (Lettered b) x))))
-    h
-
--- each of the four is named by its own number and its own letter
-pub named-k : (sheetOf 1 ≡ known.Sheet sheetK) × (sheetBy 75 ≡ known.Sheet sheetK)
-unfolding sheetOf sheetBy pick
-named-k = (refl, refl)
-
-pub named-s : (sheetOf 2 ≡ known.Sheet sheetS) × (sheetBy 83 ≡ known.Sheet sheetS)
-unfolding sheetOf sheetBy pick
-named-s = (refl, refl)
-
-pub named-c : (sheetOf 3 ≡ known.Sheet sheetC) × (sheetBy 67 ≡ known.Sheet sheetC)
-unfolding sheetOf sheetBy pick
-named-c = (refl, refl)
-
-pub named-e : (sheetOf 4 ≡ known.Sheet sheetE) × (sheetBy 69 ≡ known.Sheet sheetE)
-unfolding sheetOf sheetBy pick
-named-e = (refl, refl)
-
--- so number and letter name the same sheet
-pub letter-same : (n : ℕ) (s : Sheet) → sheetOf n ≡ known.Sheet s → sheetBy (s .letter) ≡ known.Sheet s
-letter-same = every-sheet (λ s. sheetBy (s .letter) ≡ known.Sheet s) (named-k .1) (named-s .1) (named-c .1) (named-e .1)
-
-pub number-same : (b : ℕ) (s : Sheet) → sheetBy b ≡ known.Sheet s → sheetOf (s .number) ≡ known.Sheet s
-number-same = every-letter (λ s. sheetOf (s .number) ≡ known.Sheet s) (named-k .0) (named-s .0) (named-c .0) (named-e .0)
+  -- and its number names it too
+  pub number-same : sheetOf (s .number) ≡ known.Sheet s
+  unfolding sheetOf sheetBy
+  number-same = named-also (λ x. x .letter) b s (λ x. x .number) sheets refl named
 
 -- ---- its parameters
 
@@ -95,25 +108,31 @@ pub record Sane (s : Sheet) : Type 0 where
   pub bank-low : s .bank ≤ 9999
   pub items-low : s .fileitems ≤ 99999000
 
+-- a test that holds unless another one does
+unless : (t u : Bool) → (t || not u) ≡ true → t ≡ false → u ≡ false
+unless t u e f = not-true u (rw f at e)
+
+-- each bound is tested of every known sheet
 pub sane : (n : ℕ) (s : Sheet) → sheetOf n ≡ known.Sheet s → Sane s
 sane n s h =
+    let holds = every-sheet n s h in
     record {
-      base-some = every-sheet (λ x. 1 ≤ x .basemin) (lit≤ tt) (lit≤ tt) (lit≤ tt) (lit≤ tt) n s h;
-      base-few = every-sheet (λ x. x .basemin ≤ 2) (lit≤ tt) (lit≤ tt) (lit≤ tt) (lit≤ tt) n s h;
-      parts-some = every-sheet (λ x. 0 < x .text .most) (lit< tt) (lit< tt) (lit< tt) (lit< tt) n s h;
-      parts-few = every-sheet (λ x. x .text .most ≤ 4) (lit≤ tt) (lit≤ tt) (lit≤ tt) (lit≤ tt) n s h;
-      names-av = every-sheet (λ x. x .text .av ≡ false → x .text .names ≡ false) (λ _. refl) (λ _. refl) (λ e. never e) (λ _. refl) n s h;
-      as-stands = every-sheet (λ x. x .fixedtail ≡ true → x .text .av ≡ false) (λ e. never (sym e)) (λ _. refl) (λ e. never (sym e)) (λ e. never (sym e)) n s h;
-      no-interval = every-sheet (λ x. x .header ≡ false → x .interval ≡ false) (λ e. never e) (λ _. refl) (λ _. refl) (λ _. refl) n s h;
-      digits-some = every-sheet (λ x. 1 ≤ x .itemdigits) (lit≤ tt) (lit≤ tt) (lit≤ tt) (lit≤ tt) n s h;
-      digits-few = every-sheet (λ x. x .itemdigits ≤ 14) (lit≤ tt) (lit≤ tt) (lit≤ tt) (lit≤ tt) n s h;
-      item-low = every-sheet (λ x. x .itemmax ≤ 99999999999999) (lit≤ tt) (lit≤ tt) (lit≤ tt) (lit≤ tt) n s h;
-      item-fits = every-sheet (λ x. x .itemmax < 10 ^ x .itemdigits) (lit< tt) (lit< tt) (lit< tt) (lit< tt) n s h;
-      days = every-sheet (λ x. x .ahead ≤ 36525) (lit≤ tt) (lit≤ tt) (lit≤ tt) (lit≤ tt) n s h;
-      kind-first = every-sheet (λ x. 1501 ≤ x .lastkind) (lit≤ tt) (lit≤ tt) (lit≤ tt) (lit≤ tt) n s h;
-      kind-last = every-sheet (λ x. x .lastkind ≤ 1504) (lit≤ tt) (lit≤ tt) (lit≤ tt) (lit≤ tt) n s h;
-      bank-low = every-sheet (λ x. x .bank ≤ 9999) (lit≤ tt) (lit≤ tt) (lit≤ tt) (lit≤ tt) n s h;
-      items-low = every-sheet (λ x. x .fileitems ≤ 99999000) (lit≤ tt) (lit≤ tt) (lit≤ tt) (lit≤ tt) n s h;
+      base-some = leb-true _ _ (holds (λ x. leb 1 (x .basemin)) refl);
+      base-few = leb-true _ _ (holds (λ x. leb (x .basemin) 2) refl);
+      parts-some = ltb-true _ _ (holds (λ x. ltb 0 (x .text .most)) refl);
+      parts-few = leb-true _ _ (holds (λ x. leb (x .text .most) 4) refl);
+      names-av = unless _ _ (holds (λ x. x .text .av || not (x .text .names)) refl);
+      as-stands = λ e. unless (not (s .fixedtail)) _ (holds (λ x. not (x .fixedtail) || not (x .text .av)) refl) (rw e);
+      no-interval = unless _ _ (holds (λ x. x .header || not (x .interval)) refl);
+      digits-some = leb-true _ _ (holds (λ x. leb 1 (x .itemdigits)) refl);
+      digits-few = leb-true _ _ (holds (λ x. leb (x .itemdigits) 14) refl);
+      item-low = leb-true _ _ (holds (λ x. leb (x .itemmax) 99999999999999) refl);
+      item-fits = ltb-true _ _ (holds (λ x. ltb (x .itemmax) (10 ^ x .itemdigits)) refl);
+      days = leb-true _ _ (holds (λ x. leb (x .ahead) 36525) refl);
+      kind-first = leb-true _ _ (holds (λ x. leb 1501 (x .lastkind)) refl);
+      kind-last = leb-true _ _ (holds (λ x. leb (x .lastkind) 1504) refl);
+      bank-low = leb-true _ _ (holds (λ x. leb (x .bank) 9999) refl);
+      items-low = leb-true _ _ (holds (λ x. leb (x .fileitems) 99999000) refl);
     }
 
 -- the same of a sheet that was looked up

@@ -1,8 +1,9 @@
--- The four sheets as records of what their banks ask, and which number or letter names which. Document 01, "What the library handles",
+-- The sheets as records of what their banks ask, and which number or letter names which. Document 01, "What the library handles",
 -- with each sheet's answers to the questions that "Accounts" and "Lines" put. Assumes nothing.
 use Prim.Native.Nat.{ℕ}
 use mathlib.Core.Path.{_≡_}
 use mathlib.Core.Bool.{Bool, true, false}
+use mathlib.Core.List.{List, [], _∷_}
 use lib.Dec.{leb, eqb, ltb}
 use Rattle.base.specs.Pick.{pick}
 use Rattle.sheet.specs.declared.Style.{Style}
@@ -160,21 +161,27 @@ sheetE =
       fileitems = anyItems;
     }
 
--- "What the library handles": 1 is K, 2 is S, 3 is C, 4 is E, and no other number names a sheet
+-- "What the library handles": the known sheets. A new one is a line here.
+abbrev pub sheets : List Sheet
+sheets =
+    sheetK
+    ∷ sheetS
+    ∷ sheetC
+    ∷ sheetE
+    ∷ []
+
+-- the first of the sheets whose name, that is its number or its letter, is n
+abbrev pub firstNamed : (Sheet → ℕ) → ℕ → List Sheet → Known
+firstNamed name n [] = known.Nothing
+firstNamed name n (sh ∷ shs) = pick (eqb n (name sh)) (known.Sheet sh) (firstNamed name n shs)
+
+-- "What the library handles": the known sheet of that number, so 1 is K, 2 is S, 3 is C, 4 is E, and no other number names a sheet
 unfoldable pub sheetOf : ℕ → Known
-sheetOf n =
-    pick (eqb n 1) (known.Sheet sheetK)
-    (pick (eqb n 2) (known.Sheet sheetS)
-    (pick (eqb n 3) (known.Sheet sheetC)
-    (pick (eqb n 4) (known.Sheet sheetE) known.Nothing)))
+sheetOf n = firstNamed (λ (sh : Sheet). sh .number) n sheets
 
 -- "A whole run": the same by letter
 unfoldable pub sheetBy : ℕ → Known
-sheetBy b =
-    pick (eqb b 75) (known.Sheet sheetK)
-    (pick (eqb b 83) (known.Sheet sheetS)
-    (pick (eqb b 67) (known.Sheet sheetC)
-    (pick (eqb b 69) (known.Sheet sheetE) known.Nothing)))
+sheetBy b = firstNamed (λ (sh : Sheet). sh .letter) b sheets
 
 -- "Lines", KIND: K and E 1501, S 1501 and 1502, C 1501 to 1504
 unfoldable pub kindAllowed : Sheet → ℕ → Bool
