@@ -1,46 +1,75 @@
--- A line is read alike on the severe sheet, or refused there where it gives a warning: one law for each way to read on. Assumes nothing.
-use mathlib.Core.Path.{_≡_, refl}
+-- What one reading of a line says another one says too: one law for each way to read on. Assumes nothing.
+use mathlib.Core.Path.{_≡_, refl, sym, ap, _∙_}
 use mathlib.Core.List.{List, [], _∷_}
-use Prim.Native.Nat.{ℕ, _≤_}
+use Prim.Native.Nat.{ℕ}
 use native.Mathlib.Omega.{arith}
+use Rattle.base.proofs.Cases.{either}
 use Rattle.paper.specs.Read.{Field, value, fault}
-use Rattle.paper.specs.Texts.{Texts}
-use Rattle.paper.specs.Entries.{Entry, Said, got, no, onField, field, gap}
-use Rattle.uncut.proofs.Texts.{Alike, same-text, would-cut}
+use Rattle.paper.specs.Batch.{Header}
+use Rattle.paper.specs.Entries.{Entry, head, file, group, item, closeGroup, closeFile, Said, got, no, onField, field, place, gap, lineEnd}
+use Rattle.uncut.proofs.Takes.{Takes}
 
--- the second reading is the first, or refuses a line of which the first one warns
-pub data Kept : Said → Said → Type 0 where
-  same-line : {r : Said} → Kept r r
-  warned : {e : Entry} {w : ℕ} {spots : List ℕ} {n off : ℕ} → 1 ≤ w → Kept (got e w spots) (no n off)
+-- what becomes of an entry: a header is turned, all else stays
+abbrev pub turned : (Header → Header) → Entry → Entry
+turned turn (head h) = head (turn h)
+turned turn (file k n) = file k n
+turned turn (group p t d) = group p t d
+turned turn (item x) = item x
+turned turn closeGroup = closeGroup
+turned turn closeFile = closeFile
 
--- what gives no warning is said on both sheets,
-pub kept-on : {e : Entry} {spots : List ℕ} {r : Said} → Kept (got e 0 spots) r → r ≡ got e 0 spots
-kept-on same-line = refl
-kept-on (warned h) = absurd (omega arith)
+-- what the first reading says and is let through, the second one says, with the same warnings and places
+pub record Kept (Only : Entry → ℕ → Type 0) (turn : Header → Header) (r q : Said) : Type 0 where
+  pub keeps : (e : Entry) (w : ℕ) (spots : List ℕ) → Only e w → r ≡ got e w spots → q ≡ got (turned turn e) w spots
 
--- and so is all that the severe one takes
-pub kept-back : {e : Entry} {w : ℕ} {spots : List ℕ} {r : Said} → Kept r (got e w spots) → r ≡ got e w spots
-kept-back same-line = refl
+module _ {Only : Entry → ℕ → Type 0} {turn : Header → Header} where
+  pub said-kept : (e : Entry) {w v : ℕ} {spots : List ℕ} → w ≡ v → Kept Only turn (got e w spots) (got (turned turn e) v spots)
+  said-kept e s = record { keeps = λ e′ w′ spots′ o q. cc }
 
-module _ {A : Type 0} where
-  on-kept : (at : ℕ) (x : Field A) {k l : A → Said} → ((v : A) → Kept (k v) (l v)) → Kept (onField at x k) (onField at x l)
-  unfolding onField
-  on-kept at (value v) h = h v
-  on-kept at (fault n) h = same-line
+  pub refused-kept : {n off : ℕ} {q : Said} → Kept Only turn (no n off) q
+  refused-kept = record { keeps = λ e w spots o q. absurd (let z : _≡_ {A = ℕ} 0 1 = cc in omega arith) }
 
-  pub field-kept : (read : List ℕ → Field A) (at : ℕ) (s : List ℕ) {k l : A → ℕ → List ℕ → Said}
-      → ((v : A) (a : ℕ) (r : List ℕ) → Kept (k v a r) (l v a r)) → Kept (field read at s k) (field read at s l)
-  unfolding field
-  field-kept read at s h = on-kept at _ λ v. h v _ _
+  -- where no header changes
+  pub same-kept : {r : Said} → ((h : Header) → turn h ≡ h) → Kept Only turn r r
+  same-kept t = record { keeps = λ e w spots o q. q ∙ ap (λ (x : Entry). got x w spots) (same e) }
+    where
+      same : (e : Entry) → e ≡ turned turn e
+      same (head h) = ap head (sym (t h))
+      same (file k n) = refl
+      same (group p s d) = refl
+      same (item x) = refl
+      same closeGroup = refl
+      same closeFile = refl
 
-pub gap-kept : (at : ℕ) (s : List ℕ) {k l : ℕ → List ℕ → Said} → ((a : ℕ) (r : List ℕ) → Kept (k a r) (l a r)) → Kept (gap at s k) (gap at s l)
-unfolding gap
-gap-kept at [] h = same-line
-gap-kept at (x ∷ s) h = h _ _
+  module _ {A : Type 0} where
+    pub on-kept : (at : ℕ) (x y : Field A) {k l : A → Said} → Takes x y → ((v : A) → Kept Only turn (k v) (l v)) → Kept Only turn (onField at x k) (onField at y l)
+    unfolding onField
+    on-kept at (value v) y r h = rw (r .takes v refl) (h v)
+    on-kept at (fault n) y r h = refused-kept
 
--- the line says every warning of its text
-pub text-kept : (at : ℕ) {x z : Field Texts} {k : Texts → Said} → Alike x z
-    → ((t : Texts) (n off : ℕ) → 1 ≤ t .warnings → Kept (k t) (no n off)) → Kept (onField at x k) (onField at z k)
-unfolding onField
-text-kept at same-text h = same-line
-text-kept at (would-cut {t = t} {n = n} w) h = h t n at w
+    pub field-kept : (read also : List ℕ → Field A) → ((t : List ℕ) → Takes (read t) (also t)) → (at : ℕ) (s : List ℕ) {k l : A → ℕ → List ℕ → Said}
+        → ((v : A) (a : ℕ) (r : List ℕ) → Kept Only turn (k v a r) (l v a r)) → Kept Only turn (field read at s k) (field also at s l)
+    unfolding field
+    field-kept read also r at s h = on-kept at _ _ (r _) λ v. h v _ _
+
+    -- a field that the second sheet does not read
+    pub on-gone : (at : ℕ) (x : Field A) {k : A → Said} {q : Said} → ((v : A) → Kept Only turn (k v) q) → Kept Only turn (onField at x k) q
+    unfolding onField
+    on-gone at (value v) h = h v
+    on-gone at (fault n) h = refused-kept
+
+    -- .. and that is read by place
+    pub place-gone : (n : ℕ) (read : List ℕ → Field A) (at : ℕ) (s : List ℕ) {k : A → ℕ → List ℕ → Said} {q : Said}
+        → ((v : A) (a : ℕ) (r : List ℕ) → Kept Only turn (k v a r) q) → Kept Only turn (place n read at s k) q
+    unfolding place
+    place-gone n read at s {q = q} h = either (λ r. Kept Only turn r q) _ (λ _. refused-kept) (λ _. on-gone at _ λ v. h v _ _)
+
+  pub gap-kept : (at : ℕ) (s : List ℕ) {k l : ℕ → List ℕ → Said} → ((a : ℕ) (r : List ℕ) → Kept Only turn (k a r) (l a r)) → Kept Only turn (gap at s k) (gap at s l)
+  unfolding gap
+  gap-kept at [] h = refused-kept
+  gap-kept at (x ∷ s) h = h _ _
+
+  pub end-kept : (at : ℕ) (s : List ℕ) {r q : Said} → Kept Only turn r q → Kept Only turn (lineEnd at s r) (lineEnd at s q)
+  unfolding lineEnd
+  end-kept at [] h = h
+  end-kept at (x ∷ s) h = refused-kept

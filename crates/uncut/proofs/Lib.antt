@@ -1,4 +1,8 @@
-pub mod Texts
+pub mod Tests
+pub mod Takes
+pub mod Fields
 pub mod Kept
 pub mod Lines
+pub mod Walk
+pub mod Texts
 pub mod Main

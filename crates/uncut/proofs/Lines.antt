@@ -1,85 +1,223 @@
--- A line of each kind is read alike on the severe sheet, or refused there where it gives a warning. Assumes nothing.
-use mathlib.Core.Path.{_≡_, refl}
-use mathlib.Core.Bool.{Bool}
+-- A line of each kind: what the narrower sheet says of it, the wider one says too. Assumes nothing.
+use mathlib.Core.Path.{_≡_, refl, sym, ap, _∙_}
+use mathlib.Core.Bool.{Bool, true, false}
 use mathlib.Core.List.{List, [], _∷_}
-use Prim.Native.Nat.{ℕ, _≤_}
+use Prim.Native.Nat.{ℕ, _+_}
 use native.Mathlib.Omega.{arith}
-use Rattle.base.proofs.Cases.{either-way}
+use Rattle.base.specs.Pick.{pick}
+use Rattle.base.proofs.Cases.{either, either-way, pick-not, pick-false}
+use Rattle.base.proofs.Seek.{never}
 use Rattle.sheet.specs.declared.Sheet.{Sheet}
-use Rattle.sheet.specs.declared.Style.{Style}
-use Rattle.sheet.specs.Sheets.{kindAllowed, bankAllowed}
+use Rattle.paper.specs.Read.{Field, value, fault}
 use Rattle.paper.specs.Accounts.{Account, nobody}
-use Rattle.paper.specs.Texts.{Texts}
-use Rattle.paper.specs.Entries.{Said, no, Kind, headLine, fileLine, groupLine, itemLine, groupEnd, fileEnd, kindOf}
+use Rattle.paper.specs.Amounts.{readTotal}
+use Rattle.paper.specs.BankField.{readBank}
+use Rattle.paper.specs.Days.{dueWarnings}
+use Rattle.paper.specs.Batch.{Item, Header, noHeader}
+use Rattle.paper.specs.Texts.{Texts, readText}
+use Rattle.paper.specs.Entries.{Entry, head, file, group, item, closeGroup, closeFile, Said, got, onField, field, Kind, headLine, fileLine, groupLine, itemLine, groupEnd, fileEnd, kindOf}
 use Rattle.paper.specs.FirstLine.{readFirst}
-use Rattle.paper.specs.FileLine.{readKind, readCode, readFile}
-use Rattle.paper.specs.GroupLine.{totalAndDate, readGroup}
-use Rattle.paper.specs.ItemLine.{fixedTail, afterSymbol, openTail, tail, fromPayee, readItem}
+use Rattle.paper.specs.FileLine.{numberAllowed, readFile}
+use Rattle.paper.specs.GroupLine.{hasPayer, totalAndDate, readGroup}
+use Rattle.paper.specs.ItemLine.{isValue, readSymbol, fixedTail, afterSymbol, openTail, tail, itemOf, fromPayee, readItem}
+use Rattle.paper.specs.ClosingLine.{plusAt, readClose}
 use Rattle.paper.specs.Spells.{Context, forHead, forFile, forGroup, forItem, allowedIn, singleIn, readAs, readLine}
-use Rattle.uncut.specs.Severe.{uncutting, severe}
-use Rattle.uncut.proofs.Texts.{text-alike}
-use Rattle.uncut.proofs.Kept.{Kept, same-line, warned, field-kept, gap-kept, text-kept}
+use Rattle.uncut.specs.Wider.{Heads, read-alike, read-none, TextsOf, Wider}
+use Rattle.uncut.proofs.Tests.{same-test, easier, besides}
+use Rattle.uncut.proofs.Takes.{Takes, alike}
+use Rattle.uncut.proofs.Fields.{kind-takes, code-takes, number-takes, account-takes, payer-takes, due-takes, amount-takes, item-amount-takes}
+use Rattle.uncut.proofs.Kept.{turned, Kept, said-kept, refused-kept, same-kept, field-kept, on-gone, place-gone, gap-kept, end-kept}
 
--- ---- an item: only its text may be read otherwise
+-- what becomes of a context, where headers are turned
+abbrev pub turnedIn : (Header → Header) → Context → Context
+turnedIn turn forHead = forHead
+turnedIn turn (forFile h seen) = forFile (turn h) seen
+turnedIn turn forGroup = forGroup
+turnedIn turn (forItem single) = forItem single
 
-module _ (y : Style) {k : ℕ → Texts → Said} (h : (specific : ℕ) (t : Texts) (n off : ℕ) → 1 ≤ t .warnings → Kept (k specific t) (no n off)) where
-  fixed-kept : (at : ℕ) (s : List ℕ) → Kept (fixedTail y k at s) (fixedTail (uncutting y) k at s)
-  unfolding fixedTail
-  fixed-kept at s =
-      gap-kept at s λ a1 s1. field-kept _ a1 s1 λ specific a2 s2. gap-kept a2 s2 λ a3 s3. text-kept a3 (text-alike y a3 s3) (h specific)
+same-single : (turn : Header → Header) (c : Context) → singleIn (turnedIn turn c) ≡ singleIn c
+unfolding singleIn
+same-single turn forHead = refl
+same-single turn (forFile h seen) = refl
+same-single turn forGroup = refl
+same-single turn (forItem single) = refl
 
-  after-kept : (specific at : ℕ) (s : List ℕ) → Kept (afterSymbol y k specific at s) (afterSymbol (uncutting y) k specific at s)
-  unfolding afterSymbol
-  after-kept specific at [] = same-line
-  after-kept specific at (x ∷ s) = text-kept _ (text-alike y _ s) (h specific)
+bank-takes : (ranked ranked′ : Bool) → ranked ≡ ranked′ → (s : List ℕ) → Takes (readBank ranked s) (readBank ranked′ s)
+bank-takes ranked ranked′ e s = rw e alike
 
-  open-kept : (bare : Bool) (at : ℕ) (s : List ℕ) → Kept (openTail y k bare at s) (openTail (uncutting y) k bare at s)
-  unfolding openTail
-  open-kept bare at [] = same-line
-  open-kept bare at (x ∷ s) =
-      either-way Kept _ (text-kept _ (text-alike y _ s) (h 0)) (field-kept _ _ s λ specific a1 s1. after-kept specific a1 s1)
+total-takes : (may can : Bool) → (may ≡ true → can ≡ true) → (s : List ℕ) → Takes (readTotal may s) (readTotal can s)
+unfolding readTotal
+total-takes may can c s = amount-takes may can c 14 14 (omega arith) s
 
-module _ (sh : Sheet) where
-  payee-kept : (payer : Account) (at : ℕ) (s : List ℕ) → Kept (fromPayee sh payer at s) (fromPayee (severe sh) payer at s)
-  unfolding fromPayee tail
-  payee-kept payer at s =
-      field-kept _ at s λ payee a1 s1.
+any-number : (interval : Bool) (h : Header) (seen : List ℕ) (n : ℕ) → interval ≡ false → numberAllowed interval h seen n ≡ true
+unfolding numberAllowed pick
+any-number interval h seen n e = rw e
+
+same-number : (interval interval′ : Bool) (h g : Header) (seen : List ℕ) (n : ℕ) → interval ≡ interval′ → g ≡ h
+    → numberAllowed interval h seen n ≡ true → numberAllowed interval′ g seen n ≡ true
+same-number interval interval′ h g seen n i e q = rw (← i, e) q
+
+module _ (Only : Entry → ℕ → Type 0) (turn : Header → Header) (a b : Sheet) (wider : Wider Only turn a b) where
+  abbrev K : Said → Said → Type 0
+  K = Kept Only turn
+
+  -- ---- the first line
+
+  none-kept : (h : Header) → turn h ≡ noHeader → K (got (head h) 0 []) (got (head noHeader) 0 [])
+  none-kept h t = record { keeps = λ e w spots o q. ap (λ (g : Header). got (head g) 0 []) (sym t) ∙ said-kept {Only = Only} {turn = turn} (head h) refl .keeps e w spots o q }
+
+  first-kept : Heads turn a b → (s : List ℕ) → K (readFirst a s) (readFirst b s)
+  unfolding readFirst
+  first-kept (read-alike t h short i) s = rw (h, short, i) (same-kept t)
+  first-kept (read-none t off i) s =
+      rw (pick-false _ (got (head noHeader) 0 []) off)
+      (either (λ r. K r (got (head noHeader) 0 [])) (a .header)
+      (λ _. place-gone 6 _ _ _ λ date a1 s1. place-gone 20 _ _ _ λ name a2 s2. place-gone 10 _ _ _ λ client a3 s3. place-gone 3 _ _ _ λ from a4 s4.
+      place-gone 3 _ _ _ λ to a5 s5. on-gone _ _ λ rest. none-kept _ (t _))
+      (λ _. none-kept noHeader (t noHeader)))
+
+  -- ---- the line that begins an account file
+
+  number-kept : Heads turn a b → (h : Header) (seen : List ℕ) (n : ℕ)
+      → numberAllowed (a .interval) h seen n ≡ true → numberAllowed (b .interval) (turn h) seen n ≡ true
+  number-kept (read-alike t _ _ i) h seen n e = same-number (a .interval) (b .interval) h (turn h) seen n i (t h) e
+  number-kept (read-none _ _ i) h seen n e = any-number (b .interval) (turn h) seen n i
+
+  allowed-kept : (c : Context) (n : ℕ) → allowedIn a c n ≡ true → allowedIn b (turnedIn turn c) n ≡ true
+  unfolding allowedIn
+  allowed-kept forHead n e = e
+  allowed-kept (forFile h seen) n e = number-kept (wider .heads) h seen n e
+  allowed-kept forGroup n e = e
+  allowed-kept (forItem single) n e = e
+
+  file-kept : (c : Context) (s : List ℕ) → K (readFile a (allowedIn a c) s) (readFile b (allowedIn b (turnedIn turn c)) s)
+  unfolding readFile
+  file-kept c s =
+      field-kept _ _ (kind-takes a b (wider .kinds)) _ _ λ kind a1 s1.
       gap-kept a1 s1 λ a2 s2.
-      field-kept _ a2 s2 λ amount a3 s3.
+      field-kept _ _ (number-takes _ _ (allowed-kept c)) a2 s2 λ number a3 s3.
       gap-kept a3 s3 λ a4 s4.
-      field-kept _ a4 s4 λ variable a5 s5.
-      gap-kept a5 s5 λ a6 s6.
-      field-kept _ a6 s6 λ bank a7 s7.
-      either-way Kept _
-      (fixed-kept (sh .text) (λ specific t n off w. warned (omega arith)) a7 s7)
-      (open-kept (sh .text) (λ specific t n off w. warned (omega arith)) (sh .bare) a7 s7)
+      field-kept _ _ (code-takes a b (wider .banks)) a4 s4 λ bank a5 s5.
+      end-kept a5 s5 (said-kept (file kind number) refl)
 
-  item-kept : (single : Bool) (s : List ℕ) → Kept (readItem sh single s) (readItem (severe sh) single s)
+  -- ---- the line that begins a group
+
+  total-kept : (today : ℕ) (payer : Account) (at : ℕ) (s : List ℕ) → K (totalAndDate a today payer at s) (totalAndDate b today payer at s)
+  unfolding totalAndDate
+  total-kept today payer at s =
+      field-kept _ _ (total-takes (a .comma) (b .comma) (wider .comma)) at s λ total a1 s1.
+      gap-kept a1 s1 λ a2 s2.
+      field-kept _ _ (due-takes _ _ (wider .early) _ _ (wider .ahead) today _ _ (wider .long)) a2 s2 λ date a3 s3.
+      end-kept a3 s3 (said-kept (group payer total date) (ap (λ (warns : Bool). dueWarnings warns today date) (wider .past)))
+
+  group-kept : (today : ℕ) (s : List ℕ) → K (readGroup a today s) (readGroup b today s)
+  unfolding readGroup
+  group-kept today s =
+      same-test K _ _ (ap (λ (always : Bool). hasPayer always s) (wider .empty))
+      (field-kept _ _ (λ t. payer-takes _ _ (wider .base) _ _ (wider .joined) t _ _ _ _ (wider .empty) (wider .zero)) _ _ λ payer a1 s1.
+      gap-kept a1 s1 λ a2 s2.
+      total-kept today payer a2 s2)
+      (total-kept today nobody _ _)
+
+  -- ---- an item
+
+  -- these are the texts of an item that is let through
+  abbrev Through : Texts → Type 0
+  Through t = (x : Item) × (w : ℕ) × Only (item x) w × TextsOf x w t
+
+  module _ {k : ℕ → Texts → Said} (own : (specific : ℕ) (t : Texts) → K (k specific t) (k specific t))
+      (through : (specific : ℕ) (t : Texts) (e : Entry) (w : ℕ) (spots : List ℕ) → Only e w → k specific t ≡ got e w spots → Through t) where
+    text-kept : (specific at : ℕ) (s : List ℕ) → K (onField at (readText (a .text) at s) (k specific)) (onField at (readText (b .text) at s) (k specific))
+    unfolding onField
+    text-kept specific at s = kept (readText (a .text) at s) refl
+      where
+        kept : (x : Field Texts) → readText (a .text) at s ≡ x → K (onField at x (k specific)) (onField at (readText (b .text) at s) (k specific))
+        kept (value t) r =
+            record {
+              keeps =
+                  λ e w spots o q.
+                  let (x, v, only, of) = through specific t e w spots o q in
+                  rw (wider .texts x v t only of at s r) (own specific t .keeps e w spots o q);
+            }
+        kept (fault n) r = refused-kept
+
+    fixed-kept : (at : ℕ) (s : List ℕ) → K (fixedTail (a .text) k at s) (fixedTail (b .text) k at s)
+    unfolding fixedTail
+    fixed-kept at s =
+        gap-kept at s λ a1 s1. field-kept _ _ (λ t. alike) a1 s1 λ specific a2 s2. gap-kept a2 s2 λ a3 s3. text-kept specific a3 s3
+
+    after-kept : (specific at : ℕ) (s : List ℕ) → K (afterSymbol (a .text) k specific at s) (afterSymbol (b .text) k specific at s)
+    unfolding afterSymbol
+    after-kept specific at [] = own specific _
+    after-kept specific at (x ∷ s) = text-kept specific _ s
+
+    no-symbol : (at : ℕ) (x : Field ℕ) (l : ℕ → Said) {q : Said} → isValue x ≡ false → K (onField at x l) q
+    unfolding onField isValue
+    no-symbol at (value v) l e = never e
+    no-symbol at (fault n) l e = refused-kept
+
+    open-kept : (at : ℕ) (s : List ℕ) → K (openTail (a .text) k (a .bare) at s) (openTail (b .text) k (b .bare) at s)
+    unfolding openTail field
+    open-kept at [] = own 0 _
+    open-kept at (x ∷ s) =
+        besides K (a .bare) (b .bare) _ (wider .bare) (text-kept 0 _ s)
+        (field-kept readSymbol readSymbol (λ t. alike) _ s λ specific a1 s1. after-kept specific a1 s1)
+        (λ e. no-symbol _ _ _ (pick-not _ true e .0))
+
+    tail-kept : (at : ℕ) (s : List ℕ) → K (tail a at s k) (tail b at s k)
+    unfolding tail
+    tail-kept at s = same-test K _ _ (wider .fixed) (fixed-kept at s) (open-kept at s)
+
+  payee-kept : (payer : Account) (at : ℕ) (s : List ℕ) → K (fromPayee a payer at s) (fromPayee b payer at s)
+  unfolding fromPayee
+  payee-kept payer at s =
+      field-kept _ _ (account-takes _ _ (wider .base) _ _ (wider .joined)) at s λ payee a1 s1.
+      gap-kept a1 s1 λ a2 s2.
+      field-kept _ _ (λ t. item-amount-takes _ _ (wider .comma) _ _ (wider .digits) t _ _ (wider .amount)) a2 s2 λ amount a3 s3.
+      gap-kept a3 s3 λ a4 s4.
+      field-kept _ _ (λ t. alike) a4 s4 λ variable a5 s5.
+      gap-kept a5 s5 λ a6 s6.
+      field-kept _ _ (bank-takes _ _ (wider .priority)) a6 s6 λ bank a7 s7.
+      tail-kept
+      (λ specific t. said-kept (item (itemOf payer payee amount variable specific bank t)) refl)
+      (λ specific t e w spots o q. (
+        itemOf payer payee amount variable specific bank t,
+        w,
+        (let z : e ≡ item (itemOf payer payee amount variable specific bank t) = cc in rw z at o),
+        record { parts = refl; name = refl; warnings = (let z : bank .warnings + t .warnings ≡ w = cc in omega arith) },
+      ))
+      a7 s7
+
+  item-kept : (single : Bool) (s : List ℕ) → K (readItem a single s) (readItem b single s)
   unfolding readItem
   item-kept single s =
-      either-way Kept _
-      (field-kept _ 0 s λ payer a1 s1. gap-kept a1 s1 λ a2 s2. payee-kept payer a2 s2)
+      either-way K single
+      (field-kept _ _ (account-takes _ _ (wider .base) _ _ (wider .joined)) 0 s λ payer a1 s1. gap-kept a1 s1 λ a2 s2. payee-kept payer a2 s2)
       (payee-kept nobody 0 s)
 
-  -- ---- any line: the others are the same on both sheets
+  -- ---- closing lines
 
-  module _ (today : ℕ) where
-    same-number : (c : Context) → allowedIn (severe sh) c ≡ allowedIn sh c
-    unfolding allowedIn
-    same-number forHead = refl
-    same-number (forFile h seen) = refl
-    same-number forGroup = refl
-    same-number (forItem single) = refl
+  plus-kept : (e : Entry) (at : ℕ) (s : List ℕ) → K (plusAt e at s) (plusAt (turned turn e) at s)
+  unfolding plusAt
+  plus-kept e at [] = refused-kept
+  plus-kept e at (x ∷ s) = either-way K _ (end-kept _ s (said-kept e refl)) refused-kept
 
-    as-kept : (c : Context) (kind : Kind) (s : List ℕ) → Kept (readAs sh today c kind s) (readAs (severe sh) today c kind s)
-    unfolding readAs readFirst readFile readKind readCode kindAllowed bankAllowed readGroup totalAndDate
-    as-kept c headLine s = same-line
-    as-kept c fileLine s = rw (same-number c) same-line
-    as-kept c groupLine s = same-line
-    as-kept c itemLine s = item-kept (singleIn c) s
-    as-kept c groupEnd s = same-line
-    as-kept c fileEnd s = same-line
+  close-kept : (e : Entry) (s : List ℕ) → K (readClose (a .near) e s) (readClose (b .near) (turned turn e) s)
+  unfolding readClose
+  close-kept e s = either-way K _ (plus-kept e 2 _) (easier K (a .near) (b .near) _ (wider .near) (plus-kept e 1 _) (λ r. refused-kept))
 
-    pub line-kept : (c : Context) (s : List ℕ) → Kept (readLine sh today c s) (readLine (severe sh) today c s)
+  -- ---- any line
+
+  module _ (today : ℕ) (c : Context) where
+    as-kept : (kind : Kind) (s : List ℕ) → K (readAs a today c kind s) (readAs b today (turnedIn turn c) kind s)
+    unfolding readAs
+    as-kept headLine s = first-kept (wider .heads) s
+    as-kept fileLine s = file-kept c s
+    as-kept groupLine s = group-kept today s
+    as-kept itemLine s = rw (same-single turn c) (item-kept (singleIn c) s)
+    as-kept groupEnd s = close-kept closeGroup s
+    as-kept fileEnd s = close-kept closeFile s
+
+    pub line-kept : (s : List ℕ) → K (readLine a today c s) (readLine b today (turnedIn turn c) s)
     unfolding readLine
-    line-kept c s = as-kept c (kindOf s) s
+    line-kept s = as-kept (kindOf s) s

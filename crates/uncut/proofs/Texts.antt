@@ -1,4 +1,5 @@
 -- A text is read alike where nothing is cut, unless it would be cut: then it is refused. Assumes nothing.
+use mathlib.Core.Path.{_≡_, refl}
 use mathlib.Core.Bool.{Bool, true, false}
 use mathlib.Core.List.{List, map}
 use Prim.Native.Nat.{ℕ, _+_, _≤_}
@@ -13,7 +14,7 @@ use Rattle.paper.specs.Texts.{Piece, Texts, cut, over, overs, pad, finish, mess
 use Rattle.uncut.specs.Severe.{uncutting}
 
 -- the second reading is the first, or refuses what the first one warns of
-pub data Alike : Field Texts → Field Texts → Type 0 where
+data Alike : Field Texts → Field Texts → Type 0 where
   same-text : {x : Field Texts} → Alike x x
   would-cut : {t : Texts} {n : ℕ} → 1 ≤ t .warnings → Alike (value t) (fault n)
 
@@ -38,7 +39,22 @@ module _ (y : Style) where
   marked-alike at t =
       either-way Alike _ (finish-alike _ _) (either-way Alike _ (message-alike _ _) (either-way Alike _ (message-alike at t) same-text))
 
-  pub text-alike : (at : ℕ) (t : List ℕ) → Alike (readText y at t) (readText (uncutting y) at t)
+  text-alike : (at : ℕ) (t : List ℕ) → Alike (readText y at t) (readText (uncutting y) at t)
   unfolding readText
   text-alike at t =
       either-way Alike _ (either-way Alike _ (either-way Alike _ (marked-alike at t) same-text) (message-alike at t)) same-text
+
+  -- what gives no warning is read where nothing is cut,
+  pub text-on : (at : ℕ) (s : List ℕ) (t : Texts) → t .warnings ≡ 0 → readText y at s ≡ value t → readText (uncutting y) at s ≡ value t
+  text-on at s t z e = on (rw e at (text-alike at s))
+    where
+      on : {x : Field Texts} → Alike (value t) x → x ≡ value t
+      on same-text = refl
+      on (would-cut w) = absurd (omega arith)
+
+  -- and all that is read there is read here
+  pub text-back : (at : ℕ) (s : List ℕ) (t : Texts) → readText (uncutting y) at s ≡ value t → readText y at s ≡ value t
+  text-back at s t e = back (rw e at (text-alike at s))
+    where
+      back : {x : Field Texts} → Alike x (value t) → x ≡ value t
+      back same-text = refl

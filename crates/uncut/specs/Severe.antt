@@ -1,5 +1,5 @@
 -- A sheet that refuses what another one cuts or lets differ. Document 01, "Lines", tail, and "Numbers returned", 10 and 14. Assumes nothing.
-use mathlib.Core.Bool.{true, false}
+use mathlib.Core.Bool.{Bool, true, false}
 use Rattle.sheet.specs.declared.Sheet.{Sheet}
 use Rattle.sheet.specs.declared.Style.{Style}
 
@@ -7,9 +7,9 @@ use Rattle.sheet.specs.declared.Style.{Style}
 abbrev pub uncutting : Style → Style
 uncutting y = record { av = y .av; may = y .may; names = y .names; cuts = false; most = y .most }
 
--- .. and a total that differs from the sum is refused with 10; all else is as the sheet has it
-abbrev pub severe : Sheet → Sheet
-severe sh =
+-- a sheet with another style of texts and another answer to totals that differ; all else is as the sheet has it
+abbrev pub restyled : Sheet → Style → Bool → Sheet
+restyled sh y strict =
     record {
       number = sh .number;
       letter = sh .letter;
@@ -34,7 +34,11 @@ severe sh =
       priority = sh .priority;
       fixedtail = sh .fixedtail;
       bare = sh .bare;
-      text = uncutting (sh .text);
-      strict = true;
+      text = y;
+      strict = strict;
       fileitems = sh .fileitems;
     }
+
+-- .. and a total that differs from the sum is refused with 10
+abbrev pub severe : Sheet → Sheet
+severe sh = restyled sh (uncutting (sh .text)) true

@@ -1,0 +1,66 @@
+-- When a sheet takes what another one takes, field by field, and reads it alike. Document 01, "Lines", of two sheets. Assumes nothing.
+use Prim.Native.Nat.{ℕ, _+_, _≤_}
+use mathlib.Core.Path.{_≡_}
+use mathlib.Core.Bool.{true, false}
+use mathlib.Core.List.{List, [], _∷_}
+use Rattle.sheet.specs.declared.Sheet.{Sheet}
+use Rattle.sheet.specs.Sheets.{bankAllowed}
+use Rattle.paper.specs.Read.{value}
+use Rattle.paper.specs.Accounts.{Account}
+use Rattle.paper.specs.Batch.{Item, Header, noHeader}
+use Rattle.paper.specs.Texts.{Texts, readText}
+use Rattle.paper.specs.ItemLine.{partBytes}
+use Rattle.paper.specs.Entries.{Entry, group, item}
+use Rattle.paper.specs.Spells.{Due, differs}
+
+-- The first line: both sheets read it alike, or the wider one takes any. `turn` says what becomes of the header that the narrower one reads.
+pub data Heads (turn : Header → Header) (a b : Sheet) : Type 0 where
+  read-alike : ((h : Header) → turn h ≡ h) → a .header ≡ b .header → a .short ≡ b .short → a .interval ≡ b .interval → Heads turn a b
+  read-none : ((h : Header) → turn h ≡ noHeader) → b .header ≡ false → b .interval ≡ false → Heads turn a b
+
+-- these are the texts of an item whose line gives w warnings, some of them for its texts
+pub record TextsOf (x : Item) (w : ℕ) (t : Texts) : Type 0 where
+  pub parts : x .parts ≡ partBytes t
+  pub name : x .name ≡ t .name .bytes
+  pub warnings : t .warnings ≤ w
+
+-- Of the entries, each with the warnings of its line, that `Only` lets through: what the narrower sheet a reads the wider sheet b reads alike.
+-- What is warned of on one is warned of on the other. Where a field is not compared but the same, neither answer is wider than the other.
+pub record Wider (Only : Entry → ℕ → Type 0) (turn : Header → Header) (a b : Sheet) : Type 0 where
+  -- the first line, and with it the numbers of account files
+  pub heads : Heads turn a b
+  -- `1 KIND NUMBER BANK`
+  pub kinds : a .lastkind ≤ b .lastkind
+  pub banks : (code : ℕ) → bankAllowed a code ≡ true → bankAllowed b code ≡ true
+  -- accounts, and a group's payer
+  pub joined : a .joined ≡ true → b .joined ≡ true
+  pub base : b .basemin ≤ a .basemin
+  pub empty : a .emptypayer ≡ b .emptypayer
+  pub zero : a .zeropayer ≡ b .zeropayer
+  -- a group's due date
+  pub long : a .longdate ≡ true → b .longdate ≡ true
+  pub early : a .early ≡ true → b .early ≡ true
+  pub ahead : a .ahead ≤ b .ahead
+  pub past : a .warnpast ≡ b .warnpast
+  -- totals, and an item's amount
+  pub comma : a .comma ≡ true → b .comma ≡ true
+  pub digits : a .itemdigits ≤ b .itemdigits
+  pub amount : a .itemmax ≤ b .itemmax
+  -- the bank field and the tail
+  pub priority : a .priority ≡ b .priority
+  pub fixed : a .fixedtail ≡ b .fixedtail
+  pub bare : a .bare ≡ true → b .bare ≡ true
+  pub texts : (x : Item) (w : ℕ) (t : Texts) → Only (item x) w → TextsOf x w t
+      → (at : ℕ) (s : List ℕ) → readText (a .text) at s ≡ value t → readText (b .text) at s ≡ value t
+  -- `3+` and `5+`
+  pub near : a .near ≡ true → b .near ≡ true
+  -- a total that may differ from the sum
+  pub totals : (payer : Account) (total sum date v : ℕ) → Only (group payer sum date) (v + differs total sum)
+      → Only (group payer total date) v × ((a .strict ≡ true → total ≡ sum) → b .strict ≡ true → total ≡ sum)
+  -- items of the whole file
+  pub items : a .fileitems ≤ b .fileitems
+
+-- however w warnings are divided among the entries that are due, each entry is let through with its own
+abbrev pub Throughout : (Entry → ℕ → Type 0) → List Due → ℕ → Type 0
+Throughout Only [] w = Unit {0}
+Throughout Only (d ∷ ds) w = (v u : ℕ) → w ≡ v + u → Only (d .entry) v × Throughout Only ds u
