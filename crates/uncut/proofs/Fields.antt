@@ -60,7 +60,7 @@ module _ (q : ℕ) (other : isDigit q ≡ false) (s : List ℕ) (stands : seek (
   digits-other least most {y} =
       either (λ x. Takes x y) _ (λ _. refused) λ _.
       either (λ x. Takes x y) _ (λ _. refused) λ _.
-      record { takes = λ n e. absurd (let f = free-all isDigit q other s (digits-all 0 n s e) in omega arith) }
+      record { takes = λ n on e. absurd (let f = free-all isDigit q other s (digits-all 0 n s e) in omega arith) }
 
 -- ---- the line that begins an account file
 

@@ -44,7 +44,7 @@ module _ {Only : Entry → ℕ → Type 0} {turn : Header → Header} where
   module _ {A : Type 0} where
     pub on-kept : (at : ℕ) (x y : Field A) {k l : A → Said} → Takes x y → ((v : A) → Kept Only turn (k v) (l v)) → Kept Only turn (onField at x k) (onField at y l)
     unfolding onField
-    on-kept at (value v) y r h = rw (r .takes v refl) (h v)
+    on-kept at (value v) y r h = rw (r .takes v tt refl) (h v)
     on-kept at (fault n) y r h = refused-kept
 
     pub field-kept : (read also : List ℕ → Field A) → ((t : List ℕ) → Takes (read t) (also t)) → (at : ℕ) (s : List ℕ) {k l : A → ℕ → List ℕ → Said}

@@ -1,8 +1,9 @@
 pub mod Tests
 pub mod Takes
 pub mod Fields
+pub mod Unmarked
+pub mod Texts
 pub mod Kept
 pub mod Lines
 pub mod Walk
-pub mod Texts
 pub mod Main

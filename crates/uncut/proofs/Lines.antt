@@ -13,7 +13,7 @@ use Rattle.paper.specs.Accounts.{Account, nobody}
 use Rattle.paper.specs.Amounts.{readTotal}
 use Rattle.paper.specs.BankField.{readBank}
 use Rattle.paper.specs.Days.{dueWarnings}
-use Rattle.paper.specs.Batch.{Item, Header, noHeader}
+use Rattle.paper.specs.Batch.{Header, noHeader}
 use Rattle.paper.specs.Texts.{Texts, readText}
 use Rattle.paper.specs.Entries.{Entry, head, file, group, item, closeGroup, closeFile, Said, got, onField, field, Kind, headLine, fileLine, groupLine, itemLine, groupEnd, fileEnd, kindOf}
 use Rattle.paper.specs.FirstLine.{readFirst}
@@ -26,6 +26,7 @@ use Rattle.uncut.specs.Wider.{Heads, read-alike, read-none, TextsOf, Wid
 use Rattle.uncut.proofs.Tests.{same-test, easier, besides}
 use Rattle.uncut.proofs.Takes.{Takes, alike}
 use Rattle.uncut.proofs.Fields.{kind-takes, code-takes, number-takes, account-takes, payer-takes, due-takes, amount-takes, item-amount-takes}
+use Rattle.uncut.proofs.Texts.{text-takes}
 use Rattle.uncut.proofs.Kept.{turned, Kept, said-kept, refused-kept, same-kept, field-kept, on-gone, place-gone, gap-kept, end-kept}
 
 -- what becomes of a context, where headers are turned
@@ -121,12 +122,8 @@ module _ (Only : Entry → ℕ → Type 0) (turn : Header → Header) (a b : She
 
   -- ---- an item
 
-  -- these are the texts of an item that is let through
-  abbrev Through : Texts → Type 0
-  Through t = (x : Item) × (w : ℕ) × Only (item x) w × TextsOf x w t
-
   module _ {k : ℕ → Texts → Said} (own : (specific : ℕ) (t : Texts) → K (k specific t) (k specific t))
-      (through : (specific : ℕ) (t : Texts) (e : Entry) (w : ℕ) (spots : List ℕ) → Only e w → k specific t ≡ got e w spots → Through t) where
+      (through : (specific : ℕ) (t : Texts) (e : Entry) (w : ℕ) (spots : List ℕ) → Only e w → k specific t ≡ got e w spots → TextsOf Only t) where
     text-kept : (specific at : ℕ) (s : List ℕ) → K (onField at (readText (a .text) at s) (k specific)) (onField at (readText (b .text) at s) (k specific))
     unfolding onField
     text-kept specific at s = kept (readText (a .text) at s) refl
@@ -136,8 +133,8 @@ module _ (Only : Entry → ℕ → Type 0) (turn : Header → Header) (a b : She
             record {
               keeps =
                   λ e w spots o q.
-                  let (x, v, only, of) = through specific t e w spots o q in
-                  rw (wider .texts x v t only of at s r) (own specific t .keeps e w spots o q);
+                  let on = through specific t e w spots o q in
+                  rw (text-takes (TextsOf Only) (a .text) (b .text) (wider .texts) at s t on r) (own specific t .keeps e w spots o q);
             }
         kept (fault n) r = refused-kept
 
@@ -180,12 +177,15 @@ module _ (Only : Entry → ℕ → Type 0) (turn : Header → Header) (a b : She
       field-kept _ _ (bank-takes _ _ (wider .priority)) a6 s6 λ bank a7 s7.
       tail-kept
       (λ specific t. said-kept (item (itemOf payer payee amount variable specific bank t)) refl)
-      (λ specific t e w spots o q. (
-        itemOf payer payee amount variable specific bank t,
-        w,
-        (let z : e ≡ item (itemOf payer payee amount variable specific bank t) = cc in rw z at o),
-        record { parts = refl; name = refl; warnings = (let z : bank .warnings + t .warnings ≡ w = cc in omega arith) },
-      ))
+      (λ specific t e w spots o q.
+      record {
+        of = itemOf payer payee amount variable specific bank t;
+        warned = w;
+        only = (let z : e ≡ item (itemOf payer payee amount variable specific bank t) = cc in rw z at o);
+        parts = refl;
+        name = refl;
+        warnings = (let z : bank .warnings + t .warnings ≡ w = cc in omega arith);
+      })
       a7 s7
 
   item-kept : (single : Bool) (s : List ℕ) → K (readItem a single s) (readItem b single s)

@@ -1,60 +1,141 @@
--- A text is read alike where nothing is cut, unless it would be cut: then it is refused. Assumes nothing.
-use mathlib.Core.Path.{_≡_, refl}
+-- A text: what the narrower style reads, of what is let through, the wider one reads alike. Assumes nothing.
+use mathlib.Core.Path.{_≡_, refl, sym, ap, subst, _∙_}
 use mathlib.Core.Bool.{Bool, true, false}
-use mathlib.Core.List.{List, map}
+use mathlib.Core.List.{List, [], _∷_, map}
 use Prim.Native.Nat.{ℕ, _+_, _≤_}
 use native.Mathlib.Omega.{arith}
-use lib.Dec.{eqb}
-use borrow.Author.Tests.{eqb-false}
+use lib.Dec.{eqb, ltb}
+use lib.ListN.{length, take, drop}
+use lib.Seq.{take-length}
+use borrow.Author.Tests.{eqb-true, eq-eqb, ne-eqb, ltb-false, le-ltb}
 use Rattle.base.specs.Pick.{pick}
-use Rattle.base.proofs.Cases.{by-test, either-way}
+use Rattle.base.specs.Seek.{starts, seek, Free}
+use Rattle.base.proofs.Cases.{by-test, either-way, pick-same, pick-true, pick-false}
+use Rattle.base.proofs.Seek.{never}
 use Rattle.sheet.specs.declared.Style.{Style}
 use Rattle.paper.specs.Read.{Field, value, fault}
-use Rattle.paper.specs.Texts.{Piece, Texts, cut, over, overs, pad, finish, messageEnd, message, marked, readText}
-use Rattle.uncut.specs.Severe.{uncutting}
+use Rattle.paper.specs.Bytes.{mark, np, av}
+use Rattle.paper.specs.Texts.{Piece, piece, Texts, divide, cut, over, overs, pad, finish, messageEnd, message, marked, readText}
+use Rattle.paper.specs.ItemLine.{partBytes}
+use Rattle.uncut.specs.Wider.{Unmarked, Names, named-alike, named-more, WiderStyle}
+use Rattle.uncut.proofs.Tests.{same-test, easier, besides}
+use Rattle.uncut.proofs.Takes.{TakesOn, refused}
+use Rattle.uncut.proofs.Unmarked.{pieces-free}
 
--- the second reading is the first, or refuses what the first one warns of
-data Alike : Field Texts → Field Texts → Type 0 where
-  same-text : {x : Field Texts} → Alike x x
-  would-cut : {t : Texts} {n : ℕ} → 1 ≤ t .warnings → Alike (value t) (fault n)
+-- ---- parts and name as found
 
-too-long : (cuts : Bool) (t : Texts)
-    → Alike (pick (pick cuts true (eqb (t .warnings) 0)) (value t) (fault 14)) (pick (pick false true (eqb (t .warnings) 0)) (value t) (fault 14))
-unfolding pick
-too-long false t = same-text
-too-long true t = by-test (eqb (t .warnings) 0) (λ e. rw e same-text) (λ e. rw e (would-cut {t = t} (omega (arith, eqb-false (t .warnings) 0 e))))
+-- the texts that they make
+abbrev made : List Piece → Piece → Texts
+made ps n = record { parts = pad 4 (map cut ps); name = cut n; warnings = overs ps + over n }
 
-module _ (y : Style) where
-  finish-alike : (ps : List Piece) (n : Piece) → Alike (finish y ps n) (finish (uncutting y) ps n)
+-- a style takes them, as these texts
+record Finished (y : Style) (ps : List Piece) (n : Piece) (t : Texts) : Type 0 where
+  few : length ps ≤ y .most
+  fits : pick (y .cuts) true (eqb (overs ps + over n) 0) ≡ true
+  is : made ps n ≡ t
+
+module _ (y : Style) (ps : List Piece) (n : Piece) (t : Texts) where
+  finish-only : finish y ps n ≡ value t → Finished y ps n t
+  unfolding finish pick
+  finish-only e =
+      by-test (ltb (y .most) (length ps))
+      (λ many. absurd (let q : fault 14 ≡ value t = rw many at e in let z : _≡_ {A = ℕ} 0 1 = cc in omega arith))
+      (λ few. by-test (pick (y .cuts) true (eqb (overs ps + over n) 0))
+      (λ fits. let q : value (made ps n) ≡ value t = rw (few, fits) at e in record { few = ltb-false (y .most) (length ps) few; fits = fits; is = cc })
+      (λ long. absurd (let q : fault 14 ≡ value t = rw (few, long) at e in let z : _≡_ {A = ℕ} 0 1 = cc in omega arith)))
+
+  finish-also : Finished y ps n t → finish y ps n ≡ value t
   unfolding finish
-  finish-alike ps n =
-      either-way Alike _ same-text (too-long (y .cuts) (record { parts = pad 4 (map cut ps); name = cut n; warnings = overs ps + over n }))
+  finish-also f =
+      pick-false _ _ (le-ltb (y .most) (length ps) (f .few)) ∙ pick-true _ _ (f .fits) ∙ ap (λ (x : Texts). value x) (f .is)
 
-  message-alike : (at : ℕ) (m : List ℕ) → Alike (message y at m) (message (uncutting y) at m)
-  unfolding message messageEnd
-  message-alike at m = finish-alike _ _
+-- a text that is too long is taken where it is cut, or where it is not too long
+fits-too : (cuts cuts′ : Bool) (w : ℕ) → (cuts ≡ true → cuts′ ≡ false → w ≡ 0) → pick cuts true (eqb w 0) ≡ true → pick cuts′ true (eqb w 0) ≡ true
+unfolding pick
+fits-too cuts true w h e = refl
+fits-too true false w h e = eq-eqb w 0 (h refl refl)
+fits-too false false w h e = e
 
-  marked-alike : (at : ℕ) (t : List ℕ) → Alike (marked y at t) (marked (uncutting y) at t)
-  unfolding marked
-  marked-alike at t =
-      either-way Alike _ (finish-alike _ _) (either-way Alike _ (message-alike _ _) (either-way Alike _ (message-alike at t) same-text))
+-- a name alone is no message
+np-not-av : (t : List ℕ) → starts np t ≡ true → starts av t ≡ false
+unfolding starts pick
+np-not-av [] e = refl
+np-not-av (x ∷ t) e =
+    by-test (eqb x 78) (λ n. let same = eqb-true x 78 n in pick-false _ _ (ne-eqb x 65 (λ q. omega arith))) (λ n. never (sym (rw n at e)))
 
-  text-alike : (at : ℕ) (t : List ℕ) → Alike (readText y at t) (readText (uncutting y) at t)
-  unfolding readText
-  text-alike at t =
-      either-way Alike _ (either-way Alike _ (either-way Alike _ (marked-alike at t) same-text) (message-alike at t)) same-text
+-- ---- the readings of two styles
 
-  -- what gives no warning is read where nothing is cut,
-  pub text-on : (at : ℕ) (s : List ℕ) (t : Texts) → t .warnings ≡ 0 → readText y at s ≡ value t → readText (uncutting y) at s ≡ value t
-  text-on at s t z e = on (rw e at (text-alike at s))
-    where
-      on : {x : Field Texts} → Alike (value t) x → x ≡ value t
-      on same-text = refl
-      on (would-cut w) = absurd (omega arith)
+module _ (On : Texts → Type 0) where
+  abbrev Reads : Field Texts → Field Texts → Type 0
+  Reads = TakesOn On
 
-  -- and all that is read there is read here
-  pub text-back : (at : ℕ) (s : List ℕ) (t : Texts) → readText (uncutting y) at s ≡ value t → readText y at s ≡ value t
-  text-back at s t e = back (rw e at (text-alike at s))
-    where
-      back : {x : Field Texts} → Alike x (value t) → x ≡ value t
-      back same-text = refl
+  -- a text that begins `NP:`, where a message begins `AV:`
+  not-begun : (t : List ℕ) → starts np t ≡ true → (may : Bool) → may ≡ false → (x w : Field Texts) {r : Field Texts}
+      → Reads (pick (starts av t) x (pick may w (fault 14))) r
+  unfolding pick
+  not-begun t e may off x w = rw (np-not-av t e, off) refused
+
+  module _ (y z : Style) (wider : WiderStyle On y z) where
+    finish-takes : (ps : List Piece) (n : Piece) → Reads (finish y ps n) (finish z ps n)
+    finish-takes ps n =
+        record {
+          takes =
+              λ t on e.
+              let f = finish-only y ps n t e in
+              finish-also z ps n t
+              (record {
+                few = omega (arith, f .few, wider .most);
+                fits = fits-too (y .cuts) (z .cuts) _ (λ c d. ap (λ (x : Texts). x .warnings) (f .is) ∙ wider .cuts t on c d) (f .fits);
+                is = f .is;
+              });
+        }
+
+    module _ (at : ℕ) (m : List ℕ) where
+      ends-takes : messageEnd y m ≡ messageEnd z m → Reads (message y at m) (message z at m)
+      unfolding message
+      ends-takes e = rw e (finish-takes _ _)
+
+      -- the parts are let through, so the message ends where the line does on both sheets
+      no-name : y .names ≡ false → y .cuts ≡ false → y .most ≤ 4 → (t : Texts) → Unmarked (partBytes t) → message y at m ≡ value t
+          → messageEnd y m ≡ messageEnd z m
+      unfolding message messageEnd
+      no-name names cuts most t u e =
+          let end : messageEnd y m ≡ length m = pick-false _ _ names in
+          let front = take (messageEnd y m) m in
+          let f = finish-only y (divide at front) _ t e in
+          let few : length (divide at front) ≤ 4 = omega (arith, f .few) in
+          let none : overs (divide at front) + over (piece (at + (messageEnd y m + 4)) (drop (messageEnd y m + 4) m)) ≡ 0 =
+          eqb-true _ 0 (sym (pick-false _ _ cuts) ∙ f .fits) in
+          let free : Free mark front = pieces-free at front 4 few (omega arith) (subst (λ (x : Texts). Unmarked (partBytes x)) (sym (f .is)) u) in
+          let all : front ≡ m = ap (λ (k : ℕ). take k m) end ∙ take-length m in
+          let sought : seek mark m ≡ length m = rw all at free in
+          end ∙ sym (ap (λ (k : ℕ). pick (z .names) k (length m)) sought ∙ pick-same (z .names) (length m))
+
+      message-takes : Names On y z → Reads (message y at m) (message z at m)
+      unfolding messageEnd
+      message-takes (named-alike n) = ends-takes (ap (λ (names : Bool). pick names (seek mark m) (length m)) n)
+      message-takes (named-more names _ _ cuts most u) = record { takes = λ t on e. ends-takes (no-name names cuts most t (u t on) e) .takes t on e }
+
+    -- a message that begins `AV:`, or may lack it
+    begun-takes : (at : ℕ) (t : List ℕ)
+        → Reads (pick (starts av t) (message y (at + 3) (drop 3 t)) (pick (y .may) (message y at t) (fault 14)))
+        (pick (starts av t) (message z (at + 3) (drop 3 t)) (pick (z .may) (message z at t) (fault 14)))
+    begun-takes at t =
+        either-way Reads _ (message-takes _ _ (wider .names))
+        (easier Reads (y .may) (z .may) _ (wider .may) (message-takes at t (wider .names)) (λ r. refused))
+
+    marked-takes : Names On y z → (at : ℕ) (t : List ℕ) → Reads (marked y at t) (marked z at t)
+    unfolding marked
+    marked-takes (named-alike n) at t =
+        same-test Reads _ _ (ap (λ (names : Bool). pick names (starts np t) false) n) (finish-takes _ _) (begun-takes at t)
+    marked-takes (named-more off on may _ _ _) at t =
+        besides Reads (y .names) (z .names) (starts np t) (λ _. on) (finish-takes _ _) (begun-takes at t)
+        (λ e. not-begun t e (y .may) may _ _)
+
+    pub text-takes : (at : ℕ) (s : List ℕ) (t : Texts) → On t → readText y at s ≡ value t → readText z at s ≡ value t
+    unfolding readText
+    text-takes at s =
+        either-way Reads _
+        (same-test Reads _ _ (wider .av) (either-way Reads _ (marked-takes (wider .names) at s) refused) (message-takes at s (wider .names)))
+        refused
+        .takes

@@ -3,12 +3,14 @@ use Prim.Native.Nat.{ℕ, _+_, _≤_}
 use mathlib.Core.Path.{_≡_}
 use mathlib.Core.Bool.{true, false}
 use mathlib.Core.List.{List, [], _∷_}
+use Rattle.base.specs.Seek.{Free}
 use Rattle.sheet.specs.declared.Sheet.{Sheet}
+use Rattle.sheet.specs.declared.Style.{Style}
 use Rattle.sheet.specs.Sheets.{bankAllowed}
-use Rattle.paper.specs.Read.{value}
+use Rattle.paper.specs.Bytes.{mark}
 use Rattle.paper.specs.Accounts.{Account}
 use Rattle.paper.specs.Batch.{Item, Header, noHeader}
-use Rattle.paper.specs.Texts.{Texts, readText}
+use Rattle.paper.specs.Texts.{Texts}
 use Rattle.paper.specs.ItemLine.{partBytes}
 use Rattle.paper.specs.Entries.{Entry, group, item}
 use Rattle.paper.specs.Spells.{Due, differs}
@@ -18,14 +20,36 @@ pub data Heads (turn : Header → Header) (a b : Sheet) : Type 0 where
   read-alike : ((h : Header) → turn h ≡ h) → a .header ≡ b .header → a .short ≡ b .short → a .interval ≡ b .interval → Heads turn a b
   read-none : ((h : Header) → turn h ≡ noHeader) → b .header ≡ false → b .interval ≡ false → Heads turn a b
 
--- these are the texts of an item whose line gives w warnings, some of them for its texts
-pub record TextsOf (x : Item) (w : ℕ) (t : Texts) : Type 0 where
-  pub parts : x .parts ≡ partBytes t
-  pub name : x .name ≡ t .name .bytes
-  pub warnings : t .warnings ≤ w
+-- the parts of a text hold no ` NP:`
+abbrev pub Unmarked : List (List ℕ) → Type 0
+Unmarked [] = Unit {0}
+Unmarked (p ∷ ps) = Free mark p × Unmarked ps
+
+-- Names: both sheets read them or neither does. Or the wider one alone, of texts (`On`) without ` NP:` for which the narrower one asks `AV:`, and
+-- which it does not cut.
+pub data Names (On : Texts → Type 0) (y z : Style) : Type 0 where
+  named-alike : y .names ≡ z .names → Names On y z
+  named-more : y .names ≡ false → z .names ≡ true → y .may ≡ false → y .cuts ≡ false → y .most ≤ 4 → ((t : Texts) → On t → Unmarked (partBytes t)) → Names On y z
+
+-- Of the texts that `On` lets through: what the narrower style y reads the wider style z reads alike.
+pub record WiderStyle (On : Texts → Type 0) (y z : Style) : Type 0 where
+  pub av : y .av ≡ z .av
+  pub may : y .may ≡ true → z .may ≡ true
+  pub names : Names On y z
+  pub most : y .most ≤ z .most
+  pub cuts : (t : Texts) → On t → y .cuts ≡ true → z .cuts ≡ false → t .warnings ≡ 0
+
+-- these are the texts of an item that is let through with the warnings of its line, some of them for its texts
+pub record TextsOf (Only : Entry → ℕ → Type 0) (t : Texts) : Type 0 where
+  pub of : Item
+  pub warned : ℕ
+  pub only : Only (item of) warned
+  pub parts : of .parts ≡ partBytes t
+  pub name : of .name ≡ t .name .bytes
+  pub warnings : t .warnings ≤ warned
 
 -- Of the entries, each with the warnings of its line, that `Only` lets through: what the narrower sheet a reads the wider sheet b reads alike.
--- What is warned of on one is warned of on the other. Where a field is not compared but the same, neither answer is wider than the other.
+-- What is warned of on one is warned of on the other. A field that has to be the same on both is not compared.
 pub record Wider (Only : Entry → ℕ → Type 0) (turn : Header → Header) (a b : Sheet) : Type 0 where
   -- the first line, and with it the numbers of account files
   pub heads : Heads turn a b
@@ -50,8 +74,7 @@ pub record Wider (Only : Entry → ℕ → Type 0) (turn : Header → Header) (a
   pub priority : a .priority ≡ b .priority
   pub fixed : a .fixedtail ≡ b .fixedtail
   pub bare : a .bare ≡ true → b .bare ≡ true
-  pub texts : (x : Item) (w : ℕ) (t : Texts) → Only (item x) w → TextsOf x w t
-      → (at : ℕ) (s : List ℕ) → readText (a .text) at s ≡ value t → readText (b .text) at s ≡ value t
+  pub texts : WiderStyle (TextsOf Only) (a .text) (b .text)
   -- `3+` and `5+`
   pub near : a .near ≡ true → b .near ≡ true
   -- a total that may differ from the sum
