@@ -20,7 +20,7 @@ use Rattle.paper.specs.Read.{value}
 use Rattle.paper.specs.Bytes.{isDigit, dash, null}
 use Rattle.paper.specs.Numerals.{digits, decimal}
 use Rattle.paper.specs.Accounts.{Account, account, nobody, accountOk, ruled, twoParts, onePart, readAccount, accountProper, spellAccount, readPayer}
-use Rattle.account.specs.Told.{withBase}
+use Rattle.account.specs.Parts.{withBase}
 use Rattle.account.proofs.Proper.{ok-long, ruled-ok, proper-prefix, proper-base, proper-ok}
 use Rattle.account.proofs.Spelled.{spelled-alone, spelled-both}
 use Rattle.account.proofs.Zeros.{account-payer}

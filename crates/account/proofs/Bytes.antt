@@ -9,7 +9,7 @@ use lib.Seq.{drop-cons}
 use borrow.Author.Tests.{eq-eqb, ne-eqb}
 use Rattle.base.specs.Pick.{pick}
 use Rattle.base.specs.Seek.{all}
-use Rattle.account.specs.Bytes.{isZero}
+use Rattle.numeral.specs.Zero.{isZero}
 
 module _ (f : List ℕ) (i : ℕ) where
   -- the loop of `all_zero`

@@ -16,7 +16,7 @@ use Rattle.paper.specs.Read.{value, fault}
 use Rattle.paper.specs.Bytes.{dash, null}
 use Rattle.paper.specs.Numerals.{digits}
 use Rattle.paper.specs.Accounts.{Account, account, nobody, accountOk, ruled, twoParts, onePart, readAccount, accountProper, isNobody, onlyZeros, readPayer}
-use Rattle.account.specs.Told.{withBase}
+use Rattle.account.specs.Parts.{withBase}
 use Rattle.account.proofs.Proper.{ruled-ok, ruled-broken, proper}
 
 abbrev Proper : Account → Type 0

@@ -15,8 +15,8 @@ use Rattle.paper.specs.Read.{value, fault}
 use Rattle.paper.specs.Bytes.{isDigit, dash, null}
 use Rattle.paper.specs.Numerals.{digitsOn, digits}
 use Rattle.paper.specs.Accounts.{Account, weighted, nonZero, accountOk, ruled, twoParts, onePart, readAccount, zeros, onlyZeros, readPayer}
-use Rattle.account.specs.Bytes.{isZero}
-use Rattle.account.specs.Told.{withBase}
+use Rattle.numeral.specs.Zero.{isZero}
+use Rattle.account.specs.Parts.{withBase}
 
 -- zeros read as 0
 zeros-on : (s : List ℕ) → all isZero s ≡ true → digitsOn 0 s ≡ value 0

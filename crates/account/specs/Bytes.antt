@@ -5,10 +5,6 @@ use lib.Dec.{eqb}
 use Rattle.base.specs.Pick.{pick}
 use Rattle.paper.specs.Bytes.{isDigit}
 
--- the digit 0
-abbrev pub isZero : ℕ → Bool
-isZero x = eqb x 48
-
 -- a digit or a dash: what an account is spelled with
 unfoldable pub isAccountByte : ℕ → Bool
 isAccountByte x = pick (isDigit x) true (eqb x 45)

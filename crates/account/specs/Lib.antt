@@ -1,3 +1,3 @@
 pub mod Bytes
-pub mod Told
+pub mod Parts
 pub mod Doubled

@@ -1,5 +1,4 @@
-// Accounts: the rule of their digits, how a field is read as an account or as a group's payer, and their one spelling.
-use numeral::Num;
+// Accounts: the rule of their digits, zeros that stand for nobody, and their one spelling.
 ghost use mathlib.Core.Path.{_≡_};
 ghost use mathlib.Core.Bool.{false};
 ghost use Prim.Native.Nat.{_+_, _≤_, _<_};
@@ -7,17 +6,9 @@ ghost use lib.ListN.{length};
 ghost use Rattle.base.specs.Pick.{pick};
 ghost use Rattle.base.specs.Put.{Wrote};
 ghost use Rattle.base.specs.Seek.{all};
-ghost use Rattle.paper.specs.Bytes.{null};
-ghost use Rattle.paper.specs.Accounts.{account, accountOk, ruled, twoParts, readAccount, accountProper, isNobody, spellAccount, zeros, onlyZeros, readPayer};
-ghost use Rattle.account.specs.Bytes.{isZero};
+ghost use Rattle.paper.specs.Accounts.{account, accountOk, accountProper, isNobody, spellAccount, zeros, onlyZeros};
+ghost use Rattle.numeral.specs.Zero.{isZero};
 ghost use Rattle.account.specs.Doubled.{doubled, sumsOk};
-ghost use Rattle.account.specs.Told.{told, withBase};
-
-// What a field says: an account's prefix and base, or the refusal's number. Nobody is prefix 0 and base 0.
-pub enum Acct {
-    Account(u64, u64),
-    Refused(u64),
-}
 
 // The digits of n, each weighted twice as much as the digit on its right: two digits,
 fn pair_sum(n: u64) -> u64
@@ -136,8 +127,8 @@ fn some_zeros(f: &[u8], most: usize) -> bool
     all_zero(f)
 }
 
-// Is an account spelled with only zeros, where that is looked for?
-fn only_zeros(f: &[u8], allzero: bool) -> bool
+// Is a field spelled with only zeros, where that is looked for?
+pub fn only_zeros(f: &[u8], allzero: bool) -> bool
     ensures { λ r. ⌜ r ≡ pick allzero (onlyZeros (now (f .entry))) false ⌝ }
 {
     if !allzero {
@@ -153,86 +144,6 @@ fn only_zeros(f: &[u8], allzero: bool) -> bool
         return some_zeros(&f[from..n], 10);
     }
     false
-}
-
-// Is the field empty, where that is looked for?
-fn left_empty(f: &[u8], empty: bool) -> bool
-    ensures { λ r. ⌜ r ≡ pick empty (null (now (f .entry))) false ⌝ }
-{
-    if !empty {
-        return false;
-    }
-    f.len() == 0
-}
-
-// A prefix and a base as an account, 5 where they break the rule.
-fn by_rule(prefix: u64, base: u64) -> Acct
-    ensures { λ r. ⌜ told r ≡ ruled prefix base ⌝ }
-{
-    if account_ok(prefix, base) {
-        Acct::Account(prefix, base)
-    } else {
-        Acct::Refused(5)
-    }
-}
-
-// A base behind its prefix, which has been read.
-fn with_base(prefix: u64, b: &[u8], least: usize) -> Acct
-    ensures { λ r. ⌜ told r ≡ withBase least prefix (now (b .entry)) ⌝ }
-{
-    match numeral::read_digits(b, least, 10) {
-        Num::Value(base) => by_rule(prefix, base),
-        Num::Refused(n) => Acct::Refused(n),
-    }
-}
-
-// A prefix and a base.
-fn two_parts(p: &[u8], b: &[u8], least: usize) -> Acct
-    ensures { λ r. ⌜ told r ≡ twoParts least (now (p .entry)) (now (b .entry)) ⌝ }
-{
-    match numeral::read_digits(p, 1, 6) {
-        Num::Value(prefix) => with_base(prefix, b, least),
-        Num::Refused(n) => Acct::Refused(n),
-    }
-}
-
-// An account: a prefix, a dash and a base; a base alone, of `least` digits or more; or, if `joined`, prefix and base with no dash.
-pub fn read_account(f: &[u8], joined: bool, least: usize) -> Acct
-    ensures { λ r. ⌜ told r ≡ readAccount joined least (now (f .entry)) ⌝ }
-{
-    let n = f.len();
-    let d = find::find_byte(f, 0, 45);
-    if d < n {
-        let from = d + 1;
-        return two_parts(&f[0..d], &f[from..n], least);
-    }
-    if n <= 10 {
-        return with_base(0, f, least);
-    }
-    // more than ten digits and no dash
-    if joined {
-        let cut = n - 10;
-        return two_parts(&f[0..cut], &f[cut..n], 10);
-    }
-    Acct::Refused(4)
-}
-
-// A group's payer where its field stands: nobody if the field is empty (`empty`) or has only zeros (`allzero`), else an account. What
-// is an account does not have only zeros, so zeros are looked for only where there is none.
-pub fn read_payer(f: &[u8], empty: bool, allzero: bool, joined: bool, least: usize) -> Acct
-    ensures { λ r. ⌜ told r ≡ readPayer empty allzero joined least (now (f .entry)) ⌝ }
-{
-    if left_empty(f, empty) {
-        return Acct::Account(0, 0);
-    }
-    match read_account(f, joined, least) {
-        Acct::Account(prefix, base) => Acct::Account(prefix, base),
-        Acct::Refused(n) => if only_zeros(f, allzero) {
-            Acct::Account(0, 0)
-        } else {
-            Acct::Refused(n)
-        },
-    }
 }
 
 // How many bytes the account's spelling has.

@@ -1,5 +1,4 @@
 pub mod Range
-pub mod Exits
 pub mod Sound
 pub mod Spelled
 pub mod Back

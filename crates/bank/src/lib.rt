@@ -1,5 +1,4 @@
-// The field of an item that holds payee bank, constant symbol and priority: reading it, writing it, and what its values may be.
-use numeral::Num;
+// The field of an item that holds payee bank, constant symbol and priority: what its values may be, and writing it.
 ghost use mathlib.Core.Path.{_≡_};
 ghost use mathlib.Core.List.{[]};
 ghost use Prim.Native.Nat.{ℕ, _+_, _≤_};
@@ -8,77 +7,7 @@ ghost use lib.ListN.{length};
 ghost use Rattle.base.specs.Pick.{pick};
 ghost use Rattle.base.specs.Put.{Wrote};
 ghost use Rattle.paper.specs.Numerals.{fixed};
-ghost use Rattle.paper.specs.BankField.{ninth, readBank, bankProper, priorityProper, priorityCarried, spellBank};
-ghost use Rattle.bank.specs.Told.{told};
-
-// What the field says: its values and how many warnings it gives, or the refusal's number.
-pub enum BankRead {
-    Bank {
-        bank: u64,
-        constant: u64,
-        priority: u64,
-        warnings: u64,
-    },
-    Refused(u64),
-}
-
-// The ninth digit d decides on the priority, where the field holds one (`ranked`); elsewhere it is 0.
-fn ninth_digit(ranked: bool, d: u64, bank: u64, constant: u64) -> BankRead
-    ensures { λ r. ⌜ told r ≡ ninth ranked d bank constant ⌝ }
-{
-    if ranked {
-        if d < 1 {
-            return BankRead::Bank {
-                bank,
-                constant,
-                priority: 5,
-                warnings: 0,
-            };
-        }
-        if d < 3 {
-            return BankRead::Bank {
-                bank,
-                constant,
-                priority: 5,
-                warnings: 1,
-            };
-        }
-        return BankRead::Bank {
-            bank,
-            constant,
-            priority: d,
-            warnings: 0,
-        };
-    }
-    if d == 0 {
-        return BankRead::Bank {
-            bank,
-            constant,
-            priority: 5,
-            warnings: 0,
-        };
-    }
-    BankRead::Refused(13)
-}
-
-// The whole field: eight to ten digits that end in four of payee bank and four of constant symbol.
-pub fn read_bank(f: &[u8], ranked: bool) -> BankRead
-    ensures { λ r. ⌜ told r ≡ readBank ranked (now (f .entry)) ⌝ }
-{
-    match numeral::read_digits(f, 8, 10) {
-        Num::Refused(n) => BankRead::Refused(n),
-        Num::Value(n) => {
-            let bank = n / 10000 % 10000;
-            if bank == 0 {
-                return BankRead::Refused(12);
-            }
-            if 999999999 < n {
-                return BankRead::Refused(13);
-            }
-            ninth_digit(ranked, n / 100000000, bank, n % 10000)
-        }
-    }
-}
+ghost use Rattle.paper.specs.BankField.{bankProper, priorityProper, priorityCarried, spellBank};
 
 // A payee bank is 1 to 9999.
 pub fn bank_proper(b: u64) -> bool

@@ -1,14 +1,18 @@
 -- The digits that a text begins with, and a byte that is looked for behind them. Assumes nothing.
 use mathlib.Core.Path.{_≡_, refl, sym, ap, _∙_}
 use mathlib.Core.Bool.{Bool, true, false}
-use mathlib.Core.List.{List, [], _∷_}
-use Prim.Native.Nat.{ℕ, zero, suc, _≤_, _<_}
+use mathlib.Core.List.{List, [], _∷_, _++_}
+use Prim.Native.Nat.{ℕ, zero, suc, _+_, _≤_, _<_}
+use native.Mathlib.Numerals.{add-one}
 use native.Mathlib.Omega.{arith}
-use lib.ListN.{length, getD, take, length-take}
-use lib.Seq.{take-take, getD-take, length-take-le}
+use lib.Dec.{eqb}
+use lib.ListN.{length, getD, take, drop, length-take, length-append}
+use lib.Seq.{take-length, take-take, getD-take, getD-drop, getD-append-seam, length-take-le}
+use borrow.Author.Tests.{eqb-true}
 use Rattle.base.specs.Pick.{pick}
-use Rattle.base.specs.Seek.{all, starts, seek}
+use Rattle.base.specs.Seek.{all, starts, seek, before}
 use Rattle.base.proofs.Cases.{by-test}
+use Rattle.base.proofs.Lists.{drop-none}
 use Rattle.base.proofs.Seek.{never, all-head, all-tail, seek-le}
 use Rattle.paper.specs.Bytes.{isDigit, space, fieldOf, null}
 use Rattle.field.specs.Digits.{front, run}
@@ -71,3 +75,27 @@ field-goes (x ∷ s) h = by-test (starts space (x ∷ s)) (λ e. never (simp e a
 
 pub field-long : (s : List ℕ) → length (fieldOf s) ≡ seek space s
 field-long s = length-take-le (seek space s) s (seek-le space s)
+
+-- digits before another byte are all that a run takes,
+pub run-other : (most : ℕ) (d : List ℕ) (x : ℕ) (t : List ℕ) → all isDigit d ≡ true → isDigit x ≡ false → length d < most → run most (d ++ (x ∷ t)) ≡ d
+unfolding front pick
+run-other zero d x t a n l = absurd (omega arith)
+run-other (suc m) [] x t a n l = simp n
+run-other (suc m) (y ∷ d) x t a n l = simp (all-head isDigit y d a) (ap (λ (l : List ℕ). y ∷ l) (run-other m d x t (all-tail isDigit y d a) n (omega arith)))
+
+-- and all that the text begins with
+pub front-other : (d : List ℕ) (x : ℕ) (t : List ℕ) → all isDigit d ≡ true → isDigit x ≡ false → front (d ++ (x ∷ t)) ≡ d
+front-other d x t a n = rw take-length at (run-other (length (d ++ (x ∷ t))) d x t a n (omega (arith, length-append d (x ∷ t))))
+
+-- the byte x behind the bytes d at `at` of the line s
+pub part-byte : (s : List ℕ) (at : ℕ) (d : List ℕ) (x : ℕ) (t : List ℕ) → drop at s ≡ d ++ (x ∷ t) → getD s (at + length d) 0 ≡ x
+part-byte s at d x t q = rw (← (getD-drop at s (length d) 0), q) (getD-append-seam d x t 0)
+
+-- a byte that is found, with what stands before and behind it
+pub split-byte : (b : ℕ) (s : List ℕ) → seek (b ∷ []) s < length s → s ≡ before (b ∷ []) s ++ (b ∷ drop (seek (b ∷ []) s + 1) s)
+unfolding seek starts pick
+split-byte b [] h = absurd (omega arith)
+split-byte b (x ∷ s) h =
+    by-test (eqb x b)
+    (λ e. simp (e, add-one) (rw (drop-none s) (ap (λ (y : ℕ). y ∷ s) (eqb-true x b e))))
+    (λ e. simp (e, add-one) (ap (λ (l : List ℕ). x ∷ l) (rw add-one at (split-byte b s (omega (arith, simp e at h))))))

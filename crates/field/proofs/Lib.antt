@@ -5,3 +5,5 @@ pub mod Steps
 pub mod Onward
 pub mod Whole
 pub mod Behind
+pub mod Kept
+pub mod Symbols

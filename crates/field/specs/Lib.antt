@@ -1,3 +1,4 @@
 pub mod At
 pub mod Digits
+pub mod Kept
 pub mod Told

@@ -1,15 +1,17 @@
-// One field of a line, read at its place in one pass: runs of digits, and numbers with the field's end.
+// One field of a line at its place: digits read in one pass, numbers with the field's end, and symbols that are judged.
 ghost use mathlib.Core.Path.{_≡_};
 ghost use Prim.Native.Nat.{_+_, _-_, _≤_};
 ghost use lib.Dec.{ltb};
-ghost use lib.ListN.{length, drop};
+ghost use lib.ListN.{length, take, drop};
 ghost use Rattle.base.specs.Pick.{pick};
+ghost use Rattle.base.specs.Seek.{all};
 ghost use Rattle.paper.specs.Read.{value};
-ghost use Rattle.paper.specs.Bytes.{fieldOf, null};
+ghost use Rattle.paper.specs.Bytes.{isDigit, fieldOf, null};
 ghost use Rattle.paper.specs.Numerals.{digits};
 ghost use Rattle.field.specs.At.{fieldAt};
 ghost use Rattle.field.specs.Digits.{run, Worth};
-ghost use Rattle.field.specs.Told.{told};
+ghost use Rattle.field.specs.Kept.{keeping, nothing};
+ghost use Rattle.field.specs.Told.{told, passed};
 
 // Digits that were read: their number, and the place behind them.
 pub struct Run {
@@ -85,4 +87,72 @@ pub fn number_at(s: &[u8], at: usize, least: usize, most: usize) -> NumAt
         return NumAt::Value(got.value, end);
     }
     NumAt::Refused(4)
+}
+
+// What is known of a field of which nothing is kept: where it ends, or the refusal's number.
+pub enum Passed {
+    At(usize),
+    Refused(u64),
+}
+
+// Are the eight bytes at `at` digits? The loop has no early exit, so that the compiler compares all of them at once.
+pub fn eight_digits(s: &[u8], at: usize) -> bool
+    requires { ⌜ at + 8 ≤ length (now s) ⌝ }
+    ensures { λ r. ⌜ r ≡ all isDigit (take 8 (drop at (now (s .entry)))) ⌝ }
+{
+    let mut digits = true;
+    let mut j: usize = 0;
+    while j < 8 {
+        if 9 < worth(s[at + j]) {
+            digits = false;
+        }
+        j += 1;
+    }
+    digits
+}
+
+// Where the digits from `at` on end, `most` of them at most, which the line has room for. Callers name a small number, so that the
+// compiler unrolls the loop.
+fn few_end(s: &[u8], at: usize, most: usize) -> usize
+    requires { ⌜ at + most ≤ length (now s) ⌝ }
+    ensures { λ r. ⌜ r ≡ at + length (run most (drop at (now (s .entry)))) ⌝ }
+{
+    let mut j: usize = 0;
+    while j < most {
+        if 9 < worth(s[at + j]) {
+            return at + j;
+        }
+        j += 1;
+    }
+    at + most
+}
+
+// Where the digits from `at` on end, ten of them at most. Eight are passed at once.
+fn ten_end(s: &[u8], at: usize) -> usize
+    requires { ⌜ at ≤ length (now s) ⌝ }
+    ensures { λ r. ⌜ r ≡ at + length (run 10 (drop at (now (s .entry)))) ⌝ }
+{
+    if s.len() - at < 10 {
+        let got = digit_run(s, at, 10);
+        return got.end;
+    }
+    if eight_digits(s, at) {
+        return few_end(s, at + 8, 2);
+    }
+    few_end(s, at, 7)
+}
+
+// A symbol at `at`: `least` to 10 digits.
+pub fn pass_symbol(s: &[u8], at: usize, least: usize) -> Passed
+    requires { ⌜ at ≤ length (now s) ⌝ }
+    ensures { λ r. ⌜ passed r ≡ keeping nothing (fieldAt (digits least 10) (now (s .entry)) at) ⌝ }
+{
+    let end = ten_end(s, at);
+    if ends(s, end) {
+        if end - at < least {
+            return Passed::Refused(4);
+        }
+        return Passed::At(end);
+    }
+    Passed::Refused(4)
 }

@@ -9,30 +9,27 @@ use lib.ListN.{length, getD, take, drop}
 use borrow.Author.Tests.{ltb-false, eqb-true}
 use Rattle.base.specs.Pick.{pick}
 use Rattle.base.specs.Seek.{seek}
-use Rattle.base.proofs.Cases.{by-test}
+use Rattle.base.proofs.Cases.{by-test, pick-true, pick-false, pick-both}
 use Rattle.base.proofs.Seek.{never}
-use Rattle.paper.specs.Read.{Field, value}
+use Rattle.paper.specs.Read.{value, fault}
 use Rattle.paper.specs.Bytes.{space, fieldOf, null}
 use Rattle.paper.specs.Numerals.{digits}
 use Rattle.paper.specs.Accounts as paper
-use Rattle.paper.specs.Accounts.{ruled, readAccount, readPayer}
-use Rattle.account.specs.declared.Acct.{Acct}
-use Rattle.account.specs.declared.Acct.the-variants.{Account, Refused}
-use Rattle.account.specs.Told as account
+use Rattle.paper.specs.Accounts.{ruled, readAccount, onlyZeros, readPayer}
 use Rattle.account.proofs.Zeros.{account-payer}
 use Rattle.field.specs.At.{At, found, missed, ending, fieldAt}
 use Rattle.field.specs.Digits.{run}
 use Rattle.field.proofs.Front.{field-ends}
-use Rattle.field.proofs.Steps.{found-value, found-end}
+use Rattle.field.proofs.Steps.{found-value, found-end, missed-fault}
 use Rattle.field.proofs.Number.{run-ends, run-field, run-open, number-value, number-short, number-long}
 use Rattle.field.proofs.Behind.{behind-field, behind-end}
 use Rattle.field.proofs.Onward.{onward, given-at}
-use Rattle.field.proofs.Whole.{whole-found, whole-missed}
 use Rattle.field_account.specs.declared.AcctAt.{AcctAt}
 use Rattle.field_account.specs.declared.AcctAt.the-variants as answer
-use Rattle.field_account.specs.Parts.{undashed, withBase, dashed}
+use Rattle.field_account.specs.Parts.{undashed, withBase, dashed, zerosAt}
 use Rattle.field_account.specs.Told.{told}
 use Rattle.field_account.proofs.Digits.{undashed-is, dashed-is}
+use Rattle.field_account.proofs.None.{other-account}
 
 -- a base behind its prefix
 pub base-field : (r : At paper.Account) (least p : ℕ) (s : List ℕ) (at : ℕ) → r ≡ onward (fieldAt (digits least 10) s at) (λ b. ruled p b) → r ≡ fieldAt (withBase least p) s at
@@ -52,14 +49,6 @@ module _ (least p : ℕ) (s : List ℕ) (at e v : ℕ) (h : e ≡ at + length (r
   pub base-long : t ≡ false → missed 4 ≡ fieldAt (withBase least p) s at
   unfolding onward
   base-long y = base-field (missed 4) least p s at (ap (λ x. onward x (λ b. ruled p b)) (number-long s at least 10 e v h t k y))
-
--- the reader of the whole field answered a
-module _ (read : List ℕ → Field paper.Account) (s : List ℕ) (at e : ℕ) (h : e ≡ at + seek space (drop at s)) (a : Acct) (g : account.told a ≡ read (take (e - at) (drop at s))) where
-  pub whole-account : (p b : ℕ) → a ≡ Account p b → found (paper.account p b) e ≡ fieldAt read s at
-  whole-account p b f = whole-found read s at e h (account.told a) g (paper.account p b) (rw f)
-
-  pub whole-refused : (n : ℕ) → a ≡ Refused n → missed n ≡ fieldAt read s at
-  whole-refused n f = whole-missed read s at e h (account.told a) g n (rw f)
 
 -- what a prefix with its dash is
 module _ (s : List ℕ) (at e : ℕ) (h : dashed s at e ≡ true) where
@@ -103,12 +92,12 @@ module _ (s : List ℕ) (at e v : ℕ) (h : e ≡ at + length (run 16 (drop at s
 
 -- `payer_at`: an empty field, where it stands for nobody, and an account
 module _ (s : List ℕ) (at : ℕ) (empty allzero joined : Bool) (least : ℕ) where
-  pub empty-payer : (t : Bool) → t ≡ null (fieldOf (drop at s)) → t ≡ true → empty ≡ true → found paper.nobody at ≡ fieldAt (readPayer empty allzero joined least) s at
-  unfolding fieldAt readPayer ending pick
-  empty-payer t k y e =
-      let z : null (fieldOf (drop at s)) ≡ true = sym k ∙ y in
-      let o : at + seek space (drop at s) ≡ at = omega (arith, field-ends (drop at s) z) in
-      rw o (simp (e, z))
+  pub empty-payer : (t : Bool) → t ≡ pick empty (null (fieldOf (drop at s))) false → t ≡ true → found paper.nobody at ≡ fieldAt (readPayer empty allzero joined least) s at
+  unfolding fieldAt readPayer ending
+  empty-payer t k y =
+      let z : pick empty (null (fieldOf (drop at s))) false ≡ true = sym k ∙ y in
+      let o : at + seek space (drop at s) ≡ at = omega (arith, field-ends (drop at s) (pick-both empty (null (fieldOf (drop at s))) z .1)) in
+      rw (o, pick-true _ _ z)
 
   pub found-payer : (n : AcctAt) → told n ≡ fieldAt (readAccount joined least) s at → (p b e : ℕ) → n ≡ answer.Account p b e → found (paper.account p b) e ≡ fieldAt (readPayer empty allzero joined least) s at
   unfolding fieldAt ending
@@ -119,4 +108,26 @@ module _ (s : List ℕ) (at : ℕ) (empty allzero joined : Bool) (least : ℕ) w
         ← (found-end (readAccount joined least) s at (paper.account p b) e h),
       )
 
-pub ruleset exits = (base-value, base-short, base-long, whole-account, whole-refused, digits-account, dashed-account, empty-payer, found-payer)
+-- zeros in a field that is no account
+module _ (s : List ℕ) (at e : ℕ) (h : e ≡ at + seek space (drop at s)) (allzero : Bool) (n : ℕ) (t : Bool) (k : t ≡ pick allzero (onlyZeros (take (e - at) (drop at s))) false) where
+  looked : t ≡ pick allzero (onlyZeros (fieldOf (drop at s))) false
+  looked = let d : e - at ≡ seek space (drop at s) = omega arith in rw d at k
+
+  pub zeros-there : t ≡ true → found paper.nobody e ≡ zerosAt allzero n s at
+  unfolding zerosAt
+  zeros-there y = rw h (sym (pick-true _ _ (sym looked ∙ y)))
+
+  pub zeros-none : t ≡ false → missed n ≡ zerosAt allzero n s at
+  unfolding zerosAt
+  zeros-none y = sym (pick-false _ _ (sym looked ∙ y))
+
+-- no account, and not empty where that stands for nobody
+module _ (s : List ℕ) (at : ℕ) (empty allzero joined : Bool) (least : ℕ) (n : AcctAt) (g : told n ≡ fieldAt (readAccount joined least) s at) (c : ℕ) (f : n ≡ answer.Refused c) (r : At paper.Account) (q : r ≡ zerosAt allzero c s at) where
+  pub other-payer : (t : Bool) → t ≡ pick empty (null (fieldOf (drop at s))) false → t ≡ false → r ≡ fieldAt (readPayer empty allzero joined least) s at
+  unfolding fieldAt readPayer zerosAt ending pick
+  other-payer t k y =
+      let z : pick empty (null (fieldOf (drop at s))) false ≡ false = sym k ∙ y in
+      let m : readAccount joined least (fieldOf (drop at s)) ≡ fault c = missed-fault (readAccount joined least) s at c (rw f at g) in
+      q ∙ rw (z, m) (by-test (pick allzero (onlyZeros (fieldOf (drop at s))) false) (λ u. simp u) (λ u. simp u))
+
+pub ruleset exits = (base-value, base-short, base-long, digits-account, dashed-account, other-account, empty-payer, found-payer, zeros-there, zeros-none, other-payer)

@@ -1,4 +1,6 @@
 pub mod Digits
+pub mod None
 pub mod Exits
 pub mod Steps
 pub mod Doubling
+pub mod Judged

@@ -1,15 +1,20 @@
-// Accounts in a line, read at their place with the field's end.
-use account::Acct;
+// Accounts in a line, read or judged at their place with the field's end.
+use field::Passed;
 ghost use mathlib.Core.Path.{_≡_};
-ghost use Prim.Native.Nat.{_+_, _≤_, _<_};
+ghost use mathlib.Core.Bool.{false};
+ghost use Prim.Native.Nat.{ℕ, _+_, _≤_, _<_};
 ghost use lib.ListN.{length, drop};
+ghost use Rattle.base.specs.Pick.{pick};
 ghost use Rattle.paper.specs.Read.{value};
+ghost use Rattle.paper.specs.Bytes.{fieldOf, null};
 ghost use Rattle.paper.specs.Numerals.{digits};
 ghost use Rattle.paper.specs.Accounts.{ruled, readAccount, readPayer};
 ghost use Rattle.account.specs.Doubled.{doubled};
 ghost use Rattle.field.specs.At.{ending, fieldAt};
 ghost use Rattle.field.specs.Digits.{run};
-ghost use Rattle.field_account.specs.Parts.{Short, undashed, withBase, dashed};
+ghost use Rattle.field.specs.Kept.{keeping, nothing};
+ghost use Rattle.field.specs.Told.{passed};
+ghost use Rattle.field_account.specs.Parts.{Short, undashed, withBase, dashed, zerosAt};
 ghost use Rattle.field_account.specs.Told.{told};
 
 // What a field says: an account's prefix and base and where the field ends, or the refusal's number. No account is prefix 0 and base 0.
@@ -125,19 +130,7 @@ pub fn has_prefix(s: &[u8], at: usize, end: usize) -> bool
     s[end] == 45
 }
 
-// The account at `at`, by the bytes of the whole field.
-fn whole_account(s: &[u8], at: usize, joined: bool, least: usize) -> AcctAt
-    requires { ⌜ at ≤ length (now s) ⌝ }
-    ensures { λ r. ⌜ told r ≡ fieldAt (readAccount joined least) (now (s .entry)) at ⌝ }
-{
-    let end = line::field_end(s, at);
-    match account::read_account(&s[at..end], joined, least) {
-        Acct::Account(prefix, base) => AcctAt::Account(prefix, base, end),
-        Acct::Refused(n) => AcctAt::Refused(n),
-    }
-}
-
-// The account at `at`. Its digits are read as they come; what is no account is left to the reader of whole fields, as reading ends there.
+// The account at `at`. Its digits are read as they come; what is neither digits alone nor a prefix with its dash is no account.
 pub fn account_at(s: &[u8], at: usize, joined: bool, least: usize) -> AcctAt
     requires { ⌜ at ≤ length (now s) ⌝ }
     ensures { λ r. ⌜ told r ≡ fieldAt (readAccount joined least) (now (s .entry)) at ⌝ }
@@ -150,30 +143,34 @@ pub fn account_at(s: &[u8], at: usize, joined: bool, least: usize) -> AcctAt
     if has_prefix(s, at, end) {
         return with_base(s, end, got.value, got.sum, least);
     }
-    whole_account(s, at, joined, least)
+    AcctAt::Refused(4)
 }
 
-// A group's payer at `at`, by the bytes of the whole field.
-fn whole_payer(
-    s: &[u8],
-    at: usize,
-    empty: bool,
-    allzero: bool,
-    joined: bool,
-    least: usize,
-) -> AcctAt
+// Is the field at `at` empty, where that is looked for?
+fn left_empty(s: &[u8], at: usize, empty: bool) -> bool
     requires { ⌜ at ≤ length (now s) ⌝ }
-    ensures { λ r. ⌜ told r ≡ fieldAt (readPayer empty allzero joined least) (now (s .entry)) at ⌝ }
+    ensures { λ r. ⌜ r ≡ pick empty (null (fieldOf (drop at (now (s .entry))))) false ⌝ }
+{
+    if empty {
+        return field::ends(s, at);
+    }
+    false
+}
+
+// A group's payer at `at` whose field is no account, which n refuses: nobody where it has only zeros (`allzero`).
+fn zeros_at(s: &[u8], at: usize, allzero: bool, n: u64) -> AcctAt
+    requires { ⌜ at ≤ length (now s) ⌝ }
+    ensures { λ r. ⌜ told r ≡ zerosAt allzero n (now (s .entry)) at ⌝ }
 {
     let end = line::field_end(s, at);
-    match account::read_payer(&s[at..end], empty, allzero, joined, least) {
-        Acct::Account(prefix, base) => AcctAt::Account(prefix, base, end),
-        Acct::Refused(n) => AcctAt::Refused(n),
+    if account::only_zeros(&s[at..end], allzero) {
+        return AcctAt::Account(0, 0, end);
     }
+    AcctAt::Refused(n)
 }
 
-// A group's payer at `at`: nobody if the field is empty (`empty`) or has only zeros (`allzero`), else an account. Zeros and what is
-// refused are left to the reader of whole fields.
+// A group's payer at `at`: nobody if the field is empty (`empty`) or has only zeros (`allzero`), else an account. What is
+// an account does not have only zeros, so zeros are looked for only where there is none.
 pub fn payer_at(
     s: &[u8],
     at: usize,
@@ -185,13 +182,74 @@ pub fn payer_at(
     requires { ⌜ at ≤ length (now s) ⌝ }
     ensures { λ r. ⌜ told r ≡ fieldAt (readPayer empty allzero joined least) (now (s .entry)) at ⌝ }
 {
-    if empty {
-        if field::ends(s, at) {
-            return AcctAt::Account(0, 0, at);
-        }
+    if left_empty(s, at, empty) {
+        return AcctAt::Account(0, 0, at);
     }
-    let AcctAt::Account(prefix, base, end) = account_at(s, at, joined, least) else {
-        return whole_payer(s, at, empty, allzero, joined, least);
-    };
-    AcctAt::Account(prefix, base, end)
+    match account_at(s, at, joined, least) {
+        AcctAt::Account(prefix, base, end) => AcctAt::Account(prefix, base, end),
+        AcctAt::Refused(n) => zeros_at(s, at, allzero, n),
+    }
+}
+
+// An account by the sums of a prefix and a base, 5 where they break the rule.
+fn judge_sums(p: u64, b: u64, end: usize) -> Passed
+    ensures { λ r. ⌜ ((x y : ℕ) → x < 10000000000 → p ≡ doubled 19 x → y < 10000000000 → b ≡ doubled 19 y → passed r ≡ keeping nothing (ending end (ruled x y))) ⌝ }
+{
+    if account::sums_ok(p, b) {
+        return Passed::At(end);
+    }
+    Passed::Refused(5)
+}
+
+// The base behind the dash at `at`, and behind a prefix, whose sum is p.
+fn judge_base(s: &[u8], at: usize, p: u64, least: usize) -> Passed
+    requires { ⌜ at < length (now s) ⌝ }
+    ensures { λ r. ⌜ ((x : ℕ) → x < 10000000000 → p ≡ doubled 19 x → passed r ≡ keeping nothing (fieldAt (withBase least x) (now (s .entry)) (at + 1))) ⌝ }
+{
+    let from = at + 1;
+    let got = sum_run(s, from, 10);
+    let end = got.end;
+    if field::ends(s, end) {
+        if end - from < least {
+            return Passed::Refused(4);
+        }
+        return judge_sums(p, got.sum, end);
+    }
+    Passed::Refused(4)
+}
+
+// More than ten digits with no dash, whose number is v: where a sheet takes them (`joined`) they are a prefix and a base.
+fn judge_long(v: u64, joined: bool, end: usize) -> Passed
+    ensures { λ r. ⌜ ((least n : ℕ) → 10 < n → passed r ≡ keeping nothing (ending end (undashed joined least n v))) ⌝ }
+{
+    if joined {
+        if account::account_ok(v / 10000000000, v % 10000000000) {
+            return Passed::At(end);
+        }
+        return Passed::Refused(5);
+    }
+    Passed::Refused(4)
+}
+
+// The account at `at`. The sums of its digits decide, so its value is not kept.
+pub fn judge_account(s: &[u8], at: usize, joined: bool, least: usize) -> Passed
+    requires { ⌜ at ≤ length (now s) ⌝ }
+    ensures { λ r. ⌜ passed r ≡ keeping nothing (fieldAt (readAccount joined least) (now (s .entry)) at) ⌝ }
+{
+    let got = sum_run(s, at, 16);
+    let end = got.end;
+    if field::ends(s, end) {
+        let n = end - at;
+        if 10 < n {
+            return judge_long(got.value, joined, end);
+        }
+        if n < least {
+            return Passed::Refused(4);
+        }
+        return judge_sums(0, got.sum, end);
+    }
+    if has_prefix(s, at, end) {
+        return judge_base(s, end, got.sum, least);
+    }
+    Passed::Refused(4)
 }

@@ -1,49 +1,55 @@
--- The answers of the bank field's readers. Assumes nothing.
-use mathlib.Core.Path.{_≡_, ap, _∙_}
+-- The answers of the bank field's judge. Assumes nothing.
+use mathlib.Core.Path.{_≡_, refl, sym, _∙_}
 use mathlib.Core.Bool.{Bool, true, false}
 use mathlib.Core.List.{List}
-use Prim.Native.Nat.{ℕ, _/_, _%_, _≤_, _<_}
+use Prim.Native.Nat.{ℕ, _+_, _/_, _%_}
+use native.Mathlib.Omega.{arith}
 use lib.Dec.{eqb, ltb}
+use lib.ListN.{drop}
+use borrow.Author.Tests.{lt-ltb, le-ltb, eq-eqb, ne-eqb}
 use Rattle.base.specs.Pick.{pick}
-use Rattle.paper.specs.Read.{fault}
+use Rattle.base.specs.Seek.{seek}
+use Rattle.base.proofs.Cases.{by-test, by-lt}
+use Rattle.paper.specs.Read.{Field, value, fault, given}
+use Rattle.paper.specs.Bytes.{space, fieldOf}
 use Rattle.paper.specs.Numerals.{digits}
 use Rattle.paper.specs.BankField.{Bank, ninth, readBank}
-use Rattle.bank.proofs.Exits as field
-use Rattle.field.specs.At.{At, found, missed, ending, fieldAt}
-use Rattle.field.proofs.Onward.{onward, given-at}
+use Rattle.field.specs.At.{At, ending, fieldAt}
+use Rattle.field.specs.Kept.{keeping}
+use Rattle.field.proofs.Onward.{onward}
+use Rattle.field_bank.specs.Warned.{warningsOf, warnedBy}
 
--- the answer with these values
-abbrev says : ℕ → ℕ → ℕ → ℕ → ℕ → At Bank
-says b c p w e = found (record { bank = b; constant = c; priority = p; warnings = w }) e
+-- the ninth digit d
+ninth-warned : (ranked : Bool) (d b c e : ℕ) → keeping warningsOf (ending e (ninth ranked d b c)) ≡ ending e (warnedBy ranked d)
+unfolding ninth warnedBy keeping ending pick
+ninth-warned true d b c e =
+    by-test (ltb d 1) (λ t. simp t) (λ t. by-test (ltb d 3) (λ u. simp (t, u)) (λ u. simp (t, u)))
+ninth-warned false d b c e =
+    by-lt d 1 (λ l. simp (eq-eqb d 0 (omega arith), lt-ltb d 1 l)) (λ l. simp (ne-eqb d 0 (λ z. omega arith), le-ltb d 1 l))
 
-module _ (ranked : Bool) (d b c e : ℕ) where
-  module _ (y : ranked ≡ true) where
-    pub rank-none : d < 1 → says b c 5 0 e ≡ ending e (ninth ranked d b c)
-    unfolding ending
-    rank-none h = ap (ending e) (field.rank-none ranked d b c y h)
+-- what the number n of the field's digits gives
+abbrev judged : Bool → ℕ → Field ℕ
+judged ranked n = pick (eqb (n / 10000 % 10000) 0) (fault 12) (pick (ltb 999999999 n) (fault 13) (warnedBy ranked (n / 100000000)))
 
-    pub rank-warned : 1 ≤ d → d < 3 → says b c 5 1 e ≡ ending e (ninth ranked d b c)
-    unfolding ending
-    rank-warned l h = ap (ending e) (field.rank-warned ranked d b c y l h)
+abbrev said : Bool → ℕ → Field Bank
+said ranked n =
+    pick (eqb (n / 10000 % 10000) 0) (fault 12)
+    (pick (ltb 999999999 n) (fault 13) (ninth ranked (n / 100000000) (n / 10000 % 10000) (n % 10000)))
 
-    pub rank-given : 1 ≤ d → 3 ≤ d → says b c d 0 e ≡ ending e (ninth ranked d b c)
-    unfolding ending
-    rank-given l h = ap (ending e) (field.rank-given ranked d b c y l h)
+number-judged : (ranked : Bool) (n e : ℕ) → keeping warningsOf (ending e (said ranked n)) ≡ ending e (judged ranked n)
+unfolding keeping ending pick
+number-judged ranked n e =
+    by-test (eqb (n / 10000 % 10000) 0) (λ t. simp t)
+    (λ t. by-test (ltb 999999999 n) (λ u. simp (t, u)) (λ u. simp (t, u) (ninth-warned ranked (n / 100000000) (n / 10000 % 10000) (n % 10000) e)))
 
-  module _ (n : ranked ≡ false) where
-    pub plain-zero : d ≡ 0 → says b c 5 0 e ≡ ending e (ninth ranked d b c)
-    unfolding ending
-    plain-zero h = ap (ending e) (field.plain-zero ranked d b c n h)
-
-    pub plain-other : (d ≡ 0 → ⊥) → missed 13 ≡ ending e (ninth ranked d b c)
-    unfolding ending
-    plain-other h = ap (ending e) (field.plain-other ranked d b c n h)
-
-pub ruleset ranks = (rank-none, rank-warned, rank-given, plain-zero, plain-other)
+digits-judged : (ranked : Bool) (e : ℕ) (x : Field ℕ) → keeping warningsOf (ending e (given x (said ranked))) ≡ onward (ending e x) (judged ranked)
+unfolding keeping ending onward given
+digits-judged ranked e (value n) = number-judged ranked n e
+digits-judged ranked e (fault m) = refl
 
 -- the field is a number that is read on
-pub bank-field : (r : At Bank) (ranked : Bool) (s : List ℕ) (at : ℕ)
-    → r ≡ onward (fieldAt (digits 8 10) s at) (λ n. pick (eqb (n / 10000 % 10000) 0) (fault 12) (pick (ltb 999999999 n) (fault 13) (ninth ranked (n / 100000000) (n / 10000 % 10000) (n % 10000))))
-    → r ≡ fieldAt (readBank ranked) s at
+pub bank-field : (r : At ℕ) (ranked : Bool) (s : List ℕ) (at : ℕ)
+    → r ≡ onward (fieldAt (digits 8 10) s at) (λ n. pick (eqb (n / 10000 % 10000) 0) (fault 12) (pick (ltb 999999999 n) (fault 13) (warnedBy ranked (n / 100000000))))
+    → r ≡ keeping warningsOf (fieldAt (readBank ranked) s at)
 unfolding fieldAt readBank
-bank-field r ranked s at q = q ∙ given-at _ (digits 8 10) s at
+bank-field r ranked s at q = q ∙ sym (digits-judged ranked (at + seek space (drop at s)) (digits 8 10 (fieldOf (drop at s))))

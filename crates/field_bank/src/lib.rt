@@ -1,83 +1,95 @@
-// The field of an item that holds payee bank, constant symbol and priority, read at its place with the field's end.
+// The field of an item that holds payee bank, constant symbol and priority, judged at its place in a line.
 use field::NumAt;
 ghost use mathlib.Core.Path.{_≡_};
-ghost use Prim.Native.Nat.{_≤_};
-ghost use lib.ListN.{length};
-ghost use Rattle.paper.specs.BankField.{ninth, readBank};
+ghost use mathlib.Core.Bool.{true};
+ghost use Prim.Native.Nat.{_+_, _≤_};
+ghost use lib.ListN.{length, take, drop};
+ghost use Rattle.base.specs.Seek.{all};
+ghost use Rattle.paper.specs.BankField.{readBank};
+ghost use Rattle.numeral.specs.Zero.{isZero};
 ghost use Rattle.field.specs.At.{ending, fieldAt};
-ghost use Rattle.field_bank.specs.Told.{told};
+ghost use Rattle.field.specs.Kept.{keeping};
+ghost use Rattle.field.specs.Told.{told};
+ghost use Rattle.field_bank.specs.Plain.{PlainBank};
+ghost use Rattle.field_bank.specs.Warned.{warningsOf, warnedBy};
 
-// What the field says: its values, how many warnings it gives and where it ends; or the refusal's number.
-pub enum BankAt {
-    Bank {
-        bank: u64,
-        constant: u64,
-        priority: u64,
-        warnings: u64,
-        end: usize,
-    },
-    Refused(u64),
-}
-
-// The ninth digit d decides on the priority, where the field holds one (`ranked`); elsewhere it is 0.
-fn by_ninth(ranked: bool, d: u64, bank: u64, constant: u64, end: usize) -> BankAt
-    ensures { λ r. ⌜ told r ≡ ending end (ninth ranked d bank constant) ⌝ }
+// Are the four bytes at `at` zeros?
+fn four_zeros(s: &[u8], at: usize) -> bool
+    requires { ⌜ at + 4 ≤ length (now s) ⌝ }
+    ensures { λ r. ⌜ r ≡ all isZero (take 4 (drop at (now (s .entry)))) ⌝ }
 {
-    if ranked {
-        if d < 1 {
-            return BankAt::Bank {
-                bank,
-                constant,
-                priority: 5,
-                warnings: 0,
-                end,
-            };
-        }
-        if d < 3 {
-            return BankAt::Bank {
-                bank,
-                constant,
-                priority: 5,
-                warnings: 1,
-                end,
-            };
-        }
-        return BankAt::Bank {
-            bank,
-            constant,
-            priority: d,
-            warnings: 0,
-            end,
-        };
+    if s[at] != 48 {
+        return false;
     }
-    if d == 0 {
-        return BankAt::Bank {
-            bank,
-            constant,
-            priority: 5,
-            warnings: 0,
-            end,
-        };
+    if s[at + 1] != 48 {
+        return false;
     }
-    BankAt::Refused(13)
+    if s[at + 2] != 48 {
+        return false;
+    }
+    s[at + 3] == 48
 }
 
-// The field at `at`: eight to ten digits that end in four of payee bank and four of constant symbol.
-pub fn bank_at(s: &[u8], at: usize, ranked: bool) -> BankAt
+// Is the field at `at` eight digits, and the bank in it not 0000? Nearly all are.
+fn plain_bank(s: &[u8], at: usize) -> bool
     requires { ⌜ at ≤ length (now s) ⌝ }
-    ensures { λ r. ⌜ told r ≡ fieldAt (readBank ranked) (now (s .entry)) at ⌝ }
+    ensures { λ r. ⌜ (r ≡ true → PlainBank (now (s .entry)) at) ⌝ }
+{
+    if s.len() - at < 8 {
+        return false;
+    }
+    if four_zeros(s, at) {
+        return false;
+    }
+    if field::ends(s, at + 8) {
+        return field::eight_digits(s, at);
+    }
+    false
+}
+
+// The ninth digit d decides on the warnings: where the field holds a priority (`ranked`) 1 and 2 give one; elsewhere the digit is 0.
+fn by_ninth(ranked: bool, d: u64, end: usize) -> NumAt
+    ensures { λ r. ⌜ told r ≡ ending end (warnedBy ranked d) ⌝ }
+{
+    if d < 1 {
+        return NumAt::Value(0, end);
+    }
+    if ranked {
+        if d < 3 {
+            return NumAt::Value(1, end);
+        }
+        return NumAt::Value(0, end);
+    }
+    NumAt::Refused(13)
+}
+
+// Any field at `at`: eight to ten digits that end in four of payee bank and four of constant symbol.
+fn any_bank(s: &[u8], at: usize, ranked: bool) -> NumAt
+    requires { ⌜ at ≤ length (now s) ⌝ }
+    ensures { λ r. ⌜ told r ≡ keeping warningsOf (fieldAt (readBank ranked) (now (s .entry)) at) ⌝ }
 {
     match field::number_at(s, at, 8, 10) {
         NumAt::Value(n, end) => {
-            let bank = n / 10000 % 10000;
-            if bank == 0 {
-                return BankAt::Refused(12);
+            if n / 10000 % 10000 == 0 {
+                return NumAt::Refused(12);
             }
             if 999999999 < n {
-                return BankAt::Refused(13);
+                return NumAt::Refused(13);
             }
-            by_ninth(ranked, n / 100000000, bank, n % 10000, end)
+            by_ninth(ranked, n / 100000000, end)
         }
-        NumAt::Refused(c) => BankAt::Refused(c),
+        NumAt::Refused(c) => NumAt::Refused(c),
     }
+}
+
+// The field at `at`: how many warnings it gives and where it ends, or the refusal's number.
+pub fn judge_bank(s: &[u8], at: usize, ranked: bool) -> NumAt
+    requires { ⌜ at ≤ length (now s) ⌝ }
+    ensures { λ r. ⌜ told r ≡ keeping warningsOf (fieldAt (readBank ranked) (now (s .entry)) at) ⌝ }
+{
+    if plain_bank(s, at) {
+        let end = at + 8;
+        return NumAt::Value(0, end);
+    }
+    any_bank(s, at, ranked)
 }

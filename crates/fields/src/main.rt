@@ -1,9 +1,8 @@
-// Reads fields and spells them canonically. Each line of standard input names a sheet by its letter and a field by another, as
-// `KA 19-19`: A an account, M an item's amount, D a due date (today is 1 January 2018), B a bank field. It is answered by the
-// canonical spelling, or by the number of the refusal.
-use account::Acct;
-use bank::BankRead;
-use numeral::Num;
+// Reads fields and spells them canonically. Each line of standard input names a sheet by its letter and a field by another, and the
+// field ends at a space or with the line, as `KA 19-19`: A an account, M an item's amount, D a due date (today is 1 January 2018), B a
+// bank field. It is answered by the canonical spelling, or by the number of the refusal.
+use field::NumAt;
+use field_account::AcctAt;
 use sheet::Known;
 use sheet::Sheet;
 
@@ -15,15 +14,15 @@ fn refused(n: u64) {
 }
 
 fn show_account(sh: Sheet, f: &[u8]) {
-    match account::read_account(f, sh.joined, sh.basemin) {
-        Acct::Refused(n) => {
+    match field_account::account_at(f, 0, sh.joined, sh.basemin) {
+        AcctAt::Refused(n) => {
             refused(n);
         }
-        Acct::Account(prefix, base) => {
+        AcctAt::Account(prefix, base, end) => {
             let mut out = [0; 64];
             if account::account_len(prefix, base) <= 64 {
-                let end = account::put_account(&mut out, 0, prefix, base);
-                io::write_all(1, &out[0..end]);
+                let stop = account::put_account(&mut out, 0, prefix, base);
+                io::write_all(1, &out[0..stop]);
             }
         }
     }
@@ -35,11 +34,11 @@ fn show_amount(sh: Sheet, f: &[u8]) {
     if 19 < most {
         return;
     }
-    match amount::read_item_amount(f, sh.comma, most, limits.amount) {
-        Num::Refused(n) => {
+    match field_amount::amount_at(f, 0, sh.comma, most, limits.amount) {
+        NumAt::Refused(n) => {
             refused(n);
         }
-        Num::Value(v) => {
+        NumAt::Value(v, end) => {
             io::print_decimal(1, v);
         }
     }
@@ -48,11 +47,11 @@ fn show_amount(sh: Sheet, f: &[u8]) {
 fn show_date(sh: Sheet, f: &[u8]) {
     if calendar::real_day(TODAY) {
         let limits = sh.limits();
-        match calendar::read_due(f, sh.longdate, sh.early, limits.ahead, TODAY) {
-            Num::Refused(n) => {
+        match field_day::due_at(f, 0, sh.longdate, sh.early, limits.ahead, TODAY) {
+            NumAt::Refused(n) => {
                 refused(n);
             }
-            Num::Value(d) => {
+            NumAt::Value(d, end) => {
                 let mut out = [0; 6];
                 calendar::put_day(&mut out, 0, d);
                 io::write_all(1, &out);
@@ -62,17 +61,13 @@ fn show_date(sh: Sheet, f: &[u8]) {
 }
 
 fn show_bank(sh: Sheet, f: &[u8]) {
-    match bank::read_bank(f, sh.priority) {
-        BankRead::Refused(n) => {
+    match field_bank::judge_bank(f, 0, sh.priority) {
+        NumAt::Refused(n) => {
             refused(n);
         }
-        BankRead::Bank {
-            bank,
-            constant,
-            priority,
-            warnings,
-        } => {
-            spell_bank(bank, constant, priority);
+        NumAt::Value(warnings, end) => {
+            let x = taking::take_bank(f, 0, sh.priority);
+            spell_bank(x.bank, x.constant, x.priority);
             if 0 < warnings {
                 io::write_all(1, b" (with a warning)");
             }
@@ -113,7 +108,10 @@ fn answer(line: &[u8]) {
     }
     match sheet::sheet_by(line[0]) {
         Known::Nothing => refused(1),
-        Known::Sheet(sh) => show(sh, line[1], &line[3..]),
+        Known::Sheet(sh) => {
+            let end = line::field_end(line, 3);
+            show(sh, line[1], &line[3..end]);
+        }
     }
     io::write_all(1, b"\n");
 }

@@ -20,11 +20,13 @@ use Rattle.field.specs.declared.NumAt.{NumAt}
 use Rattle.field.specs.declared.NumAt.the-variants.{Value, Refused}
 use Rattle.field.specs.Told as number
 use Rattle.field.proofs.Steps.{number-within, steps}
-use Rattle.judging.specs.Kept.{keeping, nothing, warningsOf}
-use Rattle.judging.specs.Told.{passed}
-use Rattle.judging.specs.declared.Passed.{Passed}
-use Rattle.judging.specs.declared.Passed.the-variants as pass
-use Rattle.judging.proofs.Steps.{kept-field, missed-kept, passed-field, refused-field, passed-within, bank-within, bank-low}
+use Rattle.field.specs.Kept.{keeping, nothing}
+use Rattle.field.specs.Told.{passed}
+use Rattle.field.specs.declared.Passed.{Passed}
+use Rattle.field.specs.declared.Passed.the-variants as pass
+use Rattle.field.proofs.Kept.{kept-field, missed-kept, passed-field, refused-field, passed-within}
+use Rattle.field_bank.specs.Warned.{warningsOf}
+use Rattle.field_bank.proofs.Steps.{bank-within, bank-low}
 use Rattle.tail.proofs.Steps.{onward, text-within}
 use Rattle.itemline.proofs.Steps.{step-texts, step-no-texts, texts-few}
 use Rattle.judgeitem.specs.declared.PayeeFrom.{PayeeFrom}

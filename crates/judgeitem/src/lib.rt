@@ -1,6 +1,6 @@
 // An item's line as judging needs it: all its fields are tested, its amount and its warnings are kept.
 use field::NumAt;
-use judging::Passed;
+use field::Passed;
 use sheet::Sheet;
 use sheet::Style;
 use tail::TailRead;
@@ -69,7 +69,7 @@ fn from_bank(s: &[u8], at: usize, sh: Sheet, amount: u64) -> Judged
     requires { ⌜ at ≤ length (now s) ⌝ }
     ensures { λ r. ⌜ told r ≡ fromBank sh amount at (drop at (now (s .entry))) ⌝ }
 {
-    match judging::judge_bank(s, at, sh.priority) {
+    match field_bank::judge_bank(s, at, sh.priority) {
         NumAt::Refused(n) => Judged::Refused(n, at),
         NumAt::Value(warnings, end) => {
             with_tail(s, end, sh.text, sh.fixedtail, sh.bare, amount, warnings)
@@ -83,7 +83,7 @@ fn from_variable(s: &[u8], at: usize, sh: Sheet, amount: u64) -> Judged
     requires { ⌜ at ≤ length (now s) ⌝ }
     ensures { λ r. ⌜ told r ≡ fromVariable sh amount at (drop at (now (s .entry))) ⌝ }
 {
-    match judging::pass_symbol(s, at, 1) {
+    match field::pass_symbol(s, at, 1) {
         Passed::Refused(n) => Judged::Refused(n, at),
         Passed::At(end) => {
             if s.len() <= end {
@@ -118,7 +118,7 @@ fn payer_first(s: &[u8], joined: bool, least: usize, single: bool) -> PayeeFrom
     ensures { λ r. ⌜ InsideFrom (now (s .entry)) r ⌝ }
 {
     if single {
-        match judging::judge_account(s, 0, joined, least) {
+        match field_account::judge_account(s, 0, joined, least) {
             Passed::Refused(n) => PayeeFrom::Refused(n, 0),
             Passed::At(end) => {
                 if s.len() <= end {
@@ -139,7 +139,7 @@ pub fn judge_item(s: &[u8], sh: Sheet, single: bool) -> Judged
 {
     match payer_first(s, sh.joined, sh.basemin, single) {
         PayeeFrom::Refused(n, place) => Judged::Refused(n, place),
-        PayeeFrom::At(at) => match judging::judge_account(s, at, sh.joined, sh.basemin) {
+        PayeeFrom::At(at) => match field_account::judge_account(s, at, sh.joined, sh.basemin) {
             Passed::Refused(n) => Judged::Refused(n, at),
             Passed::At(end) => {
                 if s.len() <= end {

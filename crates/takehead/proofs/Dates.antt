@@ -19,9 +19,9 @@ use Rattle.paper.specs.Entries.{group, Said, got, field, lineEnd}
 use Rattle.paper.specs.GroupLine.{totalAndDate}
 use Rattle.paper.specs.ItemLine.{isValue}
 use Rattle.given.proofs.Given.{value-same}
-use Rattle.field.proofs.Front.{field-long}
+use Rattle.field.proofs.Front.{field-long, split-byte, part-byte}
 use Rattle.taking.specs.Known.{There}
-use Rattle.taking.proofs.Parts.{split-byte, part-byte, there-long, some-value, at-value}
+use Rattle.taking.proofs.Parts.{there-long, some-value, at-value}
 use Rattle.takeitem.specs.Said.{isSaid}
 use Rattle.takeitem.proofs.Goes.{said-as, next-goes, next-there}
 use Rattle.takehead.specs.declared.Group.{Group}

@@ -21,8 +21,9 @@ use Rattle.numeral.proofs.Sound.{digits-sound}
 use Rattle.given.proofs.Given.{value-fault, value-same, given-value}
 use Rattle.field.specs.At.{found, fieldAt}
 use Rattle.field.specs.declared.Run.{Run}
+use Rattle.field.proofs.Front.{split-byte}
 use Rattle.taking.specs.Known.{There, Stops, Ran}
-use Rattle.taking.proofs.Parts.{split-byte, some-value, at-value, one-stops, one-value, one-byte, one-whole, two-stops, two-first, two-byte, two-next, two-second, two-whole}
+use Rattle.taking.proofs.Parts.{some-value, at-value, one-stops, one-value, one-byte, one-whole, two-stops, two-first, two-byte, two-next, two-second, two-whole}
 
 -- the limits leave an amount as it is
 limited-same : (max v u : ℕ) → pick (amountProper max v) (value v) (fault 6) ≡ value u → u ≡ v

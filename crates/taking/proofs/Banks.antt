@@ -20,10 +20,10 @@ use Rattle.paper.specs.ItemLine.{isValue}
 use Rattle.numeral.proofs.Sound.{digits-least, digits-most, digits-sound, digits-below}
 use Rattle.given.proofs.Given.{value-fault, value-same, given-value}
 use Rattle.field.specs.At.{found, fieldAt}
-use Rattle.field.proofs.Front.{field-long}
+use Rattle.field.proofs.Front.{field-long, split-byte, part-byte}
 use Rattle.placed.specs.Placed.{Placed}
 use Rattle.placed.proofs.Placed.{placed-part, field-placed, field-part, field-among, one-low}
-use Rattle.taking.proofs.Parts.{split-byte, part-byte, some-value, at-value}
+use Rattle.taking.proofs.Parts.{some-value, at-value}
 
 -- ---- eight to ten digits at `at`, up to a space or the line's end
 

@@ -18,9 +18,10 @@ use Rattle.paper.specs.Accounts.{Account, account}
 use Rattle.given.proofs.Given.{value-same, given-value}
 use Rattle.field.specs.At.{found, fieldAt}
 use Rattle.field.specs.declared.Run.{Run}
+use Rattle.field.proofs.Front.{split-byte}
 use Rattle.taking.specs.Known.{There, Stops, Ran}
 use Rattle.taking.specs.Numbers.{prefixAndBase}
-use Rattle.taking.proofs.Parts.{split-byte, some-value, at-value, one-stops, one-value, one-byte, one-whole, two-stops, two-first, two-byte, two-next, two-second, two-whole}
+use Rattle.taking.proofs.Parts.{some-value, at-value, one-stops, one-value, one-byte, one-whole, two-stops, two-first, two-byte, two-next, two-second, two-whole}
 
 -- ---- the two shapes of a field w that spells a
 

@@ -1,18 +1,13 @@
 -- Digits of a line with another byte behind them, and what a run that takes them leaves. Assumes nothing.
 use mathlib.Core.Path.{_≡_, refl, sym, ap, _∙_}
 use mathlib.Core.Bool.{true, false}
-use mathlib.Core.List.{List, [], _∷_, _++_, append-assoc}
+use mathlib.Core.List.{List, _∷_, _++_, append-assoc}
 use Prim.Native.Nat.{ℕ, _+_, _≤_, _<_}
-use native.Mathlib.Numerals.{add-one}
 use native.Mathlib.Omega.{arith}
-use lib.Dec.{eqb}
 use lib.ListN.{length, getD, drop, length-append, length-drop}
-use lib.Seq.{drop-drop, getD-drop, getD-append-seam, drop-append-add}
-use borrow.Author.Tests.{eqb-true}
+use lib.Seq.{drop-drop, drop-append-add}
 use Rattle.base.specs.Pick.{pick}
-use Rattle.base.specs.Seek.{all, starts, seek, before}
-use Rattle.base.proofs.Cases.{by-test}
-use Rattle.base.proofs.Seek.{all-head, all-tail}
+use Rattle.base.specs.Seek.{seek}
 use Rattle.paper.specs.Read.{Field, value, fault}
 use Rattle.paper.specs.Bytes.{isDigit, space, fieldOf}
 use Rattle.paper.specs.Numerals.{digits}
@@ -22,32 +17,14 @@ use Rattle.field.specs.At.{found, ending, fieldAt}
 use Rattle.field.specs.Digits.{front}
 use Rattle.field.specs.declared.Run.{Run}
 use Rattle.base.proofs.Lists.{drop-none}
-use Rattle.field.proofs.Front.{field-long}
+use Rattle.field.proofs.Front.{field-long, front-other, split-byte, part-byte}
 use Rattle.taking.specs.Known.{There, Stops, Ran}
-
--- digits before another byte are all that a text begins with
-front-other : (d : List ℕ) (x : ℕ) (t : List ℕ) → all isDigit d ≡ true → isDigit x ≡ false → front (d ++ (x ∷ t)) ≡ d
-unfolding front pick
-front-other [] x t a n = simp n
-front-other (y ∷ d) x t a n = simp (all-head isDigit y d a) (ap (λ (l : List ℕ). y ∷ l) (front-other d x t (all-tail isDigit y d a) n))
-
--- a byte that is found, with what stands before and behind it
-pub split-byte : (b : ℕ) (s : List ℕ) → seek (b ∷ []) s < length s → s ≡ before (b ∷ []) s ++ (b ∷ drop (seek (b ∷ []) s + 1) s)
-unfolding seek starts pick
-split-byte b [] h = absurd (omega arith)
-split-byte b (x ∷ s) h =
-    by-test (eqb x b)
-    (λ e. simp (e, add-one) (rw (drop-none s) (ap (λ (y : ℕ). y ∷ s) (eqb-true x b e))))
-    (λ e. simp (e, add-one) (ap (λ (l : List ℕ). x ∷ l) (rw add-one at (split-byte b s (omega (arith, simp e at h))))))
 
 -- ---- the digits d stand at `at` of the line s, and the byte x behind them
 
 module _ (s : List ℕ) (at : ℕ) (d : List ℕ) (x : ℕ) (t : List ℕ) (q : drop at s ≡ d ++ (x ∷ t)) where
   pub part-inside : at + length d < length s
   part-inside = omega (arith, length-drop at s, ap length q, length-append d (x ∷ t))
-
-  pub part-byte : getD s (at + length d) 0 ≡ x
-  part-byte = rw (← (getD-drop at s (length d) 0), q) (getD-append-seam d x t 0)
 
   pub part-rest : drop (at + length d + 1) s ≡ t
   part-rest =
@@ -60,7 +37,7 @@ module _ (s : List ℕ) (at : ℕ) (d : List ℕ) (x : ℕ) (t : List ℕ) (q : 
 
     pub part-stops : Stops s at
     part-stops =
-        record { few = rw part-front (omega (arith, digits-most least most d v g)); inside = rw part-front part-inside; low = rw (part-front, part-byte) low }
+        record { few = rw part-front (omega (arith, digits-most least most d v g)); inside = rw part-front part-inside; low = rw (part-front, part-byte s at d x t q) low }
 
     module _ (r : Run) (h : Ran s at r) where
       pub part-end : r .end ≡ at + length d

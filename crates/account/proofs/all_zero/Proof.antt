@@ -5,7 +5,7 @@ use lib.ListN.{length, drop}
 use borrow.Author.Needs.{needs}
 use Rattle.account.proofs.Bytes.{turns}
 use Rattle.base.specs.Seek.{all}
-use Rattle.account.specs.Bytes.{isZero}
+use Rattle.numeral.specs.Zero.{isZero}
 use Rattle.account.proofs.all_zero.Statement.{statement}
 use Rattle.account.proofs.all_zero.Tie as tie
 

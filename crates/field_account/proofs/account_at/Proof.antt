@@ -1,4 +1,4 @@
--- `account_at` meets its contract: digits alone, a prefix with its dash, or the whole field. Assumes nothing.
+-- `account_at` meets its contract: digits alone, a prefix with its dash, or no account. Assumes nothing.
 use borrow.Author.Needs.{needs}
 use Rattle.field.proofs.Number.{numbers}
 use Rattle.field_account.proofs.Doubling.{smalls}
@@ -30,11 +30,8 @@ with-base-requires c κs = search (numbers, smalls, needs)
 returns-2 : tie.Need-returns-2
 returns-2 c = search exits
 
-whole-account-requires : tie.Need-whole-account-requires
-whole-account-requires c κs = search needs
-
 returns-3 : tie.Need-returns-3
-returns-3 c = search needs
+returns-3 c = search exits
 
 pub account-at-spec : {M : Type 1} → statement M
 account-at-spec =
@@ -48,5 +45,4 @@ account-at-spec =
     has-prefix-requires
     with-base-requires
     returns-2
-    whole-account-requires
     returns-3)

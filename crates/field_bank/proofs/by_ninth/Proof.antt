@@ -1,22 +1,24 @@
 -- `by_ninth` meets its contract: the cases of the ninth digit. Assumes nothing.
-use Rattle.field_bank.proofs.Exits.{ranks}
+use Rattle.field.proofs.Onward.{onwards}
+use Rattle.field_bank.specs.Warned.{warnedBy}
 use Rattle.field_bank.proofs.by_ninth.Statement.{statement}
 use Rattle.field_bank.proofs.by_ninth.Tie as tie
 
 returns : tie.Need-returns
-returns c = search ranks
+unfolding warnedBy
+returns c = search onwards
 
 returns-2 : tie.Need-returns-2
-returns-2 c = search ranks
+unfolding warnedBy
+returns-2 c = search onwards
 
 returns-3 : tie.Need-returns-3
-returns-3 c = search ranks
+unfolding warnedBy
+returns-3 c = search onwards
 
 returns-4 : tie.Need-returns-4
-returns-4 c = search ranks
-
-returns-5 : tie.Need-returns-5
-returns-5 c = search ranks
+unfolding warnedBy
+returns-4 c = search onwards
 
 pub by-ninth-spec : {M : Type 1} → statement M
-by-ninth-spec = tie.close (tie.spec returns returns-2 returns-3 returns-4 returns-5)
+by-ninth-spec = tie.close (tie.spec returns returns-2 returns-3 returns-4)

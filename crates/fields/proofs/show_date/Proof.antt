@@ -12,9 +12,9 @@ real-day-requires c κs = search needs
 limits-requires : tie.Need-limits-requires
 limits-requires c κs = search needs
 
-read-due-requires : tie.Need-read-due-requires
+due-at-requires : tie.Need-due-at-requires
 unfolding realDay monthDays leap pick
-read-due-requires c κs = refl
+due-at-requires c κs = (search needs, refl)
 
 enum-known-n : tie.Need-enum-known-n
 enum-known-n c = search needs
@@ -52,7 +52,7 @@ show-date-spec =
     (tie.spec
     real-day-requires
     limits-requires
-    read-due-requires
+    due-at-requires
     enum-known-n
     refused-requires
     enum-known-d

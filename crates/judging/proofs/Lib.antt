@@ -1,4 +1,0 @@
-pub mod Digits
-pub mod Plain
-pub mod Steps
-pub mod Accounts

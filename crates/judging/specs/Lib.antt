@@ -1,3 +1,0 @@
-pub mod Kept
-pub mod Plain
-pub mod Told
