@@ -1,4 +1,3 @@
-pub mod Exits
 pub mod Sound
 pub mod Back
 pub mod Edges

@@ -22,6 +22,7 @@ use Rattle.field.specs.declared.NumAt.{NumAt}
 use Rattle.field.specs.declared.NumAt.the-variants.{Value}
 use Rattle.field.specs.Told.{told}
 use Rattle.field.proofs.Steps.{found-value, found-end}
+use Rattle.field.proofs.Onward.{onward, given-at}
 
 module _ (may : Bool) where
   -- the field f is the number v
@@ -46,3 +47,9 @@ module _ (may : Bool) where
     digits-total g v e f =
         let h : found v e ≡ fieldAt (digits 1 14) s at = rw f at g in
         rw (plain-amount 14 (fieldOf (drop at s)) v (found-value (digits 1 14) s at v e h), ← (found-end (digits 1 14) s at v e h))
+
+-- an amount that is read on
+pub item-field : (r : At ℕ) (may : Bool) (most max : ℕ) (s : List ℕ) (at : ℕ)
+    → r ≡ onward (fieldAt (readAmount may most) s at) (λ v. pick (amountProper max v) (value v) (fault 6)) → r ≡ fieldAt (readItemAmount may most max) s at
+unfolding fieldAt readItemAmount
+item-field r may most max s at q = q ∙ given-at _ (readAmount may most) s at

@@ -13,8 +13,8 @@ enum-known-v c = search needs
 enum-told : tie.Need-enum-told
 enum-told c = search needs
 
-whole-amount-requires : tie.Need-whole-amount-requires
-whole-amount-requires c κs = search needs
+other-amount-requires : tie.Need-other-amount-requires
+other-amount-requires c κs = search needs
 
 returns : tie.Need-returns
 returns c = search needs
@@ -32,7 +32,7 @@ amount-at-spec =
     number-at-requires
     enum-known-v
     enum-told
-    whole-amount-requires
+    other-amount-requires
     returns
     in-limit-requires
     returns-2)

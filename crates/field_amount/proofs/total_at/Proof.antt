@@ -1,5 +1,7 @@
 -- `total_at` meets its contract: digits alone, or the whole field. Assumes nothing.
 use borrow.Author.Needs.{needs}
+use Rattle.paper.specs.Amounts.{readTotal}
+use Rattle.field.specs.At.{fieldAt}
 use Rattle.field_amount.proofs.Exits.{digits-total}
 use Rattle.field_amount.proofs.total_at.Statement.{statement}
 use Rattle.field_amount.proofs.total_at.Tie as tie
@@ -13,10 +15,11 @@ enum-known-total c = search needs
 enum-told : tie.Need-enum-told
 enum-told c = search needs
 
-whole-total-requires : tie.Need-whole-total-requires
-whole-total-requires c κs = search needs
+whole-amount-requires : tie.Need-whole-amount-requires
+whole-amount-requires c κs = search needs
 
 returns : tie.Need-returns
+unfolding fieldAt readTotal
 returns c = search needs
 
 returns-2 : tie.Need-returns-2
@@ -29,6 +32,6 @@ total-at-spec =
     number-at-requires
     enum-known-total
     enum-told
-    whole-total-requires
+    whole-amount-requires
     returns
     returns-2)

@@ -8,17 +8,17 @@ use Rattle.field_amount.proofs.whole_amount.Tie as tie
 field-end-requires : tie.Need-field-end-requires
 field-end-requires c κs = search needs
 
-sub-read-item-amount : tie.Need-sub-read-item-amount
-sub-read-item-amount c = search needs
+sub-read-amount : tie.Need-sub-read-amount
+sub-read-amount c = search needs
 
-part-read-item-amount-start : tie.Need-part-read-item-amount-start
-part-read-item-amount-start c = search needs
+part-read-amount-start : tie.Need-part-read-amount-start
+part-read-amount-start c = search needs
 
-part-read-item-amount-end : tie.Need-part-read-item-amount-end
-part-read-item-amount-end c = search (end-within, needs)
+part-read-amount-end : tie.Need-part-read-amount-end
+part-read-amount-end c = search (end-within, needs)
 
-read-item-amount-requires : tie.Need-read-item-amount-requires
-read-item-amount-requires c κs = search needs
+read-amount-requires : tie.Need-read-amount-requires
+read-amount-requires c κs = search needs
 
 enum-known-v : tie.Need-enum-known-v
 enum-known-v c = search needs
@@ -37,10 +37,10 @@ whole-amount-spec =
     tie.close
     (tie.spec
     field-end-requires
-    sub-read-item-amount
-    part-read-item-amount-start
-    part-read-item-amount-end
-    read-item-amount-requires
+    sub-read-amount
+    part-read-amount-start
+    part-read-amount-end
+    read-amount-requires
     enum-known-v
     enum-known-n
     returns

@@ -1,8 +1,8 @@
 -- `read_amount` answers as its definition does.
 use borrow.Author.Needs.{needs}
-use Rattle.amount.proofs.Exits.{exits}
-use Rattle.amount.proofs.read_amount.Statement.{statement}
-use Rattle.amount.proofs.read_amount.Tie as tie
+use Rattle.field_amount.proofs.Commas.{exits}
+use Rattle.field_amount.proofs.read_amount.Statement.{statement}
+use Rattle.field_amount.proofs.read_amount.Tie as tie
 
 find-byte-requires : tie.Need-find-byte-requires
 find-byte-requires c κs = search needs

@@ -1,8 +1,8 @@
 -- `with_comma` answers as its definition does.
 use borrow.Author.Needs.{needs}
-use Rattle.amount.proofs.Exits.{exits}
-use Rattle.amount.proofs.with_comma.Statement.{statement}
-use Rattle.amount.proofs.with_comma.Tie as tie
+use Rattle.field_amount.proofs.Commas.{exits}
+use Rattle.field_amount.proofs.with_comma.Statement.{statement}
+use Rattle.field_amount.proofs.with_comma.Tie as tie
 
 sub-read-digits : tie.Need-sub-read-digits
 sub-read-digits c = search needs
