@@ -5,7 +5,7 @@ ghost use Prim.Native.Nat.{_+_, _≤_};
 ghost use lib.ListN.{length};
 ghost use Rattle.base.specs.Put.{Wrote};
 ghost use Rattle.numeral.specs.Told.{told};
-ghost use Rattle.paper.specs.Days.{realDay, dayNumber, monthDays, real, shortDay, longDay, readDay, spellDay, dueAllowed, dueWarnings, readDue};
+ghost use Rattle.paper.specs.Days.{realDay, dayNumber, monthDays, real, shortDay, longDay, readDay, spellDay, dueAllowed, dueWarnings};
 use numeral::Num;
 
 // how many days each month has in a year with no 29 February
@@ -147,22 +147,6 @@ pub fn read_day(f: &[u8], long: bool) -> Num
         return read_short(f);
     }
     read_short(f)
-}
-
-// A due date: a day on which a payment may be due.
-pub fn read_due(f: &[u8], long: bool, early: bool, ahead: u64, today: u64) -> Num
-    requires { ⌜ realDay today ≡ true ⌝ }
-    ensures { λ r. ⌜ told r ≡ readDue long early ahead today (now (f .entry)) ⌝ }
-{
-    match read_day(f, long) {
-        Num::Value(d) => {
-            if due_allowed(early, ahead, today, d) {
-                return Num::Value(d);
-            }
-            Num::Refused(11)
-        }
-        Num::Refused(e) => Num::Refused(e),
-    }
 }
 
 // Writes the day d at `at` as DDMMRR, and returns the next place.

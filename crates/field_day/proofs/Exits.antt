@@ -11,13 +11,17 @@ use Rattle.base.specs.Pick.{pick}
 use Rattle.base.specs.Seek.{all, seek}
 use Rattle.base.proofs.Cases.{by-test}
 use Rattle.base.proofs.Seek.{seek-over}
-use Rattle.paper.specs.Read.{value, fault, given}
+use Rattle.paper.specs.Read.{Field, value, fault, given}
 use Rattle.paper.specs.Bytes.{isDigit, space, fieldOf}
 use Rattle.paper.specs.Numerals.{digitsOn, digits}
 use Rattle.paper.specs.Days.{realDay, real, shortDay, readDay, dueAllowed, readDue}
 use Rattle.numeral.proofs.Plain.{range-digit}
+use Rattle.numeral.specs.declared.Num.{Num}
+use Rattle.numeral.specs.declared.Num.the-variants as num
+use Rattle.numeral.specs.Told as number
 use Rattle.calendar.proofs.Reading.{other-length}
-use Rattle.field.specs.At.{At, ending, fieldAt}
+use Rattle.calendar.proofs.Sound.{day-told}
+use Rattle.field.specs.At.{At, missed, ending, fieldAt}
 use Rattle.field.specs.Digits.{Worth}
 use Rattle.field_day.specs.Spelled.{Two, Spelled}
 
@@ -127,5 +131,28 @@ module _ (long early : Bool) (ahead today : ℕ) where
       let o : fieldOf (drop at s) ≡ drop at s = rw k (take-length (drop at s)) in
       let g : readDay long (drop at s) ≡ real d = sym (other-length (shortDay (drop at s)) (drop at s) long (λ z. omega arith) refl) ∙ w .day h .1 in
       q ∙ rw (e, o, g, judged d)
+
+-- the field by its bytes, up to its end e: m is what the reader of days answered
+module _ (s : List ℕ) (at e : ℕ) (h : e ≡ at + seek space (drop at s)) (long : Bool) (m : Num) (g : number.told m ≡ readDay long (take (e - at) (drop at s))) where
+  pub whole-real : (d : ℕ) → m ≡ num.Value d → realDay d ≡ true
+  whole-real d f = day-told long (take (e - at) (drop at s)) m d g f
+
+  module _ (early : Bool) (ahead today : ℕ) where
+    whole-day : (x : Field ℕ) → number.told m ≡ x → ending e (given x (λ d. pick (dueAllowed early ahead today d) (value d) (fault 11))) ≡ fieldAt (readDue long early ahead today) s at
+    unfolding fieldAt readDue
+    whole-day x q =
+        let d : e - at ≡ seek space (drop at s) = omega arith in
+        let z : x ≡ readDay long (fieldOf (drop at s)) = sym q ∙ (g ∙ rw d) in
+        rw (← h, z)
+
+    pub whole-due : (r : At ℕ) (d : ℕ) → m ≡ num.Value d → r ≡ ending e (pick (dueAllowed early ahead today d) (value d) (fault 11)) → r ≡ fieldAt (readDue long early ahead today) s at
+    unfolding given
+    whole-due r d f q = q ∙ whole-day (value d) (rw f)
+
+    pub whole-no-due : (n : ℕ) → m ≡ num.Refused n → missed n ≡ fieldAt (readDue long early ahead today) s at
+    unfolding given ending
+    whole-no-due n f = whole-day (fault n) (rw f)
+
+pub ruleset whole-days = (whole-due, whole-no-due)
 
 pub ruleset spelling = (two-none, two-is, spell-none, spell-six)

@@ -48,16 +48,25 @@ fn last_day(s: &[u8], at: usize) -> u64
     20000000 + year * 10000 + month * 100 + day
 }
 
-// The day d as a due date, 11 where it is not real or no payment may be due on it.
+// The real day d as a due date, 11 where no payment may be due on it.
+fn if_allowed(d: u64, early: bool, ahead: u64, today: u64, end: usize) -> NumAt
+    requires { ⌜ realDay today ≡ true ⌝ }
+    requires { ⌜ realDay d ≡ true ⌝ }
+    ensures { λ r. ⌜ told r ≡ ending end (pick (dueAllowed early ahead today d) (value d) (fault 11)) ⌝ }
+{
+    if calendar::due_allowed(early, ahead, today, d) {
+        return NumAt::Value(d, end);
+    }
+    NumAt::Refused(11)
+}
+
+// The day d as a due date, 11 where it is not real either.
 fn if_due(d: u64, early: bool, ahead: u64, today: u64, end: usize) -> NumAt
     requires { ⌜ realDay today ≡ true ⌝ }
     ensures { λ r. ⌜ told r ≡ ending end (pick (realDay d) (pick (dueAllowed early ahead today d) (value d) (fault 11)) (fault 11)) ⌝ }
 {
     if calendar::real_day(d) {
-        if calendar::due_allowed(early, ahead, today, d) {
-            return NumAt::Value(d, end);
-        }
-        return NumAt::Refused(11);
+        return if_allowed(d, early, ahead, today, end);
     }
     NumAt::Refused(11)
 }
@@ -69,8 +78,8 @@ fn whole_due(s: &[u8], at: usize, long: bool, early: bool, ahead: u64, today: u6
     ensures { λ r. ⌜ told r ≡ fieldAt (readDue long early ahead today) (now (s .entry)) at ⌝ }
 {
     let end = line::field_end(s, at);
-    match calendar::read_due(&s[at..end], long, early, ahead, today) {
-        Num::Value(d) => NumAt::Value(d, end),
+    match calendar::read_day(&s[at..end], long) {
+        Num::Value(d) => if_allowed(d, early, ahead, today, end),
         Num::Refused(n) => NumAt::Refused(n),
     }
 }

@@ -8,8 +8,8 @@ use Rattle.field_day.proofs.if_due.Tie as tie
 real-day-requires : tie.Need-real-day-requires
 real-day-requires c κs = search needs
 
-due-allowed-requires : tie.Need-due-allowed-requires
-due-allowed-requires c κs = search (is-real, needs)
+if-allowed-requires : tie.Need-if-allowed-requires
+if-allowed-requires c κs = search (is-real, needs)
 
 returns : tie.Need-returns
 returns c = search onwards
@@ -17,9 +17,6 @@ returns c = search onwards
 returns-2 : tie.Need-returns-2
 returns-2 c = search onwards
 
-returns-3 : tie.Need-returns-3
-returns-3 c = search onwards
-
 pub if-due-spec : {M : Type 1} → statement M
 if-due-spec =
-    tie.close (tie.spec real-day-requires due-allowed-requires returns returns-2 returns-3)
+    tie.close (tie.spec real-day-requires if-allowed-requires returns returns-2)
