@@ -4,3 +4,5 @@ pub mod Exits
 pub mod Steps
 pub mod Doubling
 pub mod Judged
+pub mod Numbers
+pub mod Taken

@@ -15,7 +15,9 @@ ghost use Rattle.field.specs.Digits.{run};
 ghost use Rattle.field.specs.Kept.{keeping, nothing};
 ghost use Rattle.field.specs.Told.{passed};
 ghost use Rattle.field_account.specs.Parts.{Short, undashed, withBase, dashed, zerosAt};
-ghost use Rattle.field_account.specs.Told.{told};
+ghost use Rattle.field_account.specs.Told.{told, toldAccount};
+ghost use Rattle.field_account.specs.Numbers.{prefixAndBase};
+ghost use Rattle.placed.specs.Known.{There};
 
 // What a field says: an account's prefix and base and where the field ends, or the refusal's number. No account is prefix 0 and base 0.
 pub enum AcctAt {
@@ -252,4 +254,66 @@ pub fn judge_account(s: &[u8], at: usize, joined: bool, least: usize) -> Passed
         return judge_base(s, end, got.sum, least);
     }
     Passed::Refused(4)
+}
+
+// ---- taken
+
+// An account's prefix and base, and where its field ends.
+pub struct Account {
+    pub prefix: u64,
+    pub base: u64,
+    pub end: usize,
+}
+
+// The prefix and base at `at`, whatever rule they break. Eleven digits or more with no dash can only be a prefix and its base.
+fn take_numbers(s: &[u8], at: usize) -> Account
+    requires { ⌜ There prefixAndBase (now s) at ⌝ }
+    ensures { λ r. ⌜ toldAccount r ≡ fieldAt prefixAndBase (now (s .entry)) at ⌝ }
+{
+    let first = placed::take_run(s, at);
+    let end = first.end;
+    if s[end] == 45 {
+        let base = placed::take_run(s, end + 1);
+        return Account {
+            prefix: first.value,
+            base: base.value,
+            end: base.end,
+        };
+    }
+    let v = first.value;
+    if v < 10000000000 {
+        return Account {
+            prefix: 0,
+            base: v,
+            end,
+        };
+    }
+    Account {
+        prefix: v / 10000000000,
+        base: v % 10000000000,
+        end,
+    }
+}
+
+// The account at `at`. What the sheet allows, `joined` and `least`, was judged.
+pub fn take_account(s: &[u8], at: usize, joined: bool, least: usize) -> Account
+    requires { ⌜ There (readAccount joined least) (now s) at ⌝ }
+    ensures { λ r. ⌜ toldAccount r ≡ fieldAt (readAccount joined least) (now (s .entry)) at ⌝ }
+{
+    take_numbers(s, at)
+}
+
+// A group's payer at `at`. An empty field and one with only zeros have the numbers of nobody.
+pub fn take_payer(
+    s: &[u8],
+    at: usize,
+    empty: bool,
+    allzero: bool,
+    joined: bool,
+    least: usize,
+) -> Account
+    requires { ⌜ There (readPayer empty allzero joined least) (now s) at ⌝ }
+    ensures { λ r. ⌜ toldAccount r ≡ fieldAt (readPayer empty allzero joined least) (now (s .entry)) at ⌝ }
+{
+    take_numbers(s, at)
 }

@@ -1,5 +1,6 @@
-// Amounts in a line, read at their place with the field's end.
+// Amounts in a line: read at their place with the field's end, and taken where the line was judged before.
 use field::NumAt;
+use field::Run;
 use numeral::Num;
 ghost use mathlib.Core.Path.{_≡_};
 ghost use Prim.Native.Nat.{_≤_, _<_};
@@ -12,6 +13,8 @@ ghost use Rattle.paper.specs.Amounts.{withComma, readAmount, amountProper, read
 ghost use Rattle.numeral.specs.Told.{told as number};
 ghost use Rattle.field.specs.At.{ending, fieldAt};
 ghost use Rattle.field.specs.Told.{told};
+ghost use Rattle.placed.specs.Known.{There};
+ghost use Rattle.placed.specs.Told.{toldNumber};
 
 // Crowns, the comma at d, and two digits.
 fn with_comma(f: &[u8], d: usize) -> Num
@@ -101,4 +104,22 @@ pub fn total_at(s: &[u8], at: usize, may: bool) -> NumAt
         return whole_amount(s, at, may, 14);
     };
     NumAt::Value(total, end)
+}
+
+// An item's amount at `at`: two digits may follow a comma. What the sheet allows was judged.
+pub fn take_amount(s: &[u8], at: usize, may: bool, most: usize, max: u64) -> Run
+    requires { ⌜ most ≤ 19 ⌝ }
+    requires { ⌜ There (readItemAmount may most max) (now s) at ⌝ }
+    ensures { λ r. ⌜ toldNumber r ≡ fieldAt (readItemAmount may most max) (now (s .entry)) at ⌝ }
+{
+    let first = placed::take_run(s, at);
+    let end = first.end;
+    if s[end] == 44 {
+        let rest = placed::take_run(s, end + 1);
+        return Run {
+            value: first.value * 100 + rest.value,
+            end: rest.end,
+        };
+    }
+    first
 }

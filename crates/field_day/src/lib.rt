@@ -1,4 +1,4 @@
-// Due dates in a line, read at their place with the field's end.
+// Due dates in a line: read at their place with the field's end, and taken where the line was judged before.
 use field::NumAt;
 use numeral::Num;
 ghost use mathlib.Core.Path.{_≡_};
@@ -7,7 +7,8 @@ ghost use Prim.Native.Nat.{_+_, _≤_};
 ghost use lib.ListN.{length, getD, drop};
 ghost use Rattle.base.specs.Pick.{pick};
 ghost use Rattle.paper.specs.Read.{value, fault};
-ghost use Rattle.paper.specs.Days.{realDay, dueAllowed, readDue};
+ghost use Rattle.paper.specs.Days.{realDay, shortDay, longDay, dueAllowed, readDue};
+ghost use Rattle.paper.specs.ItemLine.{isValue};
 ghost use Rattle.field.specs.At.{ending, fieldAt};
 ghost use Rattle.field.specs.Told.{told};
 ghost use Rattle.field_day.specs.Spelled.{Two, Spelled};
@@ -99,4 +100,25 @@ pub fn due_at(s: &[u8], at: usize, long: bool, early: bool, ahead: u64, today: u
         }
     }
     whole_due(s, at, long, early, ahead, today)
+}
+
+// ---- taken
+
+// DDMMRR, from `at` to the line's end.
+pub fn short_day(s: &[u8], at: usize) -> u64
+    requires { ⌜ isValue (shortDay (drop at (now s))) ≡ true ⌝ }
+    ensures { λ r. ⌜ value r ≡ shortDay (drop at (now (s .entry))) ⌝ }
+{
+    let day = placed::two(s, at);
+    let month = placed::two(s, at + 2);
+    let year = placed::two(s, at + 4);
+    (2000 + year) * 10000 + month * 100 + day
+}
+
+// RRRRMMDD, from `at` to the line's end.
+pub fn long_day(s: &[u8], at: usize) -> u64
+    requires { ⌜ isValue (longDay (drop at (now s))) ≡ true ⌝ }
+    ensures { λ r. ⌜ value r ≡ longDay (drop at (now (s .entry))) ⌝ }
+{
+    placed::four(s, at) * 10000 + placed::four(s, at + 4)
 }

@@ -66,7 +66,7 @@ fn show_bank(sh: Sheet, f: &[u8]) {
             refused(n);
         }
         NumAt::Value(warnings, end) => {
-            let x = taking::take_bank(f, 0, sh.priority);
+            let x = field_bank::take_bank(f, 0, sh.priority);
             spell_bank(x.bank, x.constant, x.priority);
             if 0 < warnings {
                 io::write_all(1, b" (with a warning)");

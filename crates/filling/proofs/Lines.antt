@@ -19,7 +19,7 @@ use Rattle.line.specs.declared.Cut.{Cut}
 use Rattle.line.specs.Cutting.{Cuts}
 use Rattle.line.proofs.Lines.{at-end}
 use Rattle.filling.specs.declared.Step.{Step}
-use Rattle.takeitem.specs.Said.{isSaid}
+use Rattle.placed.specs.Said.{isSaid}
 use Rattle.filling.specs.Stepped.{Stepped}
 use Rattle.filling.specs.Judged.{AllSaid}
 

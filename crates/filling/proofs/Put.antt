@@ -23,10 +23,11 @@ use Rattle.kind.specs.Told as kinds
 use Rattle.itemline.specs.declared.Fields.{Fields}
 use Rattle.itemline.specs.declared.ItemRead.the-variants as items
 use Rattle.itemline.specs.Told as item-told
-use Rattle.takehead.specs.declared.File.{File}
-use Rattle.takehead.specs.declared.Group.{Group}
-use Rattle.takehead.specs.Taken.{anyNumber, Opens}
-use Rattle.takeitem.specs.Said.{isSaid}
+use Rattle.take_file.specs.declared.File.{File}
+use Rattle.take_group.specs.declared.Group.{Group}
+use Rattle.take_file.specs.Any.{anyNumber}
+use Rattle.take_group.specs.Taken.{Opens}
+use Rattle.placed.specs.Said.{isSaid}
 use Rattle.itemrow.specs.Place.{Reached}
 use Rattle.itemrow.proofs.Texts.{item-length, reached}
 use Rattle.filling.specs.declared.Step.{Step}

@@ -17,7 +17,7 @@ use Rattle.paper.specs.Rows.{entryRow, lineRow, singleAfter, singleBehind}
 use Rattle.kind.specs.declared.LineKind.{LineKind}
 use Rattle.kind.specs.declared.LineKind.the-variants as kind
 use Rattle.kind.specs.Told as kinds
-use Rattle.takehead.specs.Taken.{anyNumber}
+use Rattle.take_file.specs.Any.{anyNumber}
 
 -- the line is of the kind that was told, and the reader of this kind is asked
 module _ (sh : Sheet) (today : ℕ) (single : Bool) (s : List ℕ) (k : LineKind) (g : kinds.told k ≡ kindOf s) where

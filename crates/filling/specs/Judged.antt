@@ -7,7 +7,7 @@ use Rattle.sheet.specs.declared.Sheet.{Sheet}
 use Rattle.paper.specs.Lines.{Line}
 use Rattle.paper.specs.Spells.{forItem, readLine}
 use Rattle.paper.specs.Rows.{singleBehind}
-use Rattle.takeitem.specs.Said.{isSaid}
+use Rattle.placed.specs.Said.{isSaid}
 
 -- each line says an entry; behind a group's line items are read as that group's
 abbrev pub AllSaid : Sheet → ℕ → Bool → List Line → Type 0

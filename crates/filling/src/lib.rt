@@ -11,7 +11,7 @@ ghost use Rattle.paper.specs.Days.{realDay};
 ghost use Rattle.paper.specs.Lines.{linesOf};
 ghost use Rattle.paper.specs.Spells.{forItem, readLine};
 ghost use Rattle.paper.specs.Rows.{lineRow, linesRows, rowsBytes};
-ghost use Rattle.takeitem.specs.Said.{isSaid};
+ghost use Rattle.placed.specs.Said.{isSaid};
 ghost use Rattle.filling.specs.Stepped.{Stepped};
 ghost use Rattle.filling.specs.Judged.{AllSaid};
 
@@ -44,14 +44,14 @@ fn fill_line(
             single,
         },
         LineKind::Group => {
-            let g = takehead::take_group(s, sh, today);
+            let g = take_group::take_group(s, sh, today);
             Step {
                 next: row::put_group_row(rows, next, g.date, g.prefix, g.base),
                 single: account::is_nobody(g.prefix, g.base),
             }
         }
         LineKind::File => {
-            let a = takehead::take_file(s, sh);
+            let a = take_file::take_file(s, sh);
             Step {
                 next: row::put_file_row(rows, next, a.kind, a.number),
                 single,

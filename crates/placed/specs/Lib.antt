@@ -1,1 +1,4 @@
 pub mod Placed
+pub mod Known
+pub mod Said
+pub mod Told

@@ -13,7 +13,7 @@ use Rattle.paper.specs.Judge.{Accepted, judge}
 use Rattle.exact.proofs.Main.{exact}
 use Rattle.rowlaws.proofs.Within.{head-again, file-line-again, group-again, item-again, group-end-again, file-end-again}
 use Rattle.rowlaws.proofs.Filled.{Meets, Runs, runs-batch}
-use Rattle.takeitem.specs.Said.{isSaid}
+use Rattle.placed.specs.Said.{isSaid}
 use Rattle.filling.specs.Judged.{AllSaid}
 
 -- one line: it says the same in the context of an item, and so do the lines behind it (P)

@@ -28,12 +28,14 @@ use Rattle.field.proofs.Steps.{found-value, found-end, found-within, found-fiel
 use Rattle.itemline.specs.declared.Paid.{Paid}
 use Rattle.itemline.specs.Stages.{front, withTail, fromBank, pays, fromVariable, fromAmount, payerFirst, fromPayee, byPieces}
 use Rattle.itemline.proofs.Steps.{by-pieces}
-use Rattle.taking.specs.Known.{There}
-use Rattle.taking.specs.Told.{toldNumber, toldAccount, toldBank}
-use Rattle.taking.specs.declared.Account.{Account}
-use Rattle.taking.specs.declared.Bank.{Bank}
-use Rattle.takeitem.specs.Said.{isSaid}
-use Rattle.takeitem.proofs.Goes.{said-as, field-value, next-inside, next-goes, next-there}
+use Rattle.placed.specs.Known.{There}
+use Rattle.placed.specs.Told.{toldNumber}
+use Rattle.field_account.specs.Told.{toldAccount}
+use Rattle.field_bank.specs.Told.{toldBank}
+use Rattle.field_account.specs.declared.Account.{Account}
+use Rattle.field_bank.specs.declared.Bank.{Bank}
+use Rattle.placed.specs.Said.{isSaid}
+use Rattle.placed.proofs.Goes.{said-as, field-value, next-inside, next-goes, next-there}
 
 -- a place behind a space fits a word
 room : (s : List ℕ) (e : ℕ) → e < length s → length s < 18446744073709551616 → Fits w64 (e + 1)

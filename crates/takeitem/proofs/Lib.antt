@@ -1,4 +1,3 @@
-pub mod Goes
 pub mod Fields
 pub mod Texts
 pub mod Named

@@ -37,9 +37,9 @@ use Rattle.wording.proofs.Warnings.{text-warnings}
 use Rattle.itemline.proofs.Steps.{none-few, says-texts, says-plain, kept-texts, kept-plain}
 use Rattle.takeitem.specs.declared.Tail.{Tail}
 use Rattle.takeitem.specs.declared.Tail.the-variants.{Plain, Text}
-use Rattle.takeitem.specs.Said.{isSaid}
+use Rattle.placed.specs.Said.{isSaid}
 use Rattle.takeitem.specs.Told.{toldTail, Inside}
-use Rattle.takeitem.proofs.Goes.{not-said, said-as, on-value, gap-inside, gap-goes}
+use Rattle.placed.proofs.Goes.{not-said, said-as, on-value, gap-inside, gap-goes}
 
 module _ (y : Style) (fixed bare : Bool) (x : Front) (s : List ℕ) (at : ℕ) (h : isSaid (withTail y fixed bare x at (drop at s)) ≡ true) where
   abbrev all : Said

@@ -1,6 +1,7 @@
 // An item's line that was judged before: its fields are taken one after the other, and its texts found by their places.
 use division::first_part;
 use division::next_part;
+use field_account::Account;
 use itemline::Fields;
 use itemline::Front;
 use itemline::Paid;
@@ -12,7 +13,6 @@ use span::Spans;
 use span::gather;
 use span::one_part;
 use span::part_at;
-use taking::Account;
 use text::Begun;
 use text::begin_text;
 use text::name_at;
@@ -35,8 +35,8 @@ ghost use Rattle.division.specs.Unnamed.{unnamed};
 ghost use Rattle.itemline.specs.declared.ItemRead.the-variants as answer;
 ghost use Rattle.itemline.specs.Told.{noSpans, told, Sound};
 ghost use Rattle.itemline.specs.Stages.{withTexts, says, withTail, fromPayee, payerFirst};
-ghost use Rattle.taking.specs.Known.{There};
-ghost use Rattle.takeitem.specs.Said.{isSaid};
+ghost use Rattle.placed.specs.Known.{There};
+ghost use Rattle.placed.specs.Said.{isSaid};
 ghost use Rattle.takeitem.specs.Told.{toldTail, Inside};
 ghost use Rattle.takeitem.specs.Named.{withName};
 
@@ -253,10 +253,10 @@ fn from_payee(s: &[u8], at: usize, sh: Sheet, payerprefix: u64, payerbase: u64) 
     ensures { λ r. ⌜ told (now (s .entry)) (answer.Item r) ≡ fromPayee sh (paper.account payerprefix payerbase) at (drop at (now (s .entry))) ⌝ }
     ensures { λ r. ⌜ Sound (now (s .entry)) r ⌝ }
 {
-    let payee = taking::take_account(s, at, sh.joined, sh.basemin);
-    let amount = taking::take_amount(s, payee.end + 1, sh.comma, sh.itemdigits, sh.itemmax);
-    let variable = taking::take_symbol(s, amount.end + 1);
-    let bank = taking::take_bank(s, variable.end + 1, sh.priority);
+    let payee = field_account::take_account(s, at, sh.joined, sh.basemin);
+    let amount = field_amount::take_amount(s, payee.end + 1, sh.comma, sh.itemdigits, sh.itemmax);
+    let variable = placed::take_symbol(s, amount.end + 1);
+    let bank = field_bank::take_bank(s, variable.end + 1, sh.priority);
     let paid = Paid {
         payerprefix,
         payerbase,
@@ -281,7 +281,7 @@ fn take_payer(s: &[u8], joined: bool, least: usize, single: bool) -> Account
     ensures { λ r. ⌜ ((k : paper.Account → ℕ → List ℕ → Said) → k (paper.account (r .prefix) (r .base)) (r .end) (drop (r .end) (now (s .entry))) ≡ payerFirst joined least single (now (s .entry)) k) ⌝ }
 {
     if single {
-        let payer = taking::take_account(s, 0, joined, least);
+        let payer = field_account::take_account(s, 0, joined, least);
         return Account {
             prefix: payer.prefix,
             base: payer.base,

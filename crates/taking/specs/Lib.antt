@@ -1,3 +1,0 @@
-pub mod Known
-pub mod Told
-pub mod Numbers
