@@ -12,6 +12,7 @@ use Rattle.paper.specs.Bytes.{fieldOf, null}
 use Rattle.paper.specs.Numerals.{digits}
 use Rattle.paper.specs.Accounts as paper
 use Rattle.paper.specs.Accounts.{accountOk, ruled, readAccount}
+use Rattle.numeral.proofs.Sound.{same}
 use Rattle.account.specs.Doubled.{doubled, sumsOk}
 use Rattle.field.specs.At.{found, missed, ending, fieldAt}
 use Rattle.field.specs.Digits.{run}
@@ -73,9 +74,10 @@ module _ (s : List ℕ) (at e v : ℕ) (h : e ≡ at + length (run 16 (drop at s
         j 0 v (omega arith) sum-start (run-short s at e v h g .small n) f ∙ ap (λ a. keeping nothing (ending e a)) (sym u) ∙ ap (keeping nothing) digits-field
 
   -- it does, behind more than ten, which are judged as m
-  pub digits-long : t ≡ true → 10 < e - at → (m : Passed) → ((least n : ℕ) → 10 < n → passed m ≡ keeping nothing (ending e (undashed joined least n v)))
+  pub digits-long : t ≡ true → 10 < e - at → (m : Passed)
+      → ((v least n : ℕ) → digits 0 16 (run 16 (drop at s)) ≡ value v → 10 < n → passed m ≡ keeping nothing (ending e (undashed joined least n v)))
       → passed m ≡ keeping nothing (fieldAt (readAccount joined least) s at)
-  digits-long y l m j = j least (e - at) l ∙ ap (keeping nothing) (digits-account s at e v h g t k joined least (ending e (undashed joined least (e - at) v)) y refl)
+  digits-long y l m j = j v least (e - at) g l ∙ ap (keeping nothing) (digits-account s at e v h g t k joined least (ending e (undashed joined least (e - at) v)) y refl)
 
   -- it does not, and no dash follows a prefix
   pub other-judged : t ≡ false → (u : Bool) → u ≡ dashed s at e → u ≡ false → missed 4 ≡ keeping nothing (fieldAt (readAccount joined least) s at)
@@ -92,13 +94,18 @@ module _ (s : List ℕ) (at e v : ℕ) (h : e ≡ at + length (run 16 (drop at s
 -- ---- more than ten digits: t is whether the two numbers keep the rule
 
 module _ (v e : ℕ) (joined : Bool) (least n : ℕ) (l : 10 < n) where
-  pub long-kept : (t : Bool) → t ≡ accountOk (v / 10000000000) (v % 10000000000) → t ≡ true → joined ≡ true → found tt e ≡ keeping nothing (ending e (undashed joined least n v))
-  unfolding undashed ruled keeping ending
-  long-kept t k y j = rw (pick-true _ _ (lt-ltb 10 n l), pick-true _ _ j, pick-true _ _ (sym k ∙ y))
+  -- w is their number as it was read
+  module _ (w : ℕ) (d : List ℕ) (f : digits 0 16 d ≡ value w) (g : digits 0 16 d ≡ value v) (t : Bool) (k : t ≡ accountOk (w / 10000000000) (w % 10000000000)) (j : joined ≡ true) where
+    is-ok : t ≡ accountOk (v / 10000000000) (v % 10000000000)
+    is-ok = let e : w ≡ v = same w v (sym f ∙ g) in rw e at k
 
-  pub long-broken : (t : Bool) → t ≡ accountOk (v / 10000000000) (v % 10000000000) → t ≡ false → joined ≡ true → missed 5 ≡ keeping nothing (ending e (undashed joined least n v))
-  unfolding undashed ruled keeping ending
-  long-broken t k y j = rw (pick-true _ _ (lt-ltb 10 n l), pick-true _ _ j, pick-false _ _ (sym k ∙ y))
+    pub long-kept : t ≡ true → found tt e ≡ keeping nothing (ending e (undashed joined least n v))
+    unfolding undashed ruled keeping ending
+    long-kept y = rw (pick-true _ _ (lt-ltb 10 n l), pick-true _ _ j, pick-true _ _ (sym is-ok ∙ y))
+
+    pub long-broken : t ≡ false → missed 5 ≡ keeping nothing (ending e (undashed joined least n v))
+    unfolding undashed ruled keeping ending
+    long-broken y = rw (pick-true _ _ (lt-ltb 10 n l), pick-true _ _ j, pick-false _ _ (sym is-ok ∙ y))
 
   pub long-refused : joined ≡ false → missed 4 ≡ keeping nothing (ending e (undashed joined least n v))
   unfolding undashed keeping ending

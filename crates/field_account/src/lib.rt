@@ -220,11 +220,15 @@ fn judge_base(s: &[u8], at: usize, p: u64, least: usize) -> Passed
     Passed::Refused(4)
 }
 
-// More than ten digits with no dash, whose number is v: where a sheet takes them (`joined`) they are a prefix and a base.
-fn judge_long(v: u64, joined: bool, end: usize) -> Passed
-    ensures { λ r. ⌜ ((least n : ℕ) → 10 < n → passed r ≡ keeping nothing (ending end (undashed joined least n v))) ⌝ }
+// More than ten digits with no dash, from `at` to `end`: where a sheet takes them (`joined`) they are a prefix and a base. Few have so
+// many, so only these are read again for their number.
+fn judge_long(s: &[u8], at: usize, joined: bool, end: usize) -> Passed
+    requires { ⌜ at ≤ length (now s) ⌝ }
+    ensures { λ r. ⌜ ((v least n : ℕ) → digits 0 16 (run 16 (drop at (now (s .entry)))) ≡ value v → 10 < n → passed r ≡ keeping nothing (ending end (undashed joined least n v))) ⌝ }
 {
     if joined {
+        let got = field::digit_run(s, at, 16);
+        let v = got.value;
         if account::account_ok(v / 10000000000, v % 10000000000) {
             return Passed::At(end);
         }
@@ -233,7 +237,7 @@ fn judge_long(v: u64, joined: bool, end: usize) -> Passed
     Passed::Refused(4)
 }
 
-// The account at `at`. The sums of its digits decide, so its value is not kept.
+// The account at `at`. The sums of its digits decide, so no number is made of them.
 pub fn judge_account(s: &[u8], at: usize, joined: bool, least: usize) -> Passed
     requires { ⌜ at ≤ length (now s) ⌝ }
     ensures { λ r. ⌜ passed r ≡ keeping nothing (fieldAt (readAccount joined least) (now (s .entry)) at) ⌝ }
@@ -243,7 +247,7 @@ pub fn judge_account(s: &[u8], at: usize, joined: bool, least: usize) -> Passed
     if field::ends(s, end) {
         let n = end - at;
         if 10 < n {
-            return judge_long(got.value, joined, end);
+            return judge_long(s, at, joined, end);
         }
         if n < least {
             return Passed::Refused(4);
