@@ -8,7 +8,7 @@ use lib.ListN.{length}
 use borrow.Author.Tests.{eq-eqb, ne-eqb}
 use Rattle.base.specs.Pick.{pick}
 use Rattle.sheet.specs.declared.Sheet.{Sheet}
-use Rattle.paper.specs.Accounts.{Account, account, isNobody}
+use Rattle.paper.specs.Accounts.{isNobody}
 use Rattle.paper.specs.Batch.{Header}
 use Rattle.paper.specs.Entries.{Entry, group, closeFile, got, no, groupLine, fileEnd, kindOf}
 use Rattle.paper.specs.GroupLine.{readGroup}
@@ -48,34 +48,34 @@ use Rattle.accountfile.proofs.Files.{cut-inside}
 -- ---- places in a line
 
 module _ (f : List ℕ) (at stop : ℕ) (p : at ≤ stop) (q : stop ≤ length f) (sh : Sheet) (today : ℕ) (e : kindOf (cut-of f at stop) ≡ groupLine)
-    (r : GroupRead) (t : groups.told r ≡ readGroup sh today (cut-of f at stop)) where
+    (r : GroupRead) (t : groups.Tells (readGroup sh today (cut-of f at stop)) r) where
   -- a refusal's, and the total's
   pub group-within : (n off : ℕ) → r ≡ reads.Refused n off → at + off ≤ stop
   group-within n off x =
-      let u : no n off ≡ readGroup sh today (cut-of f at stop) = rw x at t in
+      let u : no n off ≡ readGroup sh today (cut-of f at stop) = rw x at (t .says) in
       within f at stop off p q (refusal-in (rw (← u) at (group-says sh today (λ _. false) false (cut-of f at stop))) (kind-long (cut-of f at stop) groupLine e))
 
-  pub total-within : (prefix base total date warnings spot : ℕ) → r ≡ reads.Group prefix base total date warnings spot → at + spot ≤ stop
-  total-within prefix base total date warnings spot x =
-      let u : got (group (account prefix base) total date) warnings (spot ∷ []) ≡ readGroup sh today (cut-of f at stop) = rw x at t in
+  pub total-within : (single : Bool) (total date warnings spot : ℕ) → r ≡ reads.Group single total date warnings spot → at + spot ≤ stop
+  total-within single total date warnings spot x =
+      let u : got (group (t .payer) total date) warnings (spot ∷ []) ≡ readGroup sh today (cut-of f at stop) = rw x at (t .says) in
       within f at stop spot p q (total-in (rw (← u) at (group-says sh today (λ _. false) false (cut-of f at stop))) (kind-long (cut-of f at stop) groupLine e))
 
 -- a line warns once at most
-pub warns-once : (r : GroupRead) → groups.Low r → (prefix base total date warnings spot : ℕ) → r ≡ reads.Group prefix base total date warnings spot → warnings ≤ 1
-warns-once r low prefix base total date warnings spot q = let x : groups.Low (reads.Group prefix base total date warnings spot) = rw q at low in x .1
+pub warns-once : (r : GroupRead) → groups.Low r → (single : Bool) (total date warnings spot : ℕ) → r ≡ reads.Group single total date warnings spot → warnings ≤ 1
+warns-once r low single total date warnings spot q = let x : groups.Low (reads.Group single total date warnings spot) = rw q at low in x .1
 
 -- an open group as the code makes it: its numbers are small
-pub held-new : (c : Counts) (s : Shelf) (warnings : ℕ) (payer : Account) (total k byte : ℕ) → LowGroup c s → warnings ≤ 1 → (single : Bool) → single ≡ isNobody payer
-    → NewHeld c s warnings payer total k byte
+pub held-new : (c : Counts) (s : Shelf) (warnings : ℕ) (single : Bool) (total k byte : ℕ) → LowGroup c s → warnings ≤ 1
+    → NewHeld c s warnings single total k byte
     (record {
       counts = record { files = c .files; items = c .items; rows = c .rows + 1; warnings = c .warnings + warnings };
       shelf = s;
       opened = record { single = single; total = total; line = k; byte = byte; sum = 0; count = 0 };
     })
 unfolding groupHeld
-held-new c s warnings payer total k byte low one single e =
+held-new c s warnings single total k byte low one =
     record {
-      same = rw e;
+      same = refl;
       low = record {
         files = low .files;
         items = low .items;
@@ -90,21 +90,22 @@ held-new c s warnings payer total k byte low one single e =
 -- ---- a group's line: r is what it says, v the variant that this was found to be
 
 module _ (sh : Sheet) (today : ℕ) (f : List ℕ) (at stop k : ℕ) (c : Counts) (s : Shelf) (e : kindOf (cut-of f at stop) ≡ groupLine)
-    (r : GroupRead) (t : groups.told r ≡ readGroup sh today (cut-of f at stop)) where
-  said : (v : GroupRead) → r ≡ v → (h : Header) (l : List ℕ) → onSaid sh k at (groups.told v) (inFile h l c s) ≡ step sh today k (lineIn f at stop) (inFile h l c s)
+    (r : GroupRead) (t : groups.Tells (readGroup sh today (cut-of f at stop)) r) where
+  said : (v : GroupRead) → r ≡ v → (h : Header) (l : List ℕ) → onSaid sh k at (groups.told (t .payer) v) (inFile h l c s) ≡ step sh today k (lineIn f at stop) (inFile h l c s)
   unfolding step isDue isFull readAs pick
-  said v q h l = by-fields sh today k (lineIn f at stop) (inFile h l c s) refl groupLine e refl refl _ (rw q at t)
+  said v q h l = by-fields sh today k (lineIn f at stop) (inFile h l c s) refl groupLine e refl refl _ (rw q at (t .says))
 
   pub opening-refused : (n off : ℕ) → r ≡ reads.Refused n off → (byte : ℕ) → byte ≡ at + off → Opens sh today (lineIn f at stop) k c s (opening.Refused n byte)
   unfolding onSaid
   opening-refused n off q byte y = rw y (record { same = said (reads.Refused n off) q; low = tt })
 
-  pub opening-group : (prefix base total date warnings spot : ℕ) → r ≡ reads.Group prefix base total date warnings spot → (byte : ℕ) → byte ≡ at + spot
-      → (x : Held) → NewHeld c s warnings (account prefix base) total k byte x → Opens sh today (lineIn f at stop) k c s (opening.Group x)
+  pub opening-group : (single : Bool) (total date warnings spot : ℕ) → r ≡ reads.Group single total date warnings spot → (byte : ℕ) → byte ≡ at + spot
+      → (x : Held) → NewHeld c s warnings single total k byte x → Opens sh today (lineIn f at stop) k c s (opening.Group x)
   unfolding onSaid meet onGroup firstOr0 groupHeld
-  opening-group prefix base total date warnings spot q byte y x new =
-      let same : x ≡ groupHeld c s warnings (account prefix base) total k (at + spot) = rw y at (new .same) in
-      record { same = λ h l. rw same (said (reads.Group prefix base total date warnings spot) q h l); low = new .low }
+  opening-group single total date warnings spot q byte y x new =
+      let same : x ≡ groupHeld c s warnings single total k (at + spot) = rw y at (new .same) in
+      let nobody : single ≡ isNobody (t .payer) = rw q at (t .single) in
+      record { same = λ h l. rw (same, nobody) (said (reads.Group single total date warnings spot) q h l); low = new .low }
 
 -- ---- behind a group
 

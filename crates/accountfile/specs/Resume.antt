@@ -1,11 +1,11 @@
 -- Where reading of a file stands, and what a step of it does. Assumes nothing.
 use Prim.Native.Nat.{ℕ, suc, _+_, _-_, _≤_}
+use mathlib.Core.Bool.{Bool}
 use mathlib.Core.Path.{_≡_}
 use mathlib.Core.List.{List, []}
 use lib.ListN.{length}
 use Rattle.sheet.specs.declared.Sheet.{Sheet}
 use Rattle.paper.specs.Batch.{Header, noHeader}
-use Rattle.paper.specs.Accounts.{Account, isNobody}
 use Rattle.paper.specs.Lines.{Line, linesFrom}
 use Rattle.seen.specs.Bits.{Holds}
 use Rattle.tally.specs.Tally.{Brief, No, Yes, Tally, tFile, tStop, step, run}
@@ -63,17 +63,17 @@ abbrev pub fileMore : Counts → Counts
 fileMore c = record { files = c .files + 1; items = c .items; rows = c .rows + 1; warnings = c .warnings }
 
 -- a group that has no item yet, with its line's warnings; its total stands in line k, at `byte`
-unfoldable pub groupHeld : Counts → Shelf → ℕ → Account → ℕ → ℕ → ℕ → Held
-groupHeld c s warnings payer total k byte =
+unfoldable pub groupHeld : Counts → Shelf → ℕ → Bool → ℕ → ℕ → ℕ → Held
+groupHeld c s warnings single total k byte =
     record {
       counts = record { files = c .files; items = c .items; rows = c .rows + 1; warnings = c .warnings + warnings };
       shelf = s;
-      opened = record { single = isNobody payer; total = total; line = k; byte = byte; sum = 0; count = 0 };
+      opened = record { single = single; total = total; line = k; byte = byte; sum = 0; count = 0 };
     }
 
 -- x is that group, and its numbers are small
-pub record NewHeld (c : Counts) (s : Shelf) (warnings : ℕ) (payer : Account) (total k byte : ℕ) (x : Held) : Type 0 where
-  pub same : x ≡ groupHeld c s warnings payer total k byte
+pub record NewHeld (c : Counts) (s : Shelf) (warnings : ℕ) (single : Bool) (total k byte : ℕ) (x : Held) : Type 0 where
+  pub same : x ≡ groupHeld c s warnings single total k byte
   pub low : LowItem x
 
 -- what line k, a group's, leads to: the open group, or the answer

@@ -16,7 +16,6 @@ ghost use mathlib.Core.Bool.{true};
 ghost use Prim.Native.Nat.{ℕ, _-_, _≤_, _<_};
 ghost use lib.ListN.{length, take, drop};
 ghost use Rattle.sheet.proofs.Laws.{Sane};
-ghost use Rattle.paper.specs.Accounts.{account};
 ghost use Rattle.paper.specs.Days.{realDay};
 ghost use Rattle.paper.specs.Entries.{fileLine, groupLine, fileEnd, kindOf};
 ghost use Rattle.line.specs.Cutting.{Cuts};
@@ -145,14 +144,13 @@ fn group_held(
     counts: Counts,
     shelf: Shelf,
     warnings: u64,
-    prefix: u64,
-    base: u64,
+    single: bool,
     total: u64,
     line: u64,
     byte: u64,
 ) -> Held
     requires { ⌜ LowGroup counts shelf × (warnings ≤ 1) ⌝ }
-    ensures { λ r. ⌜ NewHeld counts shelf warnings (account prefix base) total line byte r ⌝ }
+    ensures { λ r. ⌜ NewHeld counts shelf warnings single total line byte r ⌝ }
 {
     let rows = counts.rows + 1;
     let warned = counts.warnings + warnings;
@@ -165,7 +163,7 @@ fn group_held(
         },
         shelf,
         opened: Open {
-            single: account::is_nobody(prefix, base),
+            single,
             total,
             line,
             byte,
@@ -194,15 +192,14 @@ fn group_opening(
 {
     match groupline::group_line(&f[at..stop], sh, today) {
         GroupRead::Group {
-            prefix,
-            base,
+            single,
             total,
             date: _,
             warnings,
             spot,
         } => {
             let byte = group::byte_in(at, spot, stop);
-            Opening::Group(group_held(counts, shelf, warnings, prefix, base, total, line, byte))
+            Opening::Group(group_held(counts, shelf, warnings, single, total, line, byte))
         }
         GroupRead::Refused(n, off) => {
             let byte = group::byte_in(at, off, stop);

@@ -24,7 +24,7 @@ module _ {A B : Type 0} (f : A → B) where
   was-found (found v d) w e q = (v, ap (found v) cc, cc)
   was-found (missed n) w e q = absurd (let z : _≡_ {A = ℕ} 0 1 = cc in omega arith)
 
-  was-missed : (x : At A) (n : ℕ) → missed n ≡ keeping f x → missed n ≡ x
+  pub was-missed : (x : At A) (n : ℕ) → missed n ≡ keeping f x → missed n ≡ x
   unfolding keeping
   was-missed (found v d) n q = absurd (let z : _≡_ {A = ℕ} 0 1 = cc in omega arith)
   was-missed (missed m) n q = cc

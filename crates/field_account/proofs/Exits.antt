@@ -1,35 +1,28 @@
--- The answers of the readers, with what the code knows at each. Assumes nothing.
+-- What an account is at its place, with what the code knows of its bytes. Assumes nothing.
 use mathlib.Core.Path.{_≡_, sym, ap, _∙_}
 use mathlib.Core.Bool.{Bool, true, false}
 use mathlib.Core.List.{List}
 use Prim.Native.Nat.{ℕ, _+_, _-_, _≤_, _<_}
 use native.Mathlib.Omega.{arith}
 use lib.Dec.{ltb}
-use lib.ListN.{length, getD, take, drop}
+use lib.ListN.{length, getD, drop}
 use borrow.Author.Tests.{ltb-false, eqb-true}
 use Rattle.base.specs.Pick.{pick}
 use Rattle.base.specs.Seek.{seek}
-use Rattle.base.proofs.Cases.{by-test, pick-true, pick-false, pick-both}
+use Rattle.base.proofs.Cases.{by-test}
 use Rattle.base.proofs.Seek.{never}
-use Rattle.paper.specs.Read.{value, fault}
+use Rattle.paper.specs.Read.{value}
 use Rattle.paper.specs.Bytes.{space, fieldOf, null}
 use Rattle.paper.specs.Numerals.{digits}
 use Rattle.paper.specs.Accounts as paper
-use Rattle.paper.specs.Accounts.{ruled, readAccount, onlyZeros, readPayer}
-use Rattle.account.proofs.Zeros.{account-payer}
-use Rattle.field.specs.At.{At, found, missed, ending, fieldAt}
+use Rattle.paper.specs.Accounts.{ruled, readAccount}
+use Rattle.field.specs.At.{At, missed, ending, fieldAt}
 use Rattle.field.specs.Digits.{run}
-use Rattle.field.proofs.Front.{field-ends}
-use Rattle.field.proofs.Steps.{found-value, found-end, missed-fault}
 use Rattle.field.proofs.Number.{run-ends, run-field, run-open, number-value, number-short, number-long}
 use Rattle.field.proofs.Behind.{behind-field, behind-end}
 use Rattle.field.proofs.Onward.{onward, given-at}
-use Rattle.field_account.specs.declared.AcctAt.{AcctAt}
-use Rattle.field_account.specs.declared.AcctAt.the-variants as answer
-use Rattle.field_account.specs.Parts.{undashed, withBase, dashed, zerosAt}
-use Rattle.field_account.specs.Told.{told}
+use Rattle.field_account.specs.Parts.{undashed, withBase, dashed}
 use Rattle.field_account.proofs.Digits.{undashed-is, dashed-is}
-use Rattle.field_account.proofs.None.{other-account}
 
 -- a base behind its prefix
 pub base-field : (r : At paper.Account) (least p : ℕ) (s : List ℕ) (at : ℕ) → r ≡ onward (fieldAt (digits least 10) s at) (λ b. ruled p b) → r ≡ fieldAt (withBase least p) s at
@@ -68,7 +61,7 @@ module _ (s : List ℕ) (at e : ℕ) (h : dashed s at e ≡ true) where
       by-test (ltb (e - at) 1) (λ t. never (sym (simp t at h)))
       (λ t. by-test (ltb 6 (e - at)) (λ u. never (sym (simp (t, u) at h))) (λ u. eqb-true (getD s e 0) 45 (simp (t, u) at h)))
 
--- `account_at`: its first digits end at e, and t is whether the field ends there
+-- its first digits end at e, and t is whether the field ends there
 module _ (s : List ℕ) (at e v : ℕ) (h : e ≡ at + length (run 16 (drop at s))) (g : digits 0 16 (run 16 (drop at s)) ≡ value v) where
   module _ (t : Bool) (k : t ≡ null (fieldOf (drop e s))) (joined : Bool) (least : ℕ) (r : At paper.Account) where
     pub digits-account : t ≡ true → r ≡ ending e (undashed joined least (e - at) v) → r ≡ fieldAt (readAccount joined least) s at
@@ -89,45 +82,3 @@ module _ (s : List ℕ) (at e v : ℕ) (h : e ≡ at + length (run 16 (drop at s
         let o = behind-end s at 16 e v 45 h l b (λ z. omega arith) in
         let i = dashed-is (run 16 (drop at s)) (fieldOf (drop (e + 1) s)) v g (omega (arith, dashed-least s at e w)) (omega (arith, dashed-most s at e w)) joined least in
         q ∙ rw (o, f) (ap (ending (e + 1 + seek space (drop (e + 1) s))) i)
-
--- `payer_at`: an empty field, where it stands for nobody, and an account
-module _ (s : List ℕ) (at : ℕ) (empty allzero joined : Bool) (least : ℕ) where
-  pub empty-payer : (t : Bool) → t ≡ pick empty (null (fieldOf (drop at s))) false → t ≡ true → found paper.nobody at ≡ fieldAt (readPayer empty allzero joined least) s at
-  unfolding fieldAt readPayer ending
-  empty-payer t k y =
-      let z : pick empty (null (fieldOf (drop at s))) false ≡ true = sym k ∙ y in
-      let o : at + seek space (drop at s) ≡ at = omega (arith, field-ends (drop at s) (pick-both empty (null (fieldOf (drop at s))) z .1)) in
-      rw (o, pick-true _ _ z)
-
-  pub found-payer : (n : AcctAt) → told n ≡ fieldAt (readAccount joined least) s at → (p b e : ℕ) → n ≡ answer.Account p b e → found (paper.account p b) e ≡ fieldAt (readPayer empty allzero joined least) s at
-  unfolding fieldAt ending
-  found-payer n g p b e f =
-      let h : found (paper.account p b) e ≡ fieldAt (readAccount joined least) s at = rw f at g in
-      rw (
-        account-payer joined least (fieldOf (drop at s)) (paper.account p b) (found-value (readAccount joined least) s at (paper.account p b) e h) empty allzero,
-        ← (found-end (readAccount joined least) s at (paper.account p b) e h),
-      )
-
--- zeros in a field that is no account
-module _ (s : List ℕ) (at e : ℕ) (h : e ≡ at + seek space (drop at s)) (allzero : Bool) (n : ℕ) (t : Bool) (k : t ≡ pick allzero (onlyZeros (take (e - at) (drop at s))) false) where
-  looked : t ≡ pick allzero (onlyZeros (fieldOf (drop at s))) false
-  looked = let d : e - at ≡ seek space (drop at s) = omega arith in rw d at k
-
-  pub zeros-there : t ≡ true → found paper.nobody e ≡ zerosAt allzero n s at
-  unfolding zerosAt
-  zeros-there y = rw h (sym (pick-true _ _ (sym looked ∙ y)))
-
-  pub zeros-none : t ≡ false → missed n ≡ zerosAt allzero n s at
-  unfolding zerosAt
-  zeros-none y = sym (pick-false _ _ (sym looked ∙ y))
-
--- no account, and not empty where that stands for nobody
-module _ (s : List ℕ) (at : ℕ) (empty allzero joined : Bool) (least : ℕ) (n : AcctAt) (g : told n ≡ fieldAt (readAccount joined least) s at) (c : ℕ) (f : n ≡ answer.Refused c) (r : At paper.Account) (q : r ≡ zerosAt allzero c s at) where
-  pub other-payer : (t : Bool) → t ≡ pick empty (null (fieldOf (drop at s))) false → t ≡ false → r ≡ fieldAt (readPayer empty allzero joined least) s at
-  unfolding fieldAt readPayer zerosAt ending pick
-  other-payer t k y =
-      let z : pick empty (null (fieldOf (drop at s))) false ≡ false = sym k ∙ y in
-      let m : readAccount joined least (fieldOf (drop at s)) ≡ fault c = missed-fault (readAccount joined least) s at c (rw f at g) in
-      q ∙ rw (z, m) (by-test (pick allzero (onlyZeros (fieldOf (drop at s))) false) (λ u. simp u) (λ u. simp u))
-
-pub ruleset exits = (base-value, base-short, base-long, digits-account, dashed-account, other-account, empty-payer, found-payer, zeros-there, zeros-none, other-payer)

@@ -1,15 +1,16 @@
--- What the answer of an account's reader stands for in document 01, "Numbers returned". Assumes nothing.
-use Rattle.paper.specs.Accounts as paper
+-- What the answers of an account's judge and taker stand for in document 01, "Numbers returned". Assumes nothing.
+use mathlib.Core.Bool.{Bool}
+use Rattle.paper.specs.Accounts.{account, Account as Said}
 use Rattle.field.specs.At.{At, found, missed}
-use Rattle.field_account.specs.declared.Account as taken
-use Rattle.field_account.specs.declared.AcctAt.{AcctAt}
-use Rattle.field_account.specs.declared.AcctAt.the-variants.{Account, Refused}
+use Rattle.field_account.specs.declared.Account.{Account}
+use Rattle.field_account.specs.declared.PayerAt.{PayerAt}
+use Rattle.field_account.specs.declared.PayerAt.the-variants as answer
 
--- the account of that prefix and base with its field's end, or the number of the refusal
-abbrev pub told : AcctAt → At paper.Account
-told (Account p b e) = found (paper.account p b) e
-told (Refused n) = missed n
+-- whether a group's payer is nobody, with its field's end, or the number of the refusal
+abbrev pub toldPayer : PayerAt → At Bool
+toldPayer (answer.At t e) = found t e
+toldPayer (answer.Refused n) = missed n
 
 -- an account that was taken, with its field's end
-abbrev pub toldAccount : taken.Account → At paper.Account
-toldAccount r = found (paper.account (r .prefix) (r .base)) (r .end)
+abbrev pub toldAccount : Account → At Said
+toldAccount r = found (account (r .prefix) (r .base)) (r .end)

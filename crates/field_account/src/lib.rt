@@ -1,4 +1,4 @@
-// Accounts in a line, read or judged at their place with the field's end.
+// Accounts in a line: judged at their place by the sums of their digits, and taken where the line was judged before.
 use field::Passed;
 ghost use mathlib.Core.Path.{_≡_};
 ghost use mathlib.Core.Bool.{false};
@@ -8,25 +8,19 @@ ghost use Rattle.base.specs.Pick.{pick};
 ghost use Rattle.paper.specs.Read.{value};
 ghost use Rattle.paper.specs.Bytes.{fieldOf, null};
 ghost use Rattle.paper.specs.Numerals.{digits};
-ghost use Rattle.paper.specs.Accounts.{ruled, readAccount, readPayer};
+ghost use Rattle.paper.specs.Accounts.{ruled, readAccount, isNobody, readPayer};
 ghost use Rattle.account.specs.Doubled.{doubled};
 ghost use Rattle.field.specs.At.{ending, fieldAt};
 ghost use Rattle.field.specs.Digits.{run};
 ghost use Rattle.field.specs.Kept.{keeping, nothing};
 ghost use Rattle.field.specs.Told.{passed};
-ghost use Rattle.field_account.specs.Parts.{Short, undashed, withBase, dashed, zerosAt};
-ghost use Rattle.field_account.specs.Told.{told, toldAccount};
+ghost use Rattle.field_account.specs.Parts.{undashed, withBase, dashed, zerosAt};
+ghost use Rattle.field_account.specs.Told.{toldPayer, toldAccount};
 ghost use Rattle.field_account.specs.Numbers.{prefixAndBase};
 ghost use Rattle.placed.specs.Known.{There};
 
-// What a field says: an account's prefix and base and where the field ends, or the refusal's number. No account is prefix 0 and base 0.
-pub enum AcctAt {
-    Account(u64, u64, usize),
-    Refused(u64),
-}
-
 // Digits that were read: their number, their sum where each weighs twice as much as the digit on its right, and the place behind them.
-pub struct Sums {
+struct Sums {
     pub value: u64,
     pub sum: u64,
     pub end: usize,
@@ -34,7 +28,7 @@ pub struct Sums {
 
 // The digits from `at` on, up to `most` of them. Each doubles the sum of those on its left, so the rule of accounts needs no division
 // for each digit.
-pub fn sum_run(s: &[u8], at: usize, most: usize) -> Sums
+fn sum_run(s: &[u8], at: usize, most: usize) -> Sums
     requires { ⌜ (at ≤ length (now s)) × (most ≤ 19) ⌝ }
     ensures { λ r. ⌜ (r .end ≡ at + length (run most (drop at (now (s .entry))))) × (digits 0 most (run most (drop at (now (s .entry)))) ≡ value (r .value)) × (r .sum ≡ doubled 19 (r .value)) ⌝ }
 {
@@ -62,63 +56,8 @@ pub fn sum_run(s: &[u8], at: usize, most: usize) -> Sums
     }
 }
 
-// A prefix and a base as an account, 5 where they break the rule.
-fn by_rule(prefix: u64, base: u64, end: usize) -> AcctAt
-    ensures { λ r. ⌜ told r ≡ ending end (ruled prefix base) ⌝ }
-{
-    if account::account_ok(prefix, base) {
-        return AcctAt::Account(prefix, base, end);
-    }
-    AcctAt::Refused(5)
-}
-
-// The same by their sums, where neither has more than ten digits.
-fn by_sums(prefix: u64, p: u64, base: u64, b: u64, end: usize) -> AcctAt
-    requires { ⌜ (prefix < 10000000000) × (p ≡ doubled 19 prefix) × (base < 10000000000) × (b ≡ doubled 19 base) ⌝ }
-    ensures { λ r. ⌜ told r ≡ ending end (ruled prefix base) ⌝ }
-{
-    if account::sums_ok(p, b) {
-        return AcctAt::Account(prefix, base, end);
-    }
-    AcctAt::Refused(5)
-}
-
-// n digits with no dash, whose number is v.
-fn plain(v: u64, sum: u64, n: usize, joined: bool, least: usize, end: usize) -> AcctAt
-    requires { ⌜ (Short n v) × (sum ≡ doubled 19 v) ⌝ }
-    ensures { λ r. ⌜ told r ≡ ending end (undashed joined least n v) ⌝ }
-{
-    if 10 < n {
-        if joined {
-            return by_rule(v / 10000000000, v % 10000000000, end);
-        }
-        return AcctAt::Refused(4);
-    }
-    if n < least {
-        return AcctAt::Refused(4);
-    }
-    by_sums(0, 0, v, sum, end)
-}
-
-// The base behind the dash at `at`, and behind its prefix, whose sum is p.
-fn with_base(s: &[u8], at: usize, prefix: u64, p: u64, least: usize) -> AcctAt
-    requires { ⌜ (at < length (now s)) × (prefix < 10000000000) × (p ≡ doubled 19 prefix) ⌝ }
-    ensures { λ r. ⌜ told r ≡ fieldAt (withBase least prefix) (now (s .entry)) (at + 1) ⌝ }
-{
-    let from = at + 1;
-    let got = sum_run(s, from, 10);
-    let end = got.end;
-    if field::ends(s, end) {
-        if end - from < least {
-            return AcctAt::Refused(4);
-        }
-        return by_sums(prefix, p, got.value, got.sum, end);
-    }
-    AcctAt::Refused(4)
-}
-
 // Are the digits from `at` to `end` a prefix with its dash?
-pub fn has_prefix(s: &[u8], at: usize, end: usize) -> bool
+fn has_prefix(s: &[u8], at: usize, end: usize) -> bool
     requires { ⌜ (at ≤ end) × (end < length (now s)) ⌝ }
     ensures { λ r. ⌜ r ≡ dashed (now (s .entry)) at end ⌝ }
 {
@@ -130,67 +69,6 @@ pub fn has_prefix(s: &[u8], at: usize, end: usize) -> bool
         return false;
     }
     s[end] == 45
-}
-
-// The account at `at`. Its digits are read as they come; what is neither digits alone nor a prefix with its dash is no account.
-pub fn account_at(s: &[u8], at: usize, joined: bool, least: usize) -> AcctAt
-    requires { ⌜ at ≤ length (now s) ⌝ }
-    ensures { λ r. ⌜ told r ≡ fieldAt (readAccount joined least) (now (s .entry)) at ⌝ }
-{
-    let got = sum_run(s, at, 16);
-    let end = got.end;
-    if field::ends(s, end) {
-        return plain(got.value, got.sum, end - at, joined, least, end);
-    }
-    if has_prefix(s, at, end) {
-        return with_base(s, end, got.value, got.sum, least);
-    }
-    AcctAt::Refused(4)
-}
-
-// Is the field at `at` empty, where that is looked for?
-fn left_empty(s: &[u8], at: usize, empty: bool) -> bool
-    requires { ⌜ at ≤ length (now s) ⌝ }
-    ensures { λ r. ⌜ r ≡ pick empty (null (fieldOf (drop at (now (s .entry))))) false ⌝ }
-{
-    if empty {
-        return field::ends(s, at);
-    }
-    false
-}
-
-// A group's payer at `at` whose field is no account, which n refuses: nobody where it has only zeros (`allzero`).
-fn zeros_at(s: &[u8], at: usize, allzero: bool, n: u64) -> AcctAt
-    requires { ⌜ at ≤ length (now s) ⌝ }
-    ensures { λ r. ⌜ told r ≡ zerosAt allzero n (now (s .entry)) at ⌝ }
-{
-    let end = line::field_end(s, at);
-    if account::only_zeros(&s[at..end], allzero) {
-        return AcctAt::Account(0, 0, end);
-    }
-    AcctAt::Refused(n)
-}
-
-// A group's payer at `at`: nobody if the field is empty (`empty`) or has only zeros (`allzero`), else an account. What is
-// an account does not have only zeros, so zeros are looked for only where there is none.
-pub fn payer_at(
-    s: &[u8],
-    at: usize,
-    empty: bool,
-    allzero: bool,
-    joined: bool,
-    least: usize,
-) -> AcctAt
-    requires { ⌜ at ≤ length (now s) ⌝ }
-    ensures { λ r. ⌜ told r ≡ fieldAt (readPayer empty allzero joined least) (now (s .entry)) at ⌝ }
-{
-    if left_empty(s, at, empty) {
-        return AcctAt::Account(0, 0, at);
-    }
-    match account_at(s, at, joined, least) {
-        AcctAt::Account(prefix, base, end) => AcctAt::Account(prefix, base, end),
-        AcctAt::Refused(n) => zeros_at(s, at, allzero, n),
-    }
 }
 
 // An account by the sums of a prefix and a base, 5 where they break the rule.
@@ -258,6 +136,57 @@ pub fn judge_account(s: &[u8], at: usize, joined: bool, least: usize) -> Passed
         return judge_base(s, end, got.sum, least);
     }
     Passed::Refused(4)
+}
+
+// What judging keeps of a group's payer: whether it is nobody, and where the field ends; or the refusal's number.
+pub enum PayerAt {
+    At(bool, usize),
+    Refused(u64),
+}
+
+// Is the field at `at` empty, where that is looked for?
+fn left_empty(s: &[u8], at: usize, empty: bool) -> bool
+    requires { ⌜ at ≤ length (now s) ⌝ }
+    ensures { λ r. ⌜ r ≡ pick empty (null (fieldOf (drop at (now (s .entry))))) false ⌝ }
+{
+    if empty {
+        return field::ends(s, at);
+    }
+    false
+}
+
+// A group's payer at `at` whose field is no account, which n refuses: nobody where it has only zeros (`allzero`).
+fn zeros_at(s: &[u8], at: usize, allzero: bool, n: u64) -> PayerAt
+    requires { ⌜ at ≤ length (now s) ⌝ }
+    ensures { λ r. ⌜ toldPayer r ≡ keeping isNobody (zerosAt allzero n (now (s .entry)) at) ⌝ }
+{
+    let end = line::field_end(s, at);
+    if account::only_zeros(&s[at..end], allzero) {
+        return PayerAt::At(true, end);
+    }
+    PayerAt::Refused(n)
+}
+
+// A group's payer at `at`: nobody if the field is empty (`empty`) or has only zeros (`allzero`), else an account. What is an account does
+// not have only zeros, so zeros are looked for only where there is none.
+pub fn judge_payer(
+    s: &[u8],
+    at: usize,
+    empty: bool,
+    allzero: bool,
+    joined: bool,
+    least: usize,
+) -> PayerAt
+    requires { ⌜ at ≤ length (now s) ⌝ }
+    ensures { λ r. ⌜ toldPayer r ≡ keeping isNobody (fieldAt (readPayer empty allzero joined least) (now (s .entry)) at) ⌝ }
+{
+    if left_empty(s, at, empty) {
+        return PayerAt::At(true, at);
+    }
+    match judge_account(s, at, joined, least) {
+        Passed::At(end) => PayerAt::At(false, end),
+        Passed::Refused(n) => zeros_at(s, at, allzero, n),
+    }
 }
 
 // ---- taken

@@ -1,8 +1,8 @@
-// Reads fields and spells them canonically. Each line of standard input names a sheet by its letter and a field by another, and the
-// field ends at a space or with the line, as `KA 19-19`: A an account, M an item's amount, D a due date (today is 1 January 2018), B a
-// bank field. It is answered by the canonical spelling, or by the number of the refusal.
+// Judges fields, takes them and spells them canonically. Each line of standard input has a field, and behind a space a sheet's letter and
+// the field's, as `19-19 KA`: A an account, M an item's amount, D a due date (today is 1 January 2018), B a bank field. It is answered
+// by the canonical spelling, or by the number of the refusal.
 use field::NumAt;
-use field_account::AcctAt;
+use field::Passed;
 use sheet::Known;
 use sheet::Sheet;
 
@@ -14,17 +14,24 @@ fn refused(n: u64) {
 }
 
 fn show_account(sh: Sheet, f: &[u8]) {
-    match field_account::account_at(f, 0, sh.joined, sh.basemin) {
-        AcctAt::Refused(n) => {
+    match field_account::judge_account(f, 0, sh.joined, sh.basemin) {
+        Passed::Refused(n) => {
             refused(n);
         }
-        AcctAt::Account(prefix, base, end) => {
-            let mut out = [0; 64];
-            if account::account_len(prefix, base) <= 64 {
-                let stop = account::put_account(&mut out, 0, prefix, base);
-                io::write_all(1, &out[0..stop]);
+        Passed::At(end) => {
+            if end < f.len() {
+                let a = field_account::take_account(f, 0, sh.joined, sh.basemin);
+                spell_account(a.prefix, a.base);
             }
         }
+    }
+}
+
+fn spell_account(prefix: u64, base: u64) {
+    let mut out = [0; 64];
+    if account::account_len(prefix, base) <= 64 {
+        let end = account::put_account(&mut out, 0, prefix, base);
+        io::write_all(1, &out[0..end]);
     }
 }
 
@@ -102,16 +109,14 @@ fn show(sh: Sheet, what: u8, f: &[u8]) {
 }
 
 fn answer(line: &[u8]) {
-    if line.len() < 3 {
+    let end = line::field_end(line, 0);
+    if line.len() - end < 3 {
         io::write_all(1, b"no such field\n");
         return;
     }
-    match sheet::sheet_by(line[0]) {
+    match sheet::sheet_by(line[end + 1]) {
         Known::Nothing => refused(1),
-        Known::Sheet(sh) => {
-            let end = line::field_end(line, 3);
-            show(sh, line[1], &line[3..end]);
-        }
+        Known::Sheet(sh) => show(sh, line[end + 2], line),
     }
     io::write_all(1, b"\n");
 }

@@ -20,7 +20,6 @@ use Rattle.field.specs.declared.NumAt.{NumAt}
 use Rattle.field.specs.declared.NumAt.the-variants as num
 use Rattle.field.specs.Told as number
 use Rattle.field.proofs.Steps.{found-value, number-within, steps}
-use Rattle.field_account.proofs.Steps.{accounts, account-within}
 
 -- ---- whether the payer's field stands in the line
 
@@ -58,6 +57,6 @@ step-group warns today date w g payer total at = rw g
 
 pub ruleset payers = (payer-counted, payer-third, payer-always)
 
-pub ruleset groups = (accounts, due-limit, step-group, steps)
+pub ruleset groups = (due-limit, step-group, steps)
 
-pub ruleset bounds = (account-within, number-within, total-low, due-real)
+pub ruleset bounds = (number-within, total-low, due-real)

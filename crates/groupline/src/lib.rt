@@ -1,24 +1,23 @@
 // The line that begins a group: `2 TOTAL DATE`, or with the payer's account before TOTAL.
 use field::NumAt;
-use field_account::AcctAt;
+use field_account::PayerAt;
 use sheet::Sheet;
 ghost use mathlib.Core.Path.{_≡_};
 ghost use mathlib.Core.Bool.{true};
 ghost use Prim.Native.Nat.{_≤_};
 ghost use lib.Dec.{ltb, leb};
 ghost use lib.ListN.{length, drop};
-ghost use Rattle.paper.specs.Accounts.{account};
+ghost use Rattle.paper.specs.Accounts.{Account};
 ghost use Rattle.paper.specs.Days.{realDay};
 ghost use Rattle.paper.specs.GroupLine.{spaceCount, hasPayer, totalAndDate, readGroup};
 ghost use Rattle.groupline.specs.Spaced.{spaced};
-ghost use Rattle.groupline.specs.Told.{told, Low};
+ghost use Rattle.groupline.specs.Told.{told, Marked, Tells, Low};
 
-// What the line says: the payer, prefix and base 0 where there is none, total and due date, how many warnings the line gives, and where
-// in it the total stands; or the refusal's number and its offset in the line.
+// What judging keeps of the line: whether the group is single, total and due date, how many warnings the line gives, and where in it the
+// total stands; or the refusal's number and its offset in the line.
 pub enum GroupRead {
     Group {
-        prefix: u64,
-        base: u64,
+        single: bool,
         total: u64,
         date: u64,
         warnings: u64,
@@ -86,10 +85,11 @@ fn has_payer(s: &[u8], always: bool) -> bool
 }
 
 // TOTAL, at `at`, and DATE, behind the payer.
-fn total_and_date(s: &[u8], at: usize, sh: Sheet, today: u64, prefix: u64, base: u64) -> GroupRead
+fn total_and_date(s: &[u8], at: usize, sh: Sheet, today: u64, single: bool) -> GroupRead
     requires { ⌜ realDay today ≡ true ⌝ }
     requires { ⌜ at ≤ length (now s) ⌝ }
-    ensures { λ r. ⌜ told r ≡ totalAndDate sh today (account prefix base) at (drop at (now (s .entry))) ⌝ }
+    ensures { λ r. ⌜ ((payer : Account) → told payer r ≡ totalAndDate sh today payer at (drop at (now (s .entry)))) ⌝ }
+    ensures { λ r. ⌜ Marked single r ⌝ }
     ensures { λ r. ⌜ Low r ⌝ }
 {
     match field_amount::total_at(s, at, sh.comma) {
@@ -108,8 +108,7 @@ fn total_and_date(s: &[u8], at: usize, sh: Sheet, today: u64, prefix: u64, base:
                     }
                     let warnings = calendar::due_warnings(sh.warnpast, today, date);
                     GroupRead::Group {
-                        prefix,
-                        base,
+                        single,
                         total,
                         date,
                         warnings,
@@ -125,20 +124,20 @@ fn total_and_date(s: &[u8], at: usize, sh: Sheet, today: u64, prefix: u64, base:
 pub fn group_line(s: &[u8], sh: Sheet, today: u64) -> GroupRead
     requires { ⌜ realDay today ≡ true ⌝ }
     requires { ⌜ 2 ≤ length (now s) ⌝ }
-    ensures { λ r. ⌜ told r ≡ readGroup sh today (now (s .entry)) ⌝ }
+    ensures { λ r. ⌜ Tells (readGroup sh today (now (s .entry))) r ⌝ }
     ensures { λ r. ⌜ Low r ⌝ }
 {
     if has_payer(s, sh.emptypayer) {
-        match field_account::payer_at(s, 2, sh.emptypayer, sh.zeropayer, sh.joined, sh.basemin) {
-            AcctAt::Refused(n) => GroupRead::Refused(n, 2),
-            AcctAt::Account(prefix, base, end) => {
+        match field_account::judge_payer(s, 2, sh.emptypayer, sh.zeropayer, sh.joined, sh.basemin) {
+            PayerAt::Refused(n) => GroupRead::Refused(n, 2),
+            PayerAt::At(single, end) => {
                 if s.len() <= end {
                     return GroupRead::Refused(4, end);
                 }
-                total_and_date(s, end + 1, sh, today, prefix, base)
+                total_and_date(s, end + 1, sh, today, single)
             }
         }
     } else {
-        total_and_date(s, 2, sh, today, 0, 0)
+        total_and_date(s, 2, sh, today, true)
     }
 }

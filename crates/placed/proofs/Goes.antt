@@ -3,6 +3,7 @@ use mathlib.Core.Path.{_≡_, refl, sym, _∙_}
 use mathlib.Core.Bool.{true}
 use mathlib.Core.List.{List}
 use Prim.Native.Nat.{ℕ, _+_, _<_}
+use native.Mathlib.Omega.{arith}
 use lib.ListN.{length, drop, drop-of-length-le}
 use Rattle.base.specs.Seek.{seek}
 use Rattle.base.proofs.Cases.{by-lt}
@@ -12,7 +13,12 @@ use Rattle.paper.specs.Bytes.{space, fieldOf}
 use Rattle.paper.specs.Entries.{Said, no, onField, field, gap}
 use Rattle.paper.specs.ItemLine.{isValue}
 use Rattle.field.specs.At.{found, fieldAt}
-use Rattle.field.proofs.Steps.{found-field, step-gap}
+use Rattle.field.specs.Kept.{keeping, nothing}
+use Rattle.field.specs.Told.{passed}
+use Rattle.field.specs.declared.Passed.{Passed}
+use Rattle.field.specs.declared.Passed.the-variants.{At}
+use Rattle.field.proofs.Steps.{found-end, found-field, step-gap}
+use Rattle.field.proofs.Kept.{was-found, kept-says}
 use Rattle.placed.specs.Known.{There}
 use Rattle.placed.proofs.Parts.{some-value, at-value}
 use Rattle.placed.specs.Said.{isSaid}
@@ -62,3 +68,11 @@ module _ {A : Type 0} (read : List ℕ → Field A) (s : List ℕ) (at : ℕ) wh
         let y = field-value (λ v a1 s1. gap a1 s1 λ a2 s2. k v a2 s2) h in
         let x = some-value (read (fieldOf (drop at s))) y in
         record { says = y; on = next-inside (x .0) (at + seek space (drop at s)) (at-value read s at (x .0) (x .0) (at + seek space (drop at s)) (x .1) refl refl) }
+
+-- ---- a field that was judged, with the line going on behind it: n is what the judge answered
+
+pub passed-there : {A : Type 0} (read : List ℕ → Field A) (s : List ℕ) (at : ℕ) (n : Passed) → passed n ≡ keeping nothing (fieldAt read s at) → (e : ℕ) → n ≡ At e → e < length s → There read s at
+passed-there read s at n g e f l =
+    let q : found tt e ≡ keeping nothing (fieldAt read s at) = rw f at g in
+    let v = was-found nothing (fieldAt read s at) tt e q in
+    record { says = kept-says nothing read s at tt e q; on = omega (arith, found-end read s at (v .0) e (v .1)) }

@@ -10,9 +10,6 @@ add-rows c = search needs
 add-warned : tie.Need-add-warned
 add-warned c = search needs
 
-is-nobody-requires : tie.Need-is-nobody-requires
-is-nobody-requires c κs = search needs
-
 returns : tie.Need-returns
 returns c = search held-new
 
@@ -22,5 +19,4 @@ group-held-spec =
     (tie.spec
     add-rows
     add-warned
-    is-nobody-requires
     returns)

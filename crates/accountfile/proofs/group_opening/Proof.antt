@@ -16,8 +16,8 @@ part-group-line-end c = search needs
 group-line-requires : tie.Need-group-line-requires
 group-line-requires c κs = search (group-places, needs)
 
-enum-known-prefix : tie.Need-enum-known-prefix
-enum-known-prefix c = search needs
+enum-known-single : tie.Need-enum-known-single
+enum-known-single c = search needs
 
 byte-in-requires : tie.Need-byte-in-requires
 byte-in-requires c κs = search (group-places, needs)
@@ -45,7 +45,7 @@ group-opening-spec =
     part-group-line-start
     part-group-line-end
     group-line-requires
-    enum-known-prefix
+    enum-known-single
     byte-in-requires
     group-held-requires
     enum-known-n

@@ -1,7 +1,7 @@
 -- `zeros_at` meets its contract: zeros that stand for nobody, or the refusal. Assumes nothing.
 use borrow.Author.Needs.{needs}
 use Rattle.line.proofs.Fields.{end-within}
-use Rattle.field_account.proofs.Exits.{exits}
+use Rattle.field_account.proofs.Payers.{payers}
 use Rattle.field_account.proofs.zeros_at.Statement.{statement}
 use Rattle.field_account.proofs.zeros_at.Tie as tie
 
@@ -21,10 +21,10 @@ only-zeros-requires : tie.Need-only-zeros-requires
 only-zeros-requires c κs = search needs
 
 returns : tie.Need-returns
-returns c = search exits
+returns c = search payers
 
 returns-2 : tie.Need-returns-2
-returns-2 c = search exits
+returns-2 c = search payers
 
 pub zeros-at-spec : {M : Type 1} → statement M
 zeros-at-spec =

@@ -1,8 +1,14 @@
--- The field ends in the line.
+-- Two letters stand behind the field.
 use borrow.Author.Needs.{needs}
 use Rattle.line.proofs.Fields.{end-within}
 use Rattle.fields.proofs.answer.Statement.{statement}
 use Rattle.fields.proofs.answer.Tie as tie
+
+field-end-requires : tie.Need-field-end-requires
+field-end-requires c κs = search needs
+
+sub-if1 : tie.Need-sub-if1
+sub-if1 c = search (end-within, needs)
 
 slice-aggregate-write-all : tie.Need-slice-aggregate-write-all
 slice-aggregate-write-all c = search needs
@@ -12,6 +18,9 @@ write-all-requires c κs = search needs
 
 returns : tie.Need-returns
 returns c = search needs
+
+add-sheet-by : tie.Need-add-sheet-by
+add-sheet-by c = search needs
 
 shared-slice-read-sheet-by : tie.Need-shared-slice-read-sheet-by
 shared-slice-read-sheet-by c = search needs
@@ -28,20 +37,11 @@ refused-requires c κs = search needs
 enum-known-sh : tie.Need-enum-known-sh
 enum-known-sh c = search needs
 
-field-end-requires : tie.Need-field-end-requires
-field-end-requires c κs = search needs
+add-show : tie.Need-add-show
+add-show c = search needs
 
 shared-slice-read-show : tie.Need-shared-slice-read-show
 shared-slice-read-show c = search needs
-
-sub-show : tie.Need-sub-show
-sub-show c = search needs
-
-part-show-start : tie.Need-part-show-start
-part-show-start c = search needs
-
-part-show-end : tie.Need-part-show-end
-part-show-end c = search (end-within, needs)
 
 show-requires : tie.Need-show-requires
 show-requires c κs = search needs
@@ -59,19 +59,19 @@ pub answer-spec : {M : Type 1} → statement M
 answer-spec =
     tie.close
     (tie.spec
+    field-end-requires
+    sub-if1
     slice-aggregate-write-all
     write-all-requires
     returns
+    add-sheet-by
     shared-slice-read-sheet-by
     sheet-by-requires
     enum-told
     refused-requires
     enum-known-sh
-    field-end-requires
+    add-show
     shared-slice-read-show
-    sub-show
-    part-show-start
-    part-show-end
     show-requires
     slice-aggregate-write-all-2
     write-all-requires-2

@@ -16,7 +16,7 @@ enum-known-total c = search needs
 
 returns : tie.Need-returns
 unfolding totalAndDate
-returns c = (search groups depth 12, search (bounds, needs))
+returns c = ((λ payer. search groups depth 12), (search (bounds, needs), search (bounds, needs)))
 
 add-from : tie.Need-add-from
 add-from c = search needs
@@ -35,22 +35,22 @@ enum-known-date c = search needs
 
 returns-2 : tie.Need-returns-2
 unfolding totalAndDate
-returns-2 c = (search groups depth 12, search (bounds, needs))
+returns-2 c = ((λ payer. search groups depth 12), (search (bounds, needs), search (bounds, needs)))
 
 due-warnings-requires : tie.Need-due-warnings-requires
 due-warnings-requires c κs = search (bounds, needs)
 
 returns-3 : tie.Need-returns-3
 unfolding totalAndDate
-returns-3 c = (search groups depth 12, search (bounds, needs))
+returns-3 c = ((λ payer. search groups depth 12), (search (bounds, needs), search (bounds, needs)))
 
 returns-4 : tie.Need-returns-4
 unfolding totalAndDate
-returns-4 c = (search groups depth 12, search (bounds, needs))
+returns-4 c = ((λ payer. search groups depth 12), (search (bounds, needs), search (bounds, needs)))
 
 returns-5 : tie.Need-returns-5
 unfolding totalAndDate
-returns-5 c = (search groups depth 12, search (bounds, needs))
+returns-5 c = ((λ payer. search groups depth 12), (search (bounds, needs), search (bounds, needs)))
 
 pub total-and-date-spec : {M : Type 1} → statement M
 total-and-date-spec =
