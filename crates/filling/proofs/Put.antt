@@ -21,7 +21,6 @@ use Rattle.kind.specs.declared.LineKind.{LineKind}
 use Rattle.kind.specs.declared.LineKind.the-variants as kind
 use Rattle.kind.specs.Told as kinds
 use Rattle.itemline.specs.declared.Fields.{Fields}
-use Rattle.itemline.specs.declared.ItemRead.the-variants as items
 use Rattle.itemline.specs.Told as item-told
 use Rattle.take_file.specs.declared.File.{File}
 use Rattle.take_group.specs.declared.Group.{Group}
@@ -105,7 +104,7 @@ module _ (sh : Sheet) (today : ℕ) (single : Bool) (s : List ℕ) (k : LineKind
     pub judged-item : isSaid (readLine sh today (forItem single) s) ≡ true → isSaid (readItem sh single s) ≡ true
     judged-item h = rw (said-item sh today single s k g e) at h
 
-    module _ (x : Fields) (f : item-told.told s (items.Item x) ≡ readItem sh single s) (t : item-told.Sound s x) where
+    module _ (x : Fields) (f : item-told.told s x ≡ readItem sh single s) (t : item-told.Sound s x) where
       item-says : readLine sh today (forItem single) s ≡ got (item (item-told.itemAt s x)) (x .warnings) (places (textsAt s (x .texts)))
       item-says = said-item sh today single s k g e ∙ sym f
 

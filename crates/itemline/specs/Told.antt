@@ -1,16 +1,14 @@
--- What the answer of the line's reader stands for in document 01, "The batch", "Lines" and "Numbers returned". Assumes nothing.
+-- What the fields taken from an item's line stand for. Document 01, "The batch", "Lines" and "Numbers returned". Assumes nothing.
 use Prim.Native.Nat.{ℕ, _≤_}
 use mathlib.Core.List.{List}
 use Rattle.paper.specs.Accounts.{account}
 use Rattle.paper.specs.Batch.{Item, most14}
-use Rattle.paper.specs.Entries.{item, Said, got, no}
+use Rattle.paper.specs.Entries.{item, Said, got}
 use Rattle.paper.specs.ItemLine.{partBytes, places}
 use Rattle.span.specs.declared.Span.{Span}
 use Rattle.span.specs.declared.Spans.{Spans}
 use Rattle.span.specs.Held.{pieceAt, textsAt, Held}
 use Rattle.itemline.specs.declared.Fields.{Fields}
-use Rattle.itemline.specs.declared.ItemRead.{ItemRead}
-use Rattle.itemline.specs.declared.ItemRead.the-variants as answer
 
 -- no message and no name
 abbrev none : Span
@@ -35,17 +33,12 @@ itemAt s f =
       name = pieceAt s (f .texts .name) .bytes;
     }
 
--- an item, its warnings and the places of its texts; or the refusal's number and its offset in the line
-abbrev pub told : List ℕ → ItemRead → Said
-told s (answer.Item f) = got (item (itemAt s f)) (f .warnings) (places (textsAt s (f .texts)))
-told s (answer.Refused n at) = no n at
+-- the item, its warnings and the places of its texts
+abbrev pub told : List ℕ → Fields → Said
+told s f = got (item (itemAt s f)) (f .warnings) (places (textsAt s (f .texts)))
 
 -- its texts lie in the line, its amount has 14 digits at most, and each text and the priority warn once at most
 pub record Sound (s : List ℕ) (f : Fields) : Type 0 where
   pub held : Held s (f .texts)
   pub low : f .amount ≤ most14
   pub few : f .warnings ≤ 6
-
-abbrev pub Kept : List ℕ → ItemRead → Type 0
-Kept s (answer.Item f) = Sound s f
-Kept s (answer.Refused n at) = Unit

@@ -16,28 +16,3 @@ pub struct Fields {
     pub warnings: u64,
     pub texts: Spans,
 }
-
-// What the line says: an item; or the refusal's number and its offset in the line.
-pub enum ItemRead {
-    Item(Fields),
-    Refused(u64, usize),
-}
-
-// Who pays whom how much.
-pub struct Paid {
-    pub payerprefix: u64,
-    pub payerbase: u64,
-    pub payeeprefix: u64,
-    pub payeebase: u64,
-    pub amount: u64,
-}
-
-// The fields before the tail.
-pub struct Front {
-    pub paid: Paid,
-    pub variable: u64,
-    pub bank: u64,
-    pub constant: u64,
-    pub priority: u64,
-    pub warnings: u64,
-}

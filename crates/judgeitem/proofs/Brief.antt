@@ -10,14 +10,15 @@ use Rattle.sheet.specs.declared.Sheet.{Sheet}
 use Rattle.paper.specs.Read.{Field, value, fault}
 use Rattle.paper.specs.Bytes.{fieldOf}
 use Rattle.paper.specs.Accounts.{Account}
+use Rattle.paper.specs.BankField.{Bank}
 use Rattle.paper.specs.Texts.{Texts}
 use Rattle.paper.specs.Judge.{onItem}
 use Rattle.paper.specs.Entries.{Said, got, no, onField, field, gap}
-use Rattle.paper.specs.ItemLine.{noTexts, fixedTail, afterSymbol, openTail, tail, readItem}
-use Rattle.paper.specs.ItemLine as lines
+use Rattle.paper.specs.ItemLine.{noTexts, fixedTail, afterSymbol, openTail, readItem}
 use Rattle.tail.specs.Told.{tailOf}
-use Rattle.judgeitem.specs.Brief.{brief}
-use Rattle.judgeitem.specs.Stages.{withTail, fromBank, fromVariable, fromAmount, fromPayee, payerFirst, byPieces}
+use Rattle.itemline.specs.Walk.{spaced, fromBank, fromVariable, fromAmount, fromPayee, payerFirst, walk, itemSaid}
+use Rattle.itemline.proofs.Steps.{item-walk}
+use Rattle.judgeitem.specs.Brief.{keptTexts, keptBank, keptVariable, keptPayee, anyPayer, brief}
 
 -- a refusal is kept whole
 pub brief-no : (x : Said) (n off : ℕ) → no n off ≡ brief x → no n off ≡ x
@@ -82,26 +83,30 @@ module _ (y : Style) {k j : ℕ → Texts → Said} (h : (m : ℕ) (t : Texts) �
 
 -- ---- the whole line
 
-payee-brief : (sh : Sheet) (payer : Account) (at : ℕ) (s : List ℕ) → Short (lines.fromPayee sh payer at s) (fromPayee sh at s)
-unfolding lines.fromPayee fromPayee fromAmount fromVariable fromBank withTail tail tailOf brief onItem
+spaced-brief : {A : Type 0} (read : List ℕ → Field A) (at : ℕ) (s : List ℕ) {k j : A → ℕ → List ℕ → Said}
+    → ((v : A) (a : ℕ) (r : List ℕ) → Short (k v a r) (j v a r)) → Short (spaced read at s k) (spaced read at s j)
+unfolding spaced
+spaced-brief read at s h = field-brief read at s λ v a1 s1. gap-brief a1 s1 λ a2 s2. h v a2 s2
+
+-- amount and warnings are kept of an item's values
+value-brief : (payer payee : Account) (amount variable : ℕ) (bank : Bank) (specific : ℕ) (texts : Texts)
+    → Short (itemSaid payer payee amount variable bank specific texts) (keptBank amount bank specific texts)
+unfolding itemSaid keptBank keptTexts brief onItem
+value-brief payer payee amount variable bank specific texts = record { same = refl }
+
+payee-brief : (sh : Sheet) (payer : Account) (at : ℕ) (s : List ℕ)
+    → Short (fromPayee sh (itemSaid payer) at s) (fromPayee sh keptPayee at s)
+unfolding fromPayee fromAmount fromVariable fromBank keptPayee keptVariable
 payee-brief sh payer at s =
-    field-brief _ _ _ λ payee a1 s1.
-    gap-brief a1 s1 λ a2 s2.
-    field-brief _ _ _ λ amount a3 s3.
-    gap-brief a3 s3 λ a4 s4.
-    field-brief _ _ _ λ variable a5 s5.
-    gap-brief a5 s5 λ a6 s6.
-    field-brief _ _ _ λ bank a7 s7.
-    tail-brief (sh .text) (λ specific texts. record { same = refl }) (sh .fixedtail) (sh .bare) a7 s7
+    spaced-brief _ _ _ λ payee a1 s1.
+    spaced-brief _ _ _ λ amount a2 s2.
+    spaced-brief _ _ _ λ variable a3 s3.
+    field-brief _ _ _ λ bank a4 s4.
+    tail-brief (sh .text) (λ specific texts. value-brief payer payee amount variable bank specific texts) (sh .fixedtail) (sh .bare) a4 s4
 
-item-brief : (sh : Sheet) (single : Bool) (s : List ℕ) → Short (readItem sh single s) (byPieces sh single s)
-unfolding readItem byPieces payerFirst
-item-brief sh single s =
-    pick-brief single
-    (field-brief _ _ _ λ payer a1 s1.
-    gap-brief a1 s1 λ a2 s2.
-    payee-brief sh payer a2 s2)
-    (payee-brief sh _ 0 s)
+walk-brief : (sh : Sheet) (single : Bool) (s : List ℕ) → Short (walk sh single itemSaid s) (payerFirst (sh .joined) (sh .basemin) single s (anyPayer (fromPayee sh keptPayee)))
+unfolding walk payerFirst anyPayer
+walk-brief sh single s = pick-brief single (spaced-brief _ _ _ λ payer a1 s1. payee-brief sh payer a1 s1) (payee-brief sh _ 0 s)
 
-pub line-brief : (sh : Sheet) (single : Bool) (s : List ℕ) → brief (readItem sh single s) ≡ byPieces sh single s
-line-brief sh single s = item-brief sh single s .same
+pub line-brief : (sh : Sheet) (single : Bool) (s : List ℕ) → brief (readItem sh single s) ≡ payerFirst (sh .joined) (sh .basemin) single s (anyPayer (fromPayee sh keptPayee))
+line-brief sh single s = rw (item-walk sh single s) (walk-brief sh single s .same)

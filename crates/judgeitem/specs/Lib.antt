@@ -1,3 +1,2 @@
 pub mod Brief
 pub mod Told
-pub mod Stages

@@ -11,9 +11,10 @@ ghost use Prim.Native.Nat.{ℕ, _+_, _≤_};
 ghost use lib.ListN.{length, drop};
 ghost use Rattle.paper.specs.Entries.{Said};
 ghost use Rattle.paper.specs.ItemLine.{readItem};
-ghost use Rattle.judgeitem.specs.Brief.{kept, brief};
+ghost use Rattle.tail.specs.Told.{tailOf};
+ghost use Rattle.itemline.specs.Walk.{fromBank, fromVariable, fromAmount, payerFirst};
+ghost use Rattle.judgeitem.specs.Brief.{kept, keptTexts, keptBank, keptVariable, anyPayer, brief};
 ghost use Rattle.judgeitem.specs.Told.{told, toldFrom, InsideFrom};
-ghost use Rattle.judgeitem.specs.Stages.{withTail, fromBank, fromVariable, fromAmount, payerFirst};
 
 // What the line says: an item's amount and how many warnings it gives; or the refusal's number and its offset in the line.
 pub enum Judged {
@@ -51,7 +52,7 @@ fn with_tail(
     requires { ⌜ y .most ≤ 4 ⌝ }
     requires { ⌜ at ≤ length (now s) ⌝ }
     requires { ⌜ warnings ≤ 1 ⌝ }
-    ensures { λ r. ⌜ told r ≡ withTail y fixed bare amount warnings at (drop at (now (s .entry))) ⌝ }
+    ensures { λ r. ⌜ told r ≡ tailOf y fixed bare (keptTexts amount warnings) at (drop at (now (s .entry))) ⌝ }
 {
     match tail::read_tail(s, at, fixed, bare) {
         TailRead::Refused(n, place) => Judged::Refused(n, place),
@@ -67,7 +68,7 @@ fn with_tail(
 fn from_bank(s: &[u8], at: usize, sh: Sheet, amount: u64) -> Judged
     requires { ⌜ sh .text .most ≤ 4 ⌝ }
     requires { ⌜ at ≤ length (now s) ⌝ }
-    ensures { λ r. ⌜ told r ≡ fromBank sh amount at (drop at (now (s .entry))) ⌝ }
+    ensures { λ r. ⌜ told r ≡ fromBank sh (keptBank amount) at (drop at (now (s .entry))) ⌝ }
 {
     match field_bank::judge_bank(s, at, sh.priority) {
         NumAt::Refused(n) => Judged::Refused(n, at),
@@ -81,7 +82,7 @@ fn from_bank(s: &[u8], at: usize, sh: Sheet, amount: u64) -> Judged
 fn from_variable(s: &[u8], at: usize, sh: Sheet, amount: u64) -> Judged
     requires { ⌜ sh .text .most ≤ 4 ⌝ }
     requires { ⌜ at ≤ length (now s) ⌝ }
-    ensures { λ r. ⌜ told r ≡ fromVariable sh amount at (drop at (now (s .entry))) ⌝ }
+    ensures { λ r. ⌜ told r ≡ fromVariable sh (keptVariable amount) at (drop at (now (s .entry))) ⌝ }
 {
     match field::pass_symbol(s, at, 1) {
         Passed::Refused(n) => Judged::Refused(n, at),
@@ -98,7 +99,7 @@ fn from_variable(s: &[u8], at: usize, sh: Sheet, amount: u64) -> Judged
 fn from_amount(s: &[u8], at: usize, sh: Sheet) -> Judged
     requires { ⌜ (sh .text .most ≤ 4) × (sh .itemdigits ≤ 19) ⌝ }
     requires { ⌜ at ≤ length (now s) ⌝ }
-    ensures { λ r. ⌜ told r ≡ fromAmount sh at (drop at (now (s .entry))) ⌝ }
+    ensures { λ r. ⌜ told r ≡ fromAmount sh keptVariable at (drop at (now (s .entry))) ⌝ }
 {
     let limits = sh.limits();
     match field_amount::amount_at(s, at, sh.comma, limits.digits, limits.amount) {
@@ -114,7 +115,7 @@ fn from_amount(s: &[u8], at: usize, sh: Sheet) -> Judged
 
 // The payer, where the group is single, and the space behind.
 fn payer_first(s: &[u8], joined: bool, least: usize, single: bool) -> PayeeFrom
-    ensures { λ r. ⌜ ((k : ℕ → List ℕ → Said) → toldFrom (now (s .entry)) r k ≡ payerFirst joined least single (now (s .entry)) k) ⌝ }
+    ensures { λ r. ⌜ ((k : ℕ → List ℕ → Said) → toldFrom (now (s .entry)) r k ≡ payerFirst joined least single (now (s .entry)) (anyPayer k)) ⌝ }
     ensures { λ r. ⌜ InsideFrom (now (s .entry)) r ⌝ }
 {
     if single {

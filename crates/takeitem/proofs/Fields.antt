@@ -1,4 +1,5 @@
--- The fields of an item's line that says something, one after the other: p, m, v and b are what the takers answered. Assumes nothing.
+-- The fields of an item's line that says something, where they are more than a number and a space behind it: amount, bank field, payer, and the
+-- whole line. Assumes nothing.
 use mathlib.Core.Path.{_≡_, refl, sym, _∙_}
 use mathlib.Core.Bool.{Bool, true, false}
 use mathlib.Core.List.{List}
@@ -8,7 +9,10 @@ use mir.Val.{Fits}
 use mir.Syntax.{w64}
 use lib.ListN.{length, drop}
 use Rattle.base.proofs.Cases.{pick-true, pick-false}
+use Rattle.base.proofs.Lists.{drop-none}
 use Rattle.sheet.specs.declared.Sheet.{Sheet}
+use Rattle.sheet.specs.declared.Limits.{Limits}
+use Rattle.sheet.specs.Sheets.{LimitsOf}
 use Rattle.paper.specs.Read.{Field}
 use Rattle.paper.specs.Accounts as paper
 use Rattle.paper.specs.Accounts.{readAccount}
@@ -17,180 +21,132 @@ use Rattle.paper.specs.BankField as banks
 use Rattle.paper.specs.BankField.{readBank}
 use Rattle.paper.specs.Batch.{most14}
 use Rattle.paper.specs.Bytes.{fieldOf}
-use Rattle.paper.specs.Entries.{Said, field, gap}
-use Rattle.paper.specs.ItemLine.{readSymbol, isValue, readItem}
+use Rattle.paper.specs.Entries.{Said, gap}
+use Rattle.paper.specs.ItemLine.{isValue, readItem}
 use Rattle.amount.proofs.Sound.{amount-within}
 use Rattle.bank.proofs.Sound.{bank-warnings}
-use Rattle.field.specs.At.{fieldAt}
-use Rattle.field.specs.declared.Run.{Run}
-use Rattle.base.proofs.Lists.{drop-none}
+use Rattle.field.specs.At.{found, fieldAt}
 use Rattle.field.proofs.Steps.{found-value, found-end, found-within, found-field, step-gap}
-use Rattle.itemline.specs.declared.Paid.{Paid}
-use Rattle.itemline.specs.Stages.{front, withTail, fromBank, pays, fromVariable, fromAmount, payerFirst, fromPayee, byPieces}
-use Rattle.itemline.proofs.Steps.{by-pieces}
+use Rattle.tail.specs.Told.{tailOf}
+use Rattle.itemline.specs.Walk.{spaced, fromBank, fromPayee, payerFirst, walk, itemSaid}
+use Rattle.itemline.proofs.Steps.{item-walk}
 use Rattle.placed.specs.Known.{There}
-use Rattle.placed.specs.Told.{toldNumber}
 use Rattle.field_account.specs.Told.{toldAccount}
 use Rattle.field_bank.specs.Told.{toldBank}
 use Rattle.field_account.specs.declared.Account.{Account}
 use Rattle.field_bank.specs.declared.Bank.{Bank}
+use Rattle.takeitem.specs.declared.Paid.{Paid}
+use Rattle.takeitem.specs.declared.Front.{Front}
 use Rattle.placed.specs.Said.{isSaid}
-use Rattle.placed.proofs.Goes.{said-as, field-value, next-inside, next-goes, next-there}
+use Rattle.takeitem.specs.Made.{taken, madePaid, made, Small}
+use Rattle.placed.proofs.Goes.{said-as, field-value}
+use Rattle.takeitem.proofs.Stages.{stage-there}
 
--- a place behind a space fits a word
-room : (s : List ℕ) (e : ℕ) → e < length s → length s < 18446744073709551616 → Fits w64 (e + 1)
-room s e h l = omega arith
+-- ---- the amount: v and e are its value and its end
 
-module _ (sh : Sheet) (payer : paper.Account) (s : List ℕ) (at : ℕ) (h : isSaid (fromPayee sh payer at (drop at s)) ≡ true) where
-  pub payee-there : There (readAccount (sh .joined) (sh .basemin)) s at
-  unfolding fromPayee
-  payee-there = next-there (readAccount (sh .joined) (sh .basemin)) s at (λ payee a2 s2. fromAmount sh payer payee a2 s2) h
+-- .. within the limits l that the sheet gave
+module _ (sh : Sheet) (l : Limits) (of : LimitsOf sh l) (may : Bool) (s : List ℕ) (at : ℕ) where
+  pub limit-there : There (readItemAmount may (sh .itemdigits) (sh .itemmax)) s at → There (readItemAmount may (l .digits) (l .amount)) s at
+  limit-there h = rw (of .digits, of .amount) h
 
-  module _ (p : Account) (gp : toldAccount p ≡ fieldAt (readAccount (sh .joined) (sh .basemin)) s at) where
-    abbrev payee : paper.Account
-    payee = paper.account (p .prefix) (p .base)
+  pub limit-found : (v e : ℕ) → found v e ≡ fieldAt (readItemAmount may (l .digits) (l .amount)) s at → found v e ≡ fieldAt (readItemAmount may (sh .itemdigits) (sh .itemmax)) s at
+  limit-found v e g = rw (of .digits, of .amount) at g
 
-    to-amount : fromPayee sh payer at (drop at s) ≡ fromAmount sh payer payee (p .end + 1) (drop (p .end + 1) s)
-    unfolding fromPayee
-    to-amount = next-goes (readAccount (sh .joined) (sh .basemin)) s at (λ payee a2 s2. fromAmount sh payer payee a2 s2) h payee (p .end) gp
+pub ruleset limits = (limit-there, limit-found)
 
-    said-amount : isSaid (fromAmount sh payer payee (p .end + 1) (drop (p .end + 1) s)) ≡ true
-    said-amount = said-as _ _ h to-amount
+pub amount-low : (may : Bool) (most max : ℕ) (s : List ℕ) (at v e : ℕ) → found v e ≡ fieldAt (readItemAmount may most max) s at → max ≤ most14 → v ≤ most14
+amount-low may most max s at v e g m = omega (arith, amount-within may most max _ v (found-value (readItemAmount may most max) s at v e g) .within)
 
-    pub payee-room : length s < 18446744073709551616 → Fits w64 (p .end + 1)
-    unfolding fromPayee
-    payee-room = room s (p .end) (next-inside (readAccount (sh .joined) (sh .basemin)) s at (λ payee a2 s2. fromAmount sh payer payee a2 s2) h payee (p .end) gp)
+-- ---- the bank field: b is what its taker answered
 
-    abbrev amountOf : List ℕ → Field ℕ
-    amountOf = readItemAmount (sh .comma) (sh .itemdigits) (sh .itemmax)
+abbrev valueOf : Bank → banks.Bank
+valueOf b = record { bank = b .bank; constant = b .constant; priority = b .priority; warnings = b .warnings }
 
-    pub amount-there : There (readItemAmount (sh .comma) (sh .itemdigits) (sh .itemmax)) s (p .end + 1)
-    unfolding fromAmount
-    amount-there = next-there amountOf s (p .end + 1) (λ amount a2 s2. fromVariable sh (pays payer payee amount) a2 s2) said-amount
+-- all that was taken before the tail
+abbrev front : Paid → ℕ → Bank → Front
+front paid variable b = record { paid = paid; variable = variable; bank = b .bank; constant = b .constant; priority = b .priority; warnings = b .warnings }
 
-    module _ (m : Run) (gm : toldNumber m ≡ fieldAt (readItemAmount (sh .comma) (sh .itemdigits) (sh .itemmax)) s (p .end + 1)) where
-      abbrev paid : Paid
-      paid = pays payer payee (m .value)
+module _ (ranked : Bool) (s : List ℕ) (at : ℕ) (b : Bank) (g : toldBank b ≡ fieldAt (readBank ranked) s at) where
+  pub bank-within : at ≤ length s → b .end ≤ length s
+  bank-within = found-within (readBank ranked) s at (valueOf b) (b .end) g
 
-      to-variable : fromAmount sh payer payee (p .end + 1) (drop (p .end + 1) s) ≡ fromVariable sh paid (m .end + 1) (drop (m .end + 1) s)
-      unfolding fromAmount
-      to-variable = next-goes amountOf s (p .end + 1) (λ amount a2 s2. fromVariable sh (pays payer payee amount) a2 s2) said-amount (m .value) (m .end) gm
+  bank-few : b .warnings ≤ 1
+  bank-few = bank-warnings ranked _ (valueOf b) (found-value (readBank ranked) s at (valueOf b) (b .end) g)
 
-      said-variable : isSaid (fromVariable sh paid (m .end + 1) (drop (m .end + 1) s)) ≡ true
-      said-variable = said-as _ _ said-amount to-variable
+  pub front-small : (paid : Paid) (variable : ℕ) → paid .amount ≤ most14
+      → Small (front paid variable b)
+  front-small paid variable l = record { low = l; few = bank-few }
 
-      pub amount-room : length s < 18446744073709551616 → Fits w64 (m .end + 1)
-      unfolding fromAmount
-      amount-room =
-          room s (m .end)
-          (next-inside amountOf s (p .end + 1) (λ amount a2 s2. fromVariable sh (pays payer payee amount) a2 s2) said-amount (m .value) (m .end) gm)
+module _ (sh : Sheet) (paid : Paid) (variable : ℕ) (s : List ℕ) (at : ℕ) where
+  abbrev rest : banks.Bank → ℕ → List ℕ → Said
+  rest b a1 s1 = tailOf (sh .text) (sh .fixedtail) (sh .bare) (madePaid paid variable b) a1 s1
 
-      pub amount-low : sh .itemmax ≤ most14 → m .value ≤ most14
-      amount-low l =
-          omega (arith, amount-within (sh .comma) (sh .itemdigits) (sh .itemmax) _ (m .value) (found-value amountOf s (p .end + 1) (m .value) (m .end) gm) .within)
+  pub bank-value : isSaid (fromBank sh (madePaid paid variable) at (drop at s)) ≡ true → isValue (readBank (sh .priority) (fieldOf (drop at s))) ≡ true
+  unfolding fromBank
+  bank-value h = field-value (readBank (sh .priority)) s at (λ b a1 s1. rest b a1 s1) h
 
-      pub symbol-there : There readSymbol s (m .end + 1)
-      unfolding fromVariable
-      symbol-there = next-there readSymbol s (m .end + 1) (λ variable a2 s2. fromBank sh paid variable a2 s2) said-variable
+  module _ (b : Bank) (g : toldBank b ≡ fieldAt (readBank (sh .priority)) s at) where
+    to-tail : fromBank sh (madePaid paid variable) at (drop at s) ≡ tailOf (sh .text) (sh .fixedtail) (sh .bare) (made (front paid variable b)) (b .end) (drop (b .end) s)
+    unfolding fromBank made
+    to-tail = found-field (readBank (sh .priority)) s at (valueOf b) (b .end) g (λ b a1 s1. rest b a1 s1)
 
-      module _ (v : Run) (gv : toldNumber v ≡ fieldAt readSymbol s (m .end + 1)) where
-        to-bank : fromVariable sh paid (m .end + 1) (drop (m .end + 1) s) ≡ fromBank sh paid (v .value) (v .end + 1) (drop (v .end + 1) s)
-        unfolding fromVariable
-        to-bank = next-goes readSymbol s (m .end + 1) (λ variable a2 s2. fromBank sh paid variable a2 s2) said-variable (v .value) (v .end) gv
+    pub bank-said : isSaid (fromBank sh (madePaid paid variable) at (drop at s)) ≡ true → isSaid (tailOf (sh .text) (sh .fixedtail) (sh .bare) (made (front paid variable b)) (b .end) (drop (b .end) s)) ≡ true
+    bank-said h = said-as _ _ h to-tail
 
-        said-bank : isSaid (fromBank sh paid (v .value) (v .end + 1) (drop (v .end + 1) s)) ≡ true
-        said-bank = said-as _ _ said-variable to-bank
+    pub bank-is : (r : Said) → r ≡ tailOf (sh .text) (sh .fixedtail) (sh .bare) (made (front paid variable b)) (b .end) (drop (b .end) s) → r ≡ fromBank sh (madePaid paid variable) at (drop at s)
+    bank-is r e = e ∙ sym to-tail
 
-        symbol-inside : v .end < length s
-        unfolding fromVariable
-        symbol-inside = next-inside readSymbol s (m .end + 1) (λ variable a2 s2. fromBank sh paid variable a2 s2) said-variable (v .value) (v .end) gv
+pub ruleset bankings = (bank-value, bank-within, front-small, bank-said, bank-is)
 
-        pub symbol-room : length s < 18446744073709551616 → Fits w64 (v .end + 1)
-        symbol-room = room s (v .end) symbol-inside
-
-        pub symbol-within : v .end + 1 ≤ length s
-        symbol-within = omega (arith, symbol-inside)
-
-        pub bank-value : isValue (readBank (sh .priority) (fieldOf (drop (v .end + 1) s))) ≡ true
-        unfolding fromBank
-        bank-value =
-            field-value (readBank (sh .priority)) s (v .end + 1)
-            (λ b a1 s1. withTail (sh .text) (sh .fixedtail) (sh .bare) (front paid (v .value) b) a1 s1) said-bank
-
-        module _ (b : Bank) (gb : toldBank b ≡ fieldAt (readBank (sh .priority)) s (v .end + 1)) where
-          abbrev held : banks.Bank
-          held = record { bank = b .bank; constant = b .constant; priority = b .priority; warnings = b .warnings }
-
-          abbrev rest : Said
-          rest = withTail (sh .text) (sh .fixedtail) (sh .bare) (front paid (v .value) held) (b .end) (drop (b .end) s)
-
-          to-tail : fromBank sh paid (v .value) (v .end + 1) (drop (v .end + 1) s) ≡ rest
-          unfolding fromBank
-          to-tail =
-              found-field (readBank (sh .priority)) s (v .end + 1) held (b .end) gb
-              (λ b a1 s1. withTail (sh .text) (sh .fixedtail) (sh .bare) (front paid (v .value) b) a1 s1)
-
-          pub tail-said : isSaid rest ≡ true
-          tail-said = said-as _ _ said-bank to-tail
-
-          pub tail-within : b .end ≤ length s
-          tail-within = found-within (readBank (sh .priority)) s (v .end + 1) held (b .end) gb symbol-within
-
-          pub bank-few : b .warnings ≤ 1
-          bank-few = bank-warnings (sh .priority) _ held (found-value (readBank (sh .priority)) s (v .end + 1) held (b .end) gb)
-
-          pub payee-is : (r : Said) → r ≡ rest → r ≡ fromPayee sh payer at (drop at s)
-          payee-is r e = e ∙ sym (to-amount ∙ (to-variable ∙ (to-bank ∙ to-tail)))
-
-pub ruleset fields = (payee-there, payee-room, amount-there, amount-room, amount-low, symbol-there, symbol-room, symbol-within, bank-value, tail-said, tail-within, bank-few, payee-is)
-
--- ---- the payer, where the group is single
+-- ---- the payer, where the group is single: p is what its taker answered
 
 -- the line's first field
-at-first : {A : Type 0} (read : List ℕ → Field A) (s : List ℕ) (k : A → ℕ → List ℕ → Said) → field read 0 (drop 0 s) k ≡ field read 0 s k
+at-first : {A : Type 0} (read : List ℕ → Field A) (s : List ℕ) (k : A → ℕ → List ℕ → Said) → spaced read 0 (drop 0 s) k ≡ spaced read 0 s k
 at-first read s k = rw drop-none
 
-module _ (joined : Bool) (least : ℕ) (single : Bool) (s : List ℕ) where
-  module _ (g : single ≡ true) (h : There (readAccount joined least) s 0) (p : Account) (gp : toldAccount p ≡ fieldAt (readAccount joined least) s 0) where
-    payer-inside : p .end < length s
-    payer-inside = omega (arith, found-end (readAccount joined least) s 0 (paper.account (p .prefix) (p .base)) (p .end) gp, h .on)
+module _ (joined : Bool) (least : ℕ) (single : Bool) (s : List ℕ) (y : single ≡ true) (h : single ≡ true → There (readAccount joined least) s 0) where
+  pub payer-there : There (readAccount joined least) s 0
+  payer-there = h y
+
+  module _ (p : Account) (g : toldAccount p ≡ fieldAt (readAccount joined least) s 0) where
+    inside : p .end < length s
+    inside = omega (arith, found-end (readAccount joined least) s 0 (taken p) (p .end) g, payer-there .on)
 
     pub payer-room : length s < 18446744073709551616 → Fits w64 (p .end + 1)
-    payer-room = room s (p .end) payer-inside
+    payer-room l = omega (arith, inside)
 
-    pub payer-is : (k : paper.Account → ℕ → List ℕ → Said)
-        → k (paper.account (p .prefix) (p .base)) (p .end + 1) (drop (p .end + 1) s) ≡ payerFirst joined least single s k
-    unfolding payerFirst
-    payer-is k =
-        step-gap (k (paper.account (p .prefix) (p .base)) (p .end + 1) (drop (p .end + 1) s)) s (p .end) payer-inside (λ a2 s2. k (paper.account (p .prefix) (p .base)) a2 s2) refl
-        ∙ (sym (found-field (readAccount joined least) s 0 (paper.account (p .prefix) (p .base)) (p .end) gp (λ payer a1 s1. gap a1 s1 λ a2 s2. k payer a2 s2))
-        ∙ (at-first (readAccount joined least) s (λ payer a1 s1. gap a1 s1 λ a2 s2. k payer a2 s2) ∙ sym (pick-true _ _ g)))
+    pub payer-is : (k : paper.Account → ℕ → List ℕ → Said) (r : Said) → r ≡ k (taken p) (p .end + 1) (drop (p .end + 1) s) → r ≡ payerFirst joined least single s k
+    unfolding payerFirst spaced
+    payer-is k r e =
+        step-gap r s (p .end) inside (λ a2 s2. k (taken p) a2 s2) e
+        ∙ (sym (found-field (readAccount joined least) s 0 (taken p) (p .end) g (λ payer a1 s1. gap a1 s1 λ a2 s2. k payer a2 s2))
+        ∙ (at-first (readAccount joined least) s k ∙ sym (pick-true _ _ y)))
 
-  pub no-payer : single ≡ false → (k : paper.Account → ℕ → List ℕ → Said) → k (paper.account 0 0) 0 (drop 0 s) ≡ payerFirst joined least single s k
-  unfolding payerFirst
-  no-payer g k = rw drop-none (sym (pick-false _ _ g))
+pub no-payer : (joined : Bool) (least : ℕ) (single : Bool) (s : List ℕ) → single ≡ false → (k : paper.Account → ℕ → List ℕ → Said) (r : Said)
+    → r ≡ k (paper.account 0 0) 0 (drop 0 s) → r ≡ payerFirst joined least single s k
+unfolding payerFirst
+no-payer joined least single s y k r e = rw drop-none at e ∙ sym (pick-false _ _ y)
+
+pub ruleset payers = (payer-there, payer-room, payer-is, no-payer, refl)
+
+-- ---- the whole line
 
 module _ (sh : Sheet) (single : Bool) (s : List ℕ) (h : isSaid (readItem sh single s) ≡ true) where
-  pieces : readItem sh single s ≡ byPieces sh single s
-  pieces = sym (by-pieces sh single s (byPieces sh single s) refl)
+  pub first-there : single ≡ true → There (readAccount (sh .joined) (sh .basemin)) s 0
+  unfolding walk payerFirst
+  first-there y =
+      stage-there (readAccount (sh .joined) (sh .basemin)) s 0 (λ payer at rest. fromPayee sh (itemSaid payer) at rest)
+      (said-as _ _ h (item-walk sh single s ∙ (pick-true _ _ y ∙ sym (at-first (readAccount (sh .joined) (sh .basemin)) s (λ payer at rest. fromPayee sh (itemSaid payer) at rest)))))
 
-  pub payer-there : single ≡ true → There (readAccount (sh .joined) (sh .basemin)) s 0
-  unfolding byPieces payerFirst
-  payer-there g =
-      next-there (readAccount (sh .joined) (sh .basemin)) s 0 (λ payer a2 s2. fromPayee sh payer a2 s2)
-      (said-as _ _ h
-      (pieces ∙ (pick-true _ _ g ∙ sym (at-first (readAccount (sh .joined) (sh .basemin)) s (λ payer a1 s1. gap a1 s1 λ a2 s2. fromPayee sh payer a2 s2)))))
+  module _ (p : Account) (g : (k : paper.Account → ℕ → List ℕ → Said) → k (taken p) (p .end) (drop (p .end) s) ≡ payerFirst (sh .joined) (sh .basemin) single s k) where
+    to-payee : readItem sh single s ≡ fromPayee sh (itemSaid (taken p)) (p .end) (drop (p .end) s)
+    unfolding walk
+    to-payee = item-walk sh single s ∙ sym (g (λ payer at rest. fromPayee sh (itemSaid payer) at rest))
 
-  module _ (p : Account)
-      (g : (k : paper.Account → ℕ → List ℕ → Said) → k (paper.account (p .prefix) (p .base)) (p .end) (drop (p .end) s) ≡ payerFirst (sh .joined) (sh .basemin) single s k) where
-    to-payee : readItem sh single s ≡ fromPayee sh (paper.account (p .prefix) (p .base)) (p .end) (drop (p .end) s)
-    unfolding byPieces
-    to-payee = pieces ∙ sym (g (λ payer at rest. fromPayee sh payer at rest))
-
-    pub payee-said : isSaid (fromPayee sh (paper.account (p .prefix) (p .base)) (p .end) (drop (p .end) s)) ≡ true
+    pub payee-said : isSaid (fromPayee sh (itemSaid (taken p)) (p .end) (drop (p .end) s)) ≡ true
     payee-said = said-as _ _ h to-payee
 
-    pub item-is : (r : Said) → r ≡ fromPayee sh (paper.account (p .prefix) (p .base)) (p .end) (drop (p .end) s) → r ≡ readItem sh single s
+    pub item-is : (r : Said) → r ≡ fromPayee sh (itemSaid (taken p)) (p .end) (drop (p .end) s) → r ≡ readItem sh single s
     item-is r e = e ∙ sym to-payee
 
-pub ruleset payers = (payer-room, payer-is, no-payer, payer-there, payee-said, item-is)
+pub ruleset lines = (first-there, payee-said, item-is)

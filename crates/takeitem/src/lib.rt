@@ -1,10 +1,8 @@
 // An item's line that was judged before: its fields are taken one after the other, and its texts found by their places.
 use division::first_part;
 use division::next_part;
-use field_account::Account;
+use field::Run;
 use itemline::Fields;
-use itemline::Front;
-use itemline::Paid;
 use sheet::Sheet;
 use sheet::Style;
 use span::Part;
@@ -13,6 +11,7 @@ use span::Spans;
 use span::gather;
 use span::one_part;
 use span::part_at;
+use field_account::Account;
 use text::Begun;
 use text::begin_text;
 use text::name_at;
@@ -24,6 +23,7 @@ ghost use lib.ListN.{length, drop};
 ghost use Rattle.base.specs.Pick.{pick};
 ghost use Rattle.paper.specs.Accounts as paper;
 ghost use Rattle.paper.specs.Accounts.{readAccount};
+ghost use Rattle.paper.specs.Amounts.{readItemAmount};
 ghost use Rattle.paper.specs.Batch.{most14};
 ghost use Rattle.paper.specs.Entries.{Said};
 ghost use Rattle.paper.specs.ItemLine.{isValue, readItem};
@@ -32,13 +32,35 @@ ghost use Rattle.paper.specs.Texts.{others, message, readText};
 ghost use Rattle.span.specs.Held.{textsAt, Held};
 ghost use Rattle.span.specs.Places.{partAt, fourFrom};
 ghost use Rattle.division.specs.Unnamed.{unnamed};
-ghost use Rattle.itemline.specs.declared.ItemRead.the-variants as answer;
+ghost use Rattle.tail.specs.Told.{tailOf};
 ghost use Rattle.itemline.specs.Told.{noSpans, told, Sound};
-ghost use Rattle.itemline.specs.Stages.{withTexts, says, withTail, fromPayee, payerFirst};
+ghost use Rattle.itemline.specs.Walk.{fromBank, fromVariable, fromAmount, fromPayee, payerFirst, itemSaid};
+ghost use Rattle.field.specs.At.{fieldAt};
 ghost use Rattle.placed.specs.Known.{There};
+ghost use Rattle.placed.specs.Told.{toldNumber};
 ghost use Rattle.placed.specs.Said.{isSaid};
 ghost use Rattle.takeitem.specs.Told.{toldTail, Inside};
 ghost use Rattle.takeitem.specs.Named.{withName};
+ghost use Rattle.takeitem.specs.Made.{taken, madePaid, made, Small, withTexts};
+
+// Who pays whom how much.
+pub struct Paid {
+    pub payerprefix: u64,
+    pub payerbase: u64,
+    pub payeeprefix: u64,
+    pub payeebase: u64,
+    pub amount: u64,
+}
+
+// The fields before the tail.
+pub struct Front {
+    pub paid: Paid,
+    pub variable: u64,
+    pub bank: u64,
+    pub constant: u64,
+    pub priority: u64,
+    pub warnings: u64,
+}
 
 // The tail of an item's line: a specific symbol and no text, or a symbol and where its text begins.
 pub enum Tail {
@@ -184,8 +206,8 @@ fn take_text(y: Style, s: &[u8], from: usize) -> Spans
 // is the text.
 fn take_tail(s: &[u8], at: usize, y: Style, fixed: bool, bare: bool, x: Front) -> Tail
     requires { ⌜ at ≤ length (now s) ⌝ }
-    requires { ⌜ isSaid (withTail y fixed bare x at (drop at (now s))) ≡ true ⌝ }
-    ensures { λ r. ⌜ toldTail y (now (s .entry)) r (λ specific texts. says x specific texts) ≡ withTail y fixed bare x at (drop at (now (s .entry))) ⌝ }
+    requires { ⌜ isSaid (tailOf y fixed bare (made x) at (drop at (now s))) ≡ true ⌝ }
+    ensures { λ r. ⌜ toldTail y (now (s .entry)) r (made x) ≡ tailOf y fixed bare (made x) at (drop at (now (s .entry))) ⌝ }
     ensures { λ r. ⌜ Inside (now (s .entry)) r ⌝ }
 {
     if s.len() <= at {
@@ -213,7 +235,7 @@ fn take_tail(s: &[u8], at: usize, y: Style, fixed: bool, bare: bool, x: Front) -
 // The item with its specific symbol and its texts.
 fn whole(x: Front, specific: u64, texts: Spans) -> Fields
     requires { ⌜ (x .warnings ≤ 1) × (texts .warnings ≤ 5) ⌝ }
-    ensures { λ r. ⌜ answer.Item r ≡ withTexts x specific texts ⌝ }
+    ensures { λ r. ⌜ r ≡ withTexts x specific texts ⌝ }
 {
     Fields {
         payerprefix: x.paid.payerprefix,
@@ -235,9 +257,9 @@ fn whole(x: Front, specific: u64, texts: Spans) -> Fields
 fn from_tail(s: &[u8], at: usize, y: Style, fixed: bool, bare: bool, x: Front) -> Fields
     requires { ⌜ y .most ≤ 4 ⌝ }
     requires { ⌜ at ≤ length (now s) ⌝ }
-    requires { ⌜ (x .paid .amount ≤ most14) × (x .warnings ≤ 1) ⌝ }
-    requires { ⌜ isSaid (withTail y fixed bare x at (drop at (now s))) ≡ true ⌝ }
-    ensures { λ r. ⌜ told (now (s .entry)) (answer.Item r) ≡ withTail y fixed bare x at (drop at (now (s .entry))) ⌝ }
+    requires { ⌜ Small x ⌝ }
+    requires { ⌜ isSaid (tailOf y fixed bare (made x) at (drop at (now s))) ≡ true ⌝ }
+    ensures { λ r. ⌜ told (now (s .entry)) r ≡ tailOf y fixed bare (made x) at (drop at (now (s .entry))) ⌝ }
     ensures { λ r. ⌜ Sound (now (s .entry)) r ⌝ }
 {
     match take_tail(s, at, y, fixed, bare, x) {
@@ -246,27 +268,19 @@ fn from_tail(s: &[u8], at: usize, y: Style, fixed: bool, bare: bool, x: Front) -
     }
 }
 
-// Payee, amount, variable symbol and bank field from `at` on, then the tail.
-fn from_payee(s: &[u8], at: usize, sh: Sheet, payerprefix: u64, payerbase: u64) -> Fields
-    requires { ⌜ (sh .text .most ≤ 4) × (sh .itemdigits ≤ 19) × (sh .itemmax ≤ most14) ⌝ }
-    requires { ⌜ isSaid (fromPayee sh (paper.account payerprefix payerbase) at (drop at (now s))) ≡ true ⌝ }
-    ensures { λ r. ⌜ told (now (s .entry)) (answer.Item r) ≡ fromPayee sh (paper.account payerprefix payerbase) at (drop at (now (s .entry))) ⌝ }
+// The bank field at `at` and the tail, behind the variable symbol.
+fn from_bank(s: &[u8], at: usize, sh: Sheet, paid: Paid, variable: u64) -> Fields
+    requires { ⌜ sh .text .most ≤ 4 ⌝ }
+    requires { ⌜ at ≤ length (now s) ⌝ }
+    requires { ⌜ paid .amount ≤ most14 ⌝ }
+    requires { ⌜ isSaid (fromBank sh (madePaid paid variable) at (drop at (now s))) ≡ true ⌝ }
+    ensures { λ r. ⌜ told (now (s .entry)) r ≡ fromBank sh (madePaid paid variable) at (drop at (now (s .entry))) ⌝ }
     ensures { λ r. ⌜ Sound (now (s .entry)) r ⌝ }
 {
-    let payee = field_account::take_account(s, at, sh.joined, sh.basemin);
-    let amount = field_amount::take_amount(s, payee.end + 1, sh.comma, sh.itemdigits, sh.itemmax);
-    let variable = placed::take_symbol(s, amount.end + 1);
-    let bank = field_bank::take_bank(s, variable.end + 1, sh.priority);
-    let paid = Paid {
-        payerprefix,
-        payerbase,
-        payeeprefix: payee.prefix,
-        payeebase: payee.base,
-        amount: amount.value,
-    };
+    let bank = field_bank::take_bank(s, at, sh.priority);
     let x = Front {
         paid,
-        variable: variable.value,
+        variable,
         bank: bank.bank,
         constant: bank.constant,
         priority: bank.priority,
@@ -275,10 +289,61 @@ fn from_payee(s: &[u8], at: usize, sh: Sheet, payerprefix: u64, payerbase: u64) 
     from_tail(s, bank.end, sh.text, sh.fixedtail, sh.bare, x)
 }
 
+// The variable symbol at `at`, and what follows.
+fn from_variable(s: &[u8], at: usize, sh: Sheet, paid: Paid) -> Fields
+    requires { ⌜ sh .text .most ≤ 4 ⌝ }
+    requires { ⌜ paid .amount ≤ most14 ⌝ }
+    requires { ⌜ isSaid (fromVariable sh (madePaid paid) at (drop at (now s))) ≡ true ⌝ }
+    ensures { λ r. ⌜ told (now (s .entry)) r ≡ fromVariable sh (madePaid paid) at (drop at (now (s .entry))) ⌝ }
+    ensures { λ r. ⌜ Sound (now (s .entry)) r ⌝ }
+{
+    let variable = placed::take_symbol(s, at);
+    from_bank(s, variable.end + 1, sh, paid, variable.value)
+}
+
+// The amount at `at`, within the sheet's limits.
+fn item_amount(s: &[u8], at: usize, sh: Sheet) -> Run
+    requires { ⌜ sh .itemdigits ≤ 19 ⌝ }
+    requires { ⌜ There (readItemAmount (sh .comma) (sh .itemdigits) (sh .itemmax)) (now s) at ⌝ }
+    ensures { λ r. ⌜ toldNumber r ≡ fieldAt (readItemAmount (sh .comma) (sh .itemdigits) (sh .itemmax)) (now (s .entry)) at ⌝ }
+{
+    let limits = sh.limits();
+    field_amount::take_amount(s, at, sh.comma, limits.digits, limits.amount)
+}
+
+// The amount at `at`, and what follows.
+fn from_amount(s: &[u8], at: usize, sh: Sheet, payer: Account, payee: Account) -> Fields
+    requires { ⌜ (sh .text .most ≤ 4) × (sh .itemdigits ≤ 19) × (sh .itemmax ≤ most14) ⌝ }
+    requires { ⌜ isSaid (fromAmount sh (itemSaid (taken payer) (taken payee)) at (drop at (now s))) ≡ true ⌝ }
+    ensures { λ r. ⌜ told (now (s .entry)) r ≡ fromAmount sh (itemSaid (taken payer) (taken payee)) at (drop at (now (s .entry))) ⌝ }
+    ensures { λ r. ⌜ Sound (now (s .entry)) r ⌝ }
+{
+    let amount = item_amount(s, at, sh);
+    let paid = Paid {
+        payerprefix: payer.prefix,
+        payerbase: payer.base,
+        payeeprefix: payee.prefix,
+        payeebase: payee.base,
+        amount: amount.value,
+    };
+    from_variable(s, amount.end + 1, sh, paid)
+}
+
+// The payee at `at`, and what follows.
+fn from_payee(s: &[u8], at: usize, sh: Sheet, payer: Account) -> Fields
+    requires { ⌜ (sh .text .most ≤ 4) × (sh .itemdigits ≤ 19) × (sh .itemmax ≤ most14) ⌝ }
+    requires { ⌜ isSaid (fromPayee sh (itemSaid (taken payer)) at (drop at (now s))) ≡ true ⌝ }
+    ensures { λ r. ⌜ told (now (s .entry)) r ≡ fromPayee sh (itemSaid (taken payer)) at (drop at (now (s .entry))) ⌝ }
+    ensures { λ r. ⌜ Sound (now (s .entry)) r ⌝ }
+{
+    let payee = field_account::take_account(s, at, sh.joined, sh.basemin);
+    from_amount(s, payee.end + 1, sh, payer, payee)
+}
+
 // The payer, where the group is single, and where the payee begins.
 fn take_payer(s: &[u8], joined: bool, least: usize, single: bool) -> Account
     requires { ⌜ (single ≡ true → There (readAccount joined least) (now s) 0) ⌝ }
-    ensures { λ r. ⌜ ((k : paper.Account → ℕ → List ℕ → Said) → k (paper.account (r .prefix) (r .base)) (r .end) (drop (r .end) (now (s .entry))) ≡ payerFirst joined least single (now (s .entry)) k) ⌝ }
+    ensures { λ r. ⌜ ((k : paper.Account → ℕ → List ℕ → Said) → k (taken r) (r .end) (drop (r .end) (now (s .entry))) ≡ payerFirst joined least single (now (s .entry)) k) ⌝ }
 {
     if single {
         let payer = field_account::take_account(s, 0, joined, least);
@@ -299,9 +364,9 @@ fn take_payer(s: &[u8], joined: bool, least: usize, single: bool) -> Account
 pub fn take_item(s: &[u8], sh: Sheet, single: bool) -> Fields
     requires { ⌜ (sh .text .most ≤ 4) × (sh .itemdigits ≤ 19) × (sh .itemmax ≤ most14) ⌝ }
     requires { ⌜ isSaid (readItem sh single (now s)) ≡ true ⌝ }
-    ensures { λ r. ⌜ told (now (s .entry)) (answer.Item r) ≡ readItem sh single (now (s .entry)) ⌝ }
+    ensures { λ r. ⌜ told (now (s .entry)) r ≡ readItem sh single (now (s .entry)) ⌝ }
     ensures { λ r. ⌜ Sound (now (s .entry)) r ⌝ }
 {
     let payer = take_payer(s, sh.joined, sh.basemin, single);
-    from_payee(s, payer.end, sh, payer.prefix, payer.base)
+    from_payee(s, payer.end, sh, payer)
 }

@@ -1,6 +1,6 @@
 -- `from_amount`: the amount, and what follows it. Assumes nothing.
 use borrow.Author.Needs.{needs}
-use Rattle.judgeitem.specs.Stages.{fromAmount}
+use Rattle.itemline.specs.Walk.{spaced, fromAmount}
 use Rattle.judgeitem.proofs.Steps.{items}
 use Rattle.judgeitem.proofs.from_amount.Statement.{statement}
 use Rattle.judgeitem.proofs.from_amount.Tie as tie
@@ -18,7 +18,7 @@ enum-known-amount : tie.Need-enum-known-amount
 enum-known-amount c = search needs
 
 returns : tie.Need-returns
-unfolding fromAmount
+unfolding fromAmount spaced
 returns c = search items depth 12
 
 add-from-variable : tie.Need-add-from-variable
@@ -28,11 +28,11 @@ from-variable-requires : tie.Need-from-variable-requires
 from-variable-requires c κs = search needs
 
 returns-2 : tie.Need-returns-2
-unfolding fromAmount
+unfolding fromAmount spaced
 returns-2 c = search items depth 12
 
 returns-3 : tie.Need-returns-3
-unfolding fromAmount
+unfolding fromAmount spaced
 returns-3 c = search items depth 12
 
 pub from-amount-spec : {M : Type 1} → statement M

@@ -1,6 +1,5 @@
 -- `judge_item`: the line in pieces is document 01's, but for the values left out. Assumes nothing.
 use borrow.Author.Needs.{needs}
-use Rattle.judgeitem.specs.Stages.{byPieces}
 use Rattle.judgeitem.proofs.Steps.{items, bounds}
 use Rattle.judgeitem.proofs.judge_item.Statement.{statement}
 use Rattle.judgeitem.proofs.judge_item.Tie as tie
@@ -24,7 +23,6 @@ enum-known-end : tie.Need-enum-known-end
 enum-known-end c = search needs
 
 returns : tie.Need-returns
-unfolding byPieces
 returns c = search items depth 12
 
 add-from-amount : tie.Need-add-from-amount
@@ -34,15 +32,12 @@ from-amount-requires : tie.Need-from-amount-requires
 from-amount-requires c κs = search needs
 
 returns-2 : tie.Need-returns-2
-unfolding byPieces
 returns-2 c = search items depth 12
 
 returns-3 : tie.Need-returns-3
-unfolding byPieces
 returns-3 c = search items depth 12
 
 returns-4 : tie.Need-returns-4
-unfolding byPieces
 returns-4 c = search items depth 12
 
 pub judge-item-spec : {M : Type 1} → statement M

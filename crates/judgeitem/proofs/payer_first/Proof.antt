@@ -1,6 +1,7 @@
 -- `payer_first`: the payer where the group is single. Assumes nothing.
 use borrow.Author.Needs.{needs}
-use Rattle.judgeitem.specs.Stages.{payerFirst}
+use Rattle.itemline.specs.Walk.{payerFirst}
+use Rattle.judgeitem.specs.Brief.{anyPayer}
 use Rattle.judgeitem.proofs.Steps.{items, bounds}
 use Rattle.judgeitem.proofs.payer_first.Statement.{statement}
 use Rattle.judgeitem.proofs.payer_first.Tie as tie
@@ -27,7 +28,7 @@ returns-3 : tie.Need-returns-3
 returns-3 c = (λ k. search items depth 12, search (bounds, needs))
 
 returns-4 : tie.Need-returns-4
-unfolding payerFirst
+unfolding payerFirst anyPayer
 returns-4 c = (λ k. search items depth 12, search (bounds, needs))
 
 pub payer-first-spec : {M : Type 1} → statement M

@@ -1,6 +1,6 @@
 -- `with_tail`: the tail, with the warnings of its texts. Assumes nothing.
 use borrow.Author.Needs.{needs}
-use Rattle.judgeitem.specs.Stages.{withTail}
+use Rattle.judgeitem.specs.Brief.{keptTexts}
 use Rattle.judgeitem.proofs.Steps.{items, bounds}
 use Rattle.judgeitem.proofs.with_tail.Statement.{statement}
 use Rattle.judgeitem.proofs.with_tail.Tie as tie
@@ -30,19 +30,19 @@ with-texts-requires : tie.Need-with-texts-requires
 with-texts-requires c κs = search (bounds, needs)
 
 returns : tie.Need-returns
-unfolding withTail
+unfolding keptTexts
 returns c = search items depth 12
 
 returns-2 : tie.Need-returns-2
-unfolding withTail
+unfolding keptTexts
 returns-2 c = search items depth 12
 
 returns-3 : tie.Need-returns-3
-unfolding withTail
+unfolding keptTexts
 returns-3 c = search items depth 12
 
 returns-4 : tie.Need-returns-4
-unfolding withTail
+unfolding keptTexts
 returns-4 c = search items depth 12
 
 pub with-tail-spec : {M : Type 1} → statement M

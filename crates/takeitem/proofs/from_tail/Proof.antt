@@ -1,6 +1,6 @@
 -- `from_tail` meets its contract. Assumes nothing.
 use borrow.Author.Needs.{needs}
-use Rattle.takeitem.proofs.Tails.{ends, plain-sound, text-sound}
+use Rattle.takeitem.proofs.Wholes.{wholes}
 use Rattle.takeitem.proofs.from_tail.Statement.{statement}
 use Rattle.takeitem.proofs.from_tail.Tie as tie
 
@@ -14,26 +14,22 @@ no-spans-requires : tie.Need-no-spans-requires
 no-spans-requires c κs = search needs
 
 whole-requires : tie.Need-whole-requires
-whole-requires c κs = search (ends, needs)
+whole-requires c κs = search (wholes, needs)
 
 enum-known-specific-2 : tie.Need-enum-known-specific-2
 enum-known-specific-2 c = search needs
 
 take-text-requires : tie.Need-take-text-requires
-take-text-requires c κs = search (ends, needs)
+take-text-requires c κs = search (wholes, needs)
 
 whole-requires-2 : tie.Need-whole-requires-2
-whole-requires-2 c κs = search (ends, needs)
+whole-requires-2 c κs = search (wholes, needs)
 
 returns : tie.Need-returns
-returns c =
-    let p = c .before .before .before .before .before .before .before .pre .1 .1 .0 in
-    (search ends, plain-sound _ (p .0) (p .1) _ _ _ _ (c .whole .ensures) (search needs))
+returns c = (search wholes, search (wholes, needs))
 
 returns-2 : tie.Need-returns-2
-returns-2 c =
-    let p = c .before .before .before .before .before .before .before .pre .1 .1 .0 in
-    (search ends, text-sound _ (p .0) (p .1) _ _ _ _ (c .whole2 .ensures) (search ends) (search needs))
+returns-2 c = (search wholes, search (wholes, needs))
 
 pub from-tail-spec : {M : Type 1} → statement M
 from-tail-spec =

@@ -1,7 +1,6 @@
 -- `take_tail` meets its contract. Assumes nothing.
 use borrow.Author.Needs.{needs}
-use Rattle.takeitem.proofs.Tails.{tails, tail-text, tail-fixed}
-use native.Mathlib.Omega.{arith}
+use Rattle.takeitem.proofs.Tails.{tails}
 use Rattle.takeitem.proofs.take_tail.Statement.{statement}
 use Rattle.takeitem.proofs.take_tail.Tie as tie
 
@@ -24,9 +23,7 @@ add-t17 : tie.Need-add-t17
 add-t17 c = search needs
 
 returns-3 : tie.Need-returns-3
-returns-3 c =
-    let d = c .before .before .before .before .digit-run in
-    (tail-text _ _ _ _ _ _ (c .before .before .before .before .before .before .before .pre .1) (omega arith) _ _ (d .ensures .0) (d .ensures .1) (omega arith) (omega arith) (c .if4 .taken), search (tails, needs))
+returns-3 c = (search tails, search (tails, needs))
 
 returns-4 : tie.Need-returns-4
 returns-4 c = (search tails, search (tails, needs))
@@ -35,9 +32,7 @@ add-t18 : tie.Need-add-t18
 add-t18 c = search needs
 
 returns-5 : tie.Need-returns-5
-returns-5 c =
-    let d = c .before .before .digit-run in
-    (tail-fixed _ _ _ _ _ _ (c .before .before .before .before .before .pre .1) (omega arith) _ _ (d .ensures .0) (d .ensures .1) (omega arith) (c .if5 .taken), search (tails, needs))
+returns-5 c = (search tails, search (tails, needs))
 
 returns-6 : tie.Need-returns-6
 returns-6 c = (search tails, search (tails, needs))

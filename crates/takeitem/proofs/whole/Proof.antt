@@ -1,7 +1,7 @@
 -- `whole` meets its contract. Assumes nothing.
 use mathlib.Core.Path.{refl}
 use borrow.Author.Needs.{needs}
-use Rattle.itemline.specs.Stages.{withTexts}
+use Rattle.takeitem.specs.Made.{withTexts}
 use Rattle.takeitem.proofs.whole.Statement.{statement}
 use Rattle.takeitem.proofs.whole.Tie as tie
 
