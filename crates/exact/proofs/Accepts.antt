@@ -9,7 +9,7 @@ use Rattle.paper.specs.Batch.{Batch, Header}
 use Rattle.paper.specs.Lines.{Line}
 use Rattle.paper.specs.Spells.{itemDues, groupDues, fileDues, dues, fileItems}
 use Rattle.paper.specs.Judge.{Accepted, revOn, State, atFirst, atFile, atGroup, atItem, stop, step, endOf, run}
-use Rattle.paper.proofs.Lists.{length-rev, null-some, some-null}
+use Rattle.paper.proofs.Lists.{null-some, some-null}
 use Rattle.exact.proofs.Moves.{Next, on, halted, stays, next}
 use Rattle.exact.proofs.Completes.{refused, Completes, back, forth}
 
@@ -19,27 +19,27 @@ module _ (sh : Sheet) (today : ℕ) (h : Header) (b : Batch) (w : ℕ) where
   end-only : (size k : ℕ) (st : State) → endOf size k st ≡ Accepted h b w → Completes sh today h b w [] st
   unfolding endOf fileDues fileItems
   end-only size k atFirst e = refused e
-  end-only size k (atFile h′ fs c) e =
-      either (λ a. a ≡ Accepted h b w → Completes sh today h b w [] (atFile h′ fs c)) _ (λ _ e. refused e)
+  end-only size k (atFile x) e =
+      either (λ a. a ≡ Accepted h b w → Completes sh today h b w [] (atFile x)) _ (λ _ e. refused e)
       (λ s e.
-      let i : w ≡ c = cc in
-      let n = null-some (revOn fs []) s in
-      ([], 0, (cc), (cc), omega arith, refl, omega (arith, length-rev fs []), omega arith, omega arith, tt)) e
-  end-only size k (atGroup h′ fs f gs c) e = refused e
-  end-only size k (atItem h′ fs f gs g xs c) e = refused e
+      let i : w ≡ x .warnings = cc in
+      let n = null-some (x .files) s in
+      ([], 0, (cc), (cc), omega arith, refl, omega arith, omega arith, omega arith, tt)) e
+  end-only size k (atGroup x) e = refused e
+  end-only size k (atItem x) e = refused e
   end-only size k (stop a) e = e
 
   end-also : (size k : ℕ) (st : State) → Completes sh today h b w [] st → endOf size k st ≡ Accepted h b w
   unfolding endOf dues fileDues groupDues itemDues
   end-also size k atFirst c = absurd (c .0)
-  end-also size k (atFile h′ fs c) ([], m, eh, e, i, o, some, _, _, _) =
-      let q : c ≡ w = omega arith in
-      pick-false _ _ (some-null (revOn fs []) (omega (arith, length-rev fs []))) ∙ rw (eh, e, q)
-  end-also size k (atFile h′ fs c) (f ∷ mf, _, _, _, _, o, _, _, _, _) = absurd o
-  end-also size k (atGroup h′ fs f gs c) ([], _, _, _, _, _, o, _, _, _, _, _, _) = absurd o
-  end-also size k (atGroup h′ fs f gs c) (g ∷ mg, _, _, _, _, _, o, _, _, _, _, _, _) = absurd o
-  end-also size k (atItem h′ fs f gs g xs c) ([], _, _, _, _, _, _, o, _, _, _, _, _, _, _, _) = absurd o
-  end-also size k (atItem h′ fs f gs g xs c) (x ∷ mx, _, _, _, _, _, _, o, _, _, _, _, _, _, _, _) = absurd o
+  end-also size k (atFile x) ([], m, eh, e, i, o, some, _, _, _) =
+      let q : x .warnings ≡ w = omega arith in
+      pick-false _ _ (some-null (x .files) (omega arith)) ∙ rw (eh, e, q)
+  end-also size k (atFile x) (f ∷ mf, _, _, _, _, o, _, _, _, _) = absurd o
+  end-also size k (atGroup x) ([], _, _, _, _, _, o, _, _, _, _, _, _) = absurd o
+  end-also size k (atGroup x) (g ∷ mg, _, _, _, _, _, o, _, _, _, _, _, _) = absurd o
+  end-also size k (atItem x) ([], _, _, _, _, _, _, o, _, _, _, _, _, _, _, _) = absurd o
+  end-also size k (atItem x) (i ∷ mx, _, _, _, _, _, _, o, _, _, _, _, _, _, _, _) = absurd o
   end-also size k (stop a) c = c
 
   -- ---- one line, and all lines

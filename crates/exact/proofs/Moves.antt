@@ -10,11 +10,11 @@ use Rattle.base.proofs.Cases.{either, pick-true, pick-false}
 use Rattle.sheet.specs.declared.Sheet.{Sheet}
 use Rattle.paper.specs.Bytes.{null}
 use Rattle.paper.specs.Accounts.{Account}
-use Rattle.paper.specs.Batch.{Item, Group, AccountFile, Header, sum}
+use Rattle.paper.specs.Batch.{Item, Header, sum}
 use Rattle.paper.specs.Lines.{Line}
 use Rattle.paper.specs.Entries.{head, file, group, item, closeGroup, closeFile, Said, got, no, Kind, headLine, fileLine, groupLine, itemLine, groupEnd, fileEnd, kindOf}
-use Rattle.paper.specs.Spells.{readLine, differs}
-use Rattle.paper.specs.Judge.{Answer, Refused, revOn, FileHead, GroupHead, State, atFirst, atFile, atGroup, atItem, stop, contextOf, isDue, isFull, totalBroken, groupOf, fileOf, closed, firstOr0, onHead, onFile, onGroup, onItem, meet, onSaid, read, step}
+use Rattle.paper.specs.Spells.{readLine}
+use Rattle.paper.specs.Judge.{Answer, Refused, Between, InFile, InGroup, State, atFirst, atFile, atGroup, atItem, stop, contextOf, isDue, isFull, totalBroken, begun, fileOpened, groupOpened, itemAdded, itemsOf, groupClosed, fileClosed, closed, firstOr0, onHead, onFile, onGroup, onItem, meet, onSaid, read, step}
 use Rattle.paper.specs.FirstFault.{Follows, Broken, not-due, full, in-line, total}
 use Rattle.exact.proofs.Counts.{wrong}
 use Rattle.exact.proofs.Told.{Told, of-head, of-file, of-group, of-item, of-group-end, of-file-end, of-none, told, told-line, kind-head, kind-file, kind-group, kind-item, kind-group-end, kind-file-end}
@@ -22,27 +22,28 @@ use Rattle.exact.proofs.Told.{Told, of-head, of-file, of-group, of-item
 module _ (sh : Sheet) (today : ℕ) where
   -- line k, t, is the next of a lawful file
   pub data Moves (k : ℕ) (t : Line) : State → State → Type 0 where
-    heads : {h : Header} {v : ℕ} → Follows sh today t atFirst (head h) v → Moves k t atFirst (atFile h [] v)
-    opens : {h : Header} {fs : List AccountFile} {w kind number v : ℕ}
-        → length fs < 1000
-        → Follows sh today t (atFile h fs w) (file kind number) v
-        → Moves k t (atFile h fs w) (atGroup h fs (record { kind = kind; number = number }) [] (w + v))
-    begins : {h : Header} {fs : List AccountFile} {f : FileHead} {gs : List Group} {w total date v at : ℕ} {payer : Account}
-        → readLine sh today (contextOf (atGroup h fs f gs w)) (t .bytes) ≡ got (group payer total date) v (at ∷ [])
-        → Moves k t (atGroup h fs f gs w) (atItem h fs f gs (record { payer = payer; date = date; total = total; line = k; byte = t .start + at }) [] (w + v))
-    more : {h : Header} {fs : List AccountFile} {f : FileHead} {gs : List Group} {g : GroupHead} {xs : List Item} {w v : ℕ} {x : Item}
-        → isFull sh (atItem h fs f gs g xs w) itemLine ≡ false
-        → Follows sh today t (atItem h fs f gs g xs w) (item x) v
-        → Moves k t (atItem h fs f gs g xs w) (atItem h fs f gs g (x ∷ xs) (w + v))
-    closes : {h : Header} {fs : List AccountFile} {f : FileHead} {gs : List Group} {g : GroupHead} {xs : List Item} {w v : ℕ}
-        → null xs ≡ false
-        → Follows sh today t (atItem h fs f gs g xs w) closeGroup v
-        → totalBroken (sh .strict) (g .total) (sum (revOn xs [])) ≡ false
-        → Moves k t (atItem h fs f gs g xs w) (atGroup h fs f (groupOf g (revOn xs []) ∷ gs) (w + v + differs (g .total) (sum (revOn xs []))))
-    finishes : {h : Header} {fs : List AccountFile} {f : FileHead} {gs : List Group} {w v : ℕ}
-        → null gs ≡ false
-        → Follows sh today t (atGroup h fs f gs w) closeFile v
-        → Moves k t (atGroup h fs f gs w) (atFile h (fileOf f (revOn gs []) ∷ fs) (w + v))
+    heads : {h : Header} {v : ℕ} → Follows sh today t atFirst (head h) v → Moves k t atFirst (atFile (begun h v))
+    opens : {x : Between} {kind number v : ℕ}
+        → length (x .files) < 1000
+        → Follows sh today t (atFile x) (file kind number) v
+        → Moves k t (atFile x) (atGroup (fileOpened x kind number v))
+    begins : {x : InFile} {payer : Account} {total date v at : ℕ}
+        → readLine sh today (contextOf (atGroup x)) (t .bytes) ≡ got (group payer total date) v (at ∷ [])
+        → Moves k t (atGroup x)
+          (atItem (groupOpened x (record { payer = payer; date = date; total = total; line = k; byte = t .start + at }) v))
+    more : {x : InGroup} {v : ℕ} {i : Item}
+        → isFull sh (atItem x) itemLine ≡ false
+        → Follows sh today t (atItem x) (item i) v
+        → Moves k t (atItem x) (atItem (itemAdded x i v))
+    closes : {x : InGroup} {v : ℕ}
+        → null (x .items) ≡ false
+        → Follows sh today t (atItem x) closeGroup v
+        → totalBroken (sh .strict) (x .head .total) (sum (itemsOf x)) ≡ false
+        → Moves k t (atItem x) (atGroup (groupClosed x v))
+    finishes : {x : InFile} {v : ℕ}
+        → null (x .groups) ≡ false
+        → Follows sh today t (atGroup x) closeFile v
+        → Moves k t (atGroup x) (atFile (fileClosed x v))
 
   -- the line moves the state on, or breaks a rule in it; what has stopped stays
   pub data Next (size k : ℕ) (t : Line) (ts : List Line) : State → State → Type 0 where
@@ -60,11 +61,9 @@ module _ (sh : Sheet) (today : ℕ) where
     pick-null (x ∷ a) e = refl
 
     -- a group's closing line
-    shut : (h : Header) (fs : List AccountFile) (f : FileHead) (gs : List Group) (g : GroupHead) (xs : List Item) (w v : ℕ)
-        → null xs ≡ false → Follows sh today t (atItem h fs f gs g xs w) closeGroup v
-        → To (atItem h fs f gs g xs w) (closed sh h fs f gs g (revOn xs []) (w + v))
+    shut : (x : InGroup) (v : ℕ) → null (x .items) ≡ false → Follows sh today t (atItem x) closeGroup v → To (atItem x) (closed sh x v)
     unfolding closed
-    shut h fs f gs g xs w v some q = either (To (atItem h fs f gs g xs w)) _ (λ e. halted (total some q e)) (λ e. on (closes some q e))
+    shut x v some q = either (To (atItem x)) _ (λ e. halted (total some q e)) (λ e. on (closes some q e))
 
     faulty : (kind : Kind) (st : State) {n off : ℕ} → kindOf (t .bytes) ≡ kind → isDue st kind ≡ true → isFull sh st kind ≡ false
         → readLine sh today (contextOf st) (t .bytes) ≡ no n off → To st (stop (Refused n k (t .start + off)))
@@ -80,27 +79,27 @@ module _ (sh : Sheet) (today : ℕ) where
     says kind r atFirst of-item j q d f = wrong d refl
     says kind r atFirst of-group-end j q d f = wrong d refl
     says kind r atFirst of-file-end j q d f = wrong d refl
-    says kind r (atFile h fs w) of-none j q d f = faulty kind _ j d f q
-    says kind r (atFile h fs w) of-head j q d f = wrong d refl
-    says kind r (atFile h fs w) of-file j q d f = on (opens (leb-false 1000 (length fs) f) (_, q))
-    says kind r (atFile h fs w) of-group j q d f = wrong d refl
-    says kind r (atFile h fs w) of-item j q d f = wrong d refl
-    says kind r (atFile h fs w) of-group-end j q d f = wrong d refl
-    says kind r (atFile h fs w) of-file-end j q d f = wrong d refl
-    says kind r (atGroup h fs a gs w) of-none j q d f = faulty kind _ j d f q
-    says kind r (atGroup h fs a gs w) of-head j q d f = wrong d refl
-    says kind r (atGroup h fs a gs w) of-file j q d f = wrong d refl
-    says kind r (atGroup h fs a gs w) of-group j q d f = on (begins q)
-    says kind r (atGroup h fs a gs w) of-item j q d f = wrong d refl
-    says kind r (atGroup h fs a gs w) of-group-end j q d f = wrong d refl
-    says kind r (atGroup h fs a gs w) of-file-end j q d f = on (finishes (pick-null gs d) (_, q))
-    says kind r (atItem h fs a gs g xs w) of-none j q d f = faulty kind _ j d f q
-    says kind r (atItem h fs a gs g xs w) of-head j q d f = wrong d refl
-    says kind r (atItem h fs a gs g xs w) of-file j q d f = wrong d refl
-    says kind r (atItem h fs a gs g xs w) of-group j q d f = wrong d refl
-    says kind r (atItem h fs a gs g xs w) of-item j q d f = on (more f (_, q))
-    says kind r (atItem h fs a gs g xs w) of-group-end j q d f = shut h fs a gs g xs w _ (pick-null xs d) (_, q)
-    says kind r (atItem h fs a gs g xs w) of-file-end j q d f = wrong d refl
+    says kind r (atFile x) of-none j q d f = faulty kind _ j d f q
+    says kind r (atFile x) of-head j q d f = wrong d refl
+    says kind r (atFile x) of-file j q d f = on (opens (leb-false 1000 (length (x .files)) f) (_, q))
+    says kind r (atFile x) of-group j q d f = wrong d refl
+    says kind r (atFile x) of-item j q d f = wrong d refl
+    says kind r (atFile x) of-group-end j q d f = wrong d refl
+    says kind r (atFile x) of-file-end j q d f = wrong d refl
+    says kind r (atGroup x) of-none j q d f = faulty kind _ j d f q
+    says kind r (atGroup x) of-head j q d f = wrong d refl
+    says kind r (atGroup x) of-file j q d f = wrong d refl
+    says kind r (atGroup x) of-group j q d f = on (begins q)
+    says kind r (atGroup x) of-item j q d f = wrong d refl
+    says kind r (atGroup x) of-group-end j q d f = wrong d refl
+    says kind r (atGroup x) of-file-end j q d f = on (finishes (pick-null (x .groups) d) (_, q))
+    says kind r (atItem x) of-none j q d f = faulty kind _ j d f q
+    says kind r (atItem x) of-head j q d f = wrong d refl
+    says kind r (atItem x) of-file j q d f = wrong d refl
+    says kind r (atItem x) of-group j q d f = wrong d refl
+    says kind r (atItem x) of-item j q d f = on (more f (_, q))
+    says kind r (atItem x) of-group-end j q d f = shut x _ (pick-null (x .items) d) (_, q)
+    says kind r (atItem x) of-file-end j q d f = wrong d refl
     says kind r (stop a) _ j q d f = wrong d refl
 
     reads : (st : State) → To st (read sh today k t (kindOf (t .bytes)) st)
@@ -114,9 +113,9 @@ module _ (sh : Sheet) (today : ℕ) where
     pub next : (st : State) → To st (step sh today k t st)
     unfolding step
     next atFirst = reads atFirst
-    next (atFile h fs w) = reads (atFile h fs w)
-    next (atGroup h fs f gs w) = reads (atGroup h fs f gs w)
-    next (atItem h fs f gs g xs w) = reads (atItem h fs f gs g xs w)
+    next (atFile x) = reads (atFile x)
+    next (atGroup x) = reads (atGroup x)
+    next (atItem x) = reads (atItem x)
     next (stop a) = stays
 
   -- ---- and a move is what the machine makes
@@ -132,16 +131,16 @@ module _ (sh : Sheet) (today : ℕ) where
     unfolding step onSaid meet isDue isFull onHead onFile onGroup onItem firstOr0 closed pick
     moves-step (heads {h = h} {v = v} (spots, q)) =
         passes atFirst headLine _ (kind-head (told-line sh today _ (t .bytes) _ q)) refl refl q
-    moves-step (opens {h = h} {fs = fs} {w = w} few (spots, q)) =
-        passes (atFile h fs w) fileLine _ (kind-file (told-line sh today _ (t .bytes) _ q)) refl (lt-leb 1000 (length fs) few) q
-    moves-step (begins {h = h} {fs = fs} {f = f} {gs = gs} {w = w} q) =
-        passes (atGroup h fs f gs w) groupLine _ (kind-group (told-line sh today _ (t .bytes) _ q)) refl refl q
-    moves-step (more {h = h} {fs = fs} {f = f} {gs = gs} {g = g} {xs = xs} {w = w} room (spots, q)) =
-        passes (atItem h fs f gs g xs w) itemLine _ (kind-item (told-line sh today _ (t .bytes) _ q)) refl room q
-    moves-step (closes {h = h} {fs = fs} {f = f} {gs = gs} {g = g} {xs = xs} {w = w} some (spots, q) good) =
-        passes (atItem h fs f gs g xs w) groupEnd _ (kind-group-end (told-line sh today _ (t .bytes) _ q)) (rw some) refl q ∙ pick-false _ _ good
-    moves-step (finishes {h = h} {fs = fs} {f = f} {gs = gs} {w = w} some (spots, q)) =
-        passes (atGroup h fs f gs w) fileEnd _ (kind-file-end (told-line sh today _ (t .bytes) _ q)) (rw some) refl q
+    moves-step (opens {x = x} few (spots, q)) =
+        passes (atFile x) fileLine _ (kind-file (told-line sh today _ (t .bytes) _ q)) refl (lt-leb 1000 (length (x .files)) few) q
+    moves-step (begins {x = x} q) =
+        passes (atGroup x) groupLine _ (kind-group (told-line sh today _ (t .bytes) _ q)) refl refl q
+    moves-step (more {x = x} room (spots, q)) =
+        passes (atItem x) itemLine _ (kind-item (told-line sh today _ (t .bytes) _ q)) refl room q
+    moves-step (closes {x = x} some (spots, q) good) =
+        passes (atItem x) groupEnd _ (kind-group-end (told-line sh today _ (t .bytes) _ q)) (rw some) refl q ∙ pick-false _ _ good
+    moves-step (finishes {x = x} some (spots, q)) =
+        passes (atGroup x) fileEnd _ (kind-file-end (told-line sh today _ (t .bytes) _ q)) (rw some) refl q
 
     pub stays-step : (a : Answer) → step sh today k t (stop a) ≡ stop a
     unfolding step

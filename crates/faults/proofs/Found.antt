@@ -2,16 +2,13 @@
 use mathlib.Core.Path.{_≡_, refl, sym, _∙_}
 use mathlib.Core.List.{List, [], _∷_}
 use Prim.Native.Nat.{ℕ, suc}
-use native.Mathlib.Omega.{arith}
 use lib.ListN.{length}
-use Rattle.base.proofs.Cases.{pick-false}
-use Rattle.base.specs.Pick.{pick}
+use Rattle.base.proofs.Cases.{by-test, pick-true, pick-false}
 use Rattle.sheet.specs.declared.Sheet.{Sheet}
 use Rattle.paper.specs.Bytes.{null}
 use Rattle.paper.specs.Lines.{Line}
 use Rattle.paper.specs.Judge.{Answer, Refused, revOn, State, atFirst, atFile, atGroup, atItem, stop, step, endOf, run}
 use Rattle.paper.specs.FirstFault.{Lawful, Broken, ends-first, ends-none, ends-file, ends-group}
-use Rattle.paper.proofs.Lists.{length-rev, some-null}
 use Rattle.exact.proofs.Moves.{Next, on, halted, stays, next}
 use Rattle.exact.proofs.Completes.{refused}
 use Rattle.faults.proofs.Reached.{lawful-on, going}
@@ -26,12 +23,14 @@ module _ (sh : Sheet) (today size : ℕ) where
   -- an early end
   early : (k n l p : ℕ) {rb : List Line} (st : State) → Lawful sh today rb st → endOf size k st ≡ Refused n l p
       → Broken sh today size k st [] (Refused n l p)
-  unfolding endOf pick null
+  unfolding endOf
   early k n l p atFirst r e = rw (← e) ends-first
-  early k n l p (atFile h [] w) r e = rw (← e) ends-none
-  early k n l p (atFile h (f ∷ fs) w) r e = refused (sym e ∙ pick-false _ _ (some-null (revOn fs (f ∷ [])) (omega (arith, length-rev fs (f ∷ [])))))
-  early k n l p (atGroup h fs f gs w) r e = rw (← e) ends-file
-  early k n l p (atItem h fs f gs g xs w) r e = rw (← e) ends-group
+  early k n l p (atFile x) r e =
+      by-test (null (x .files))
+      (λ none. rw (← (sym (pick-true _ _ none) ∙ e)) (ends-none none))
+      (λ some. refused (sym e ∙ pick-false _ _ some))
+  early k n l p (atGroup x) r e = rw (← e) ends-file
+  early k n l p (atItem x) r e = rw (← e) ends-group
   early k n l p (stop a) r e = going sh today r
 
   -- the first fault of the lines `all`

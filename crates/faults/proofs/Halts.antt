@@ -23,9 +23,9 @@ module _ (sh : Sheet) (today : ℕ) where
     reads : {rb : List Line} (st : State) → Lawful sh today rb st → step sh today k t st ≡ read sh today k t (kindOf (t .bytes)) st
     unfolding step
     reads atFirst r = refl
-    reads (atFile h fs w) r = refl
-    reads (atGroup h fs f gs w) r = refl
-    reads (atItem h fs f gs g xs w) r = refl
+    reads (atFile x) r = refl
+    reads (atGroup x) r = refl
+    reads (atItem x) r = refl
     reads (stop a) r = going sh today r
 
     other : (st : State) → isDue st (kindOf (t .bytes)) ≡ false → read sh today k t (kindOf (t .bytes)) st ≡ stop (Refused 3 k (t .start))
@@ -50,12 +50,12 @@ module _ (sh : Sheet) (today : ℕ) where
     pub halts : {rb ts : List Line} {st : State} {a : Answer} → Lawful sh today rb st → Broken sh today size k st ts a → run sh today size k ts st ≡ a
     unfolding run endOf step onSaid meet isDue isFull onItem closed pick null
     halts r ends-first = refl
-    halts r ends-none = refl
+    halts r (ends-none {x = x} none) = pick-true _ _ none
     halts r ends-file = refl
     halts r ends-group = refl
     halts r (not-due {st = st} {t = t} {ts = ts} d) = stopped t ts st (reads k t st r ∙ other k t st d)
     halts r (full {st = st} {t = t} {ts = ts} d f) = stopped t ts st (reads k t st r ∙ over k t st d f)
     halts r (in-line {st = st} {t = t} {ts = ts} {n = n} {off = off} d f q) = stopped t ts st (reads k t st r ∙ faulty k t st n off d f q)
-    halts r (total {h = h} {fs = fs} {f = f} {gs = gs} {g = g} {xs = xs} {w = w} {t = t} {ts = ts} some (spots, q) e) =
-        stopped t ts (atItem h fs f gs g xs w)
-        (passes sh today k t (atItem h fs f gs g xs w) groupEnd _ (kind-group-end (told-line sh today _ (t .bytes) _ q)) (rw some) refl q ∙ pick-true _ _ e)
+    halts r (total {x = x} {t = t} {ts = ts} some (spots, q) e) =
+        stopped t ts (atItem x)
+        (passes sh today k t (atItem x) groupEnd _ (kind-group-end (told-line sh today _ (t .bytes) _ q)) (rw some) refl q ∙ pick-true _ _ e)

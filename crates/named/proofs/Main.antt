@@ -37,7 +37,7 @@ module _ (sh : Sheet) (today size : ℕ) where
   broken-placed : {m : ℕ} {st : State} {ts : List Line} {a : Answer} → Kept size m st → Within size ts → Broken sh today size (suc m) st ts a
       → Placed size (m + length ts) a
   broken-placed k w ends-first = ((omega arith, omega arith), omega arith, omega arith, omega arith)
-  broken-placed k w ends-none = ((omega arith, omega arith), omega arith, omega arith, omega arith)
+  broken-placed k w (ends-none _) = ((omega arith, omega arith), omega arith, omega arith, omega arith)
   broken-placed k w ends-file = ((omega arith, omega arith), omega arith, omega arith, omega arith)
   broken-placed k w ends-group = ((omega arith, omega arith), omega arith, omega arith, omega arith)
   broken-placed k (h, w) (not-due d) = ((omega arith, omega arith), omega arith, omega arith, omega (arith, h))

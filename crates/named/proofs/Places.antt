@@ -61,9 +61,9 @@ lines-within f = laid-within (length f) 0 (linesOf 0 f) (lines-laid (length f) 0
 -- an open group's total stands in a line that was read, n being their number
 abbrev pub Kept : ℕ → ℕ → State → Type 0
 Kept size n atFirst = Unit {0}
-Kept size n (atFile h fs w) = Unit {0}
-Kept size n (atGroup h fs f gs w) = Unit {0}
-Kept size n (atItem h fs f gs g xs w) = (1 ≤ g .line) × (g .line ≤ n) × (g .byte ≤ size)
+Kept size n (atFile x) = Unit {0}
+Kept size n (atGroup x) = Unit {0}
+Kept size n (atItem x) = (1 ≤ x .head .line) × (x .head .line ≤ n) × (x .head .byte ≤ size)
 Kept size n (stop a) = Unit {0}
 
 module _ (sh : Sheet) (today size : ℕ) where
@@ -72,8 +72,8 @@ module _ (sh : Sheet) (today size : ℕ) where
   lawful-kept nothing w = tt
   lawful-kept (header l q) w = tt
   lawful-kept (opens l few q) w = tt
-  lawful-kept (begins {ts = ts} {t = t} {h = h} {fs = fs} {f = f} {gs = gs} {w = v} l q) (here, w) =
-      (omega arith, omega arith, omega (arith, here, named-got (rw q at (any-named sh today (contextOf (atGroup h fs f gs v)) (t .bytes)))))
+  lawful-kept (begins {t = t} {x = x} l q) (here, w) =
+      (omega arith, omega arith, omega (arith, here, named-got (rw q at (any-named sh today (contextOf (atGroup x)) (t .bytes)))))
   lawful-kept (more l free q) (here, w) = let k = lawful-kept l w in (k .0, omega (arith, k .1), k .2)
   lawful-kept (closes l some q good) w = tt
   lawful-kept (finishes l some q) w = tt

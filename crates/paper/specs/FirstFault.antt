@@ -8,11 +8,11 @@ use lib.ListN.{length}
 use Rattle.sheet.specs.declared.Sheet.{Sheet}
 use Rattle.paper.specs.Bytes.{null}
 use Rattle.paper.specs.Accounts.{Account}
-use Rattle.paper.specs.Batch.{Item, Group, AccountFile, Header, sum}
+use Rattle.paper.specs.Batch.{Item, Header, sum}
 use Rattle.paper.specs.Lines.{Line, linesOf}
 use Rattle.paper.specs.Entries.{Entry, head, file, group, item, closeGroup, closeFile, got, no, kindOf}
-use Rattle.paper.specs.Spells.{Reads, readLine, differs}
-use Rattle.paper.specs.Judge.{Answer, Refused, revOn, FileHead, GroupHead, State, atFirst, atFile, atGroup, atItem, contextOf, isDue, isFull, totalBroken, groupOf, fileOf}
+use Rattle.paper.specs.Spells.{Reads, readLine}
+use Rattle.paper.specs.Judge.{Answer, Refused, revOn, Between, InFile, InGroup, State, atFirst, atFile, atGroup, atItem, contextOf, isDue, isFull, totalBroken, begun, fileOpened, groupOpened, itemAdded, itemsOf, groupClosed, fileClosed}
 
 module _ (sh : Sheet) (today : ℕ) where
   -- the line t, read where st is reached, says the entry, with v warnings
@@ -22,41 +22,44 @@ module _ (sh : Sheet) (today : ℕ) where
   -- ---- lines that break no rule, last one first, and what they leave unfinished
   pub data Lawful : List Line → State → Type 0 where
     nothing : Lawful [] atFirst
-    header : {ts : List Line} {t : Line} {h : Header} {v : ℕ} → Lawful ts atFirst → Follows t atFirst (head h) v → Lawful (t ∷ ts) (atFile h [] v)
-    opens : {ts : List Line} {t : Line} {h : Header} {fs : List AccountFile} {w kind number v : ℕ}
-        → Lawful ts (atFile h fs w)
-        → length fs < 1000
-        → Follows t (atFile h fs w) (file kind number) v
-        → Lawful (t ∷ ts) (atGroup h fs (record { kind = kind; number = number }) [] (w + v))
-    begins : {ts : List Line} {t : Line} {h : Header} {fs : List AccountFile} {f : FileHead} {gs : List Group} {w total date v at : ℕ} {payer : Account}
-        → Lawful ts (atGroup h fs f gs w)
-        → readLine sh today (contextOf (atGroup h fs f gs w)) (t .bytes) ≡ got (group payer total date) v (at ∷ [])
-        → Lawful (t ∷ ts) (atItem h fs f gs (record { payer = payer; date = date; total = total; line = suc (length ts); byte = t .start + at }) [] (w + v))
-    more : {ts : List Line} {t : Line} {h : Header} {fs : List AccountFile} {f : FileHead} {gs : List Group} {g : GroupHead} {xs : List Item} {w v : ℕ} {x : Item}
-        → Lawful ts (atItem h fs f gs g xs w)
-        → isFull sh (atItem h fs f gs g xs w) (kindOf (t .bytes)) ≡ false
-        → Follows t (atItem h fs f gs g xs w) (item x) v
-        → Lawful (t ∷ ts) (atItem h fs f gs g (x ∷ xs) (w + v))
-    closes : {ts : List Line} {t : Line} {h : Header} {fs : List AccountFile} {f : FileHead} {gs : List Group} {g : GroupHead} {xs : List Item} {w v : ℕ}
-        → Lawful ts (atItem h fs f gs g xs w)
-        → null xs ≡ false
-        → Follows t (atItem h fs f gs g xs w) closeGroup v
-        → totalBroken (sh .strict) (g .total) (sum (revOn xs [])) ≡ false
-        → Lawful (t ∷ ts) (atGroup h fs f (groupOf g (revOn xs []) ∷ gs) (w + v + differs (g .total) (sum (revOn xs []))))
-    finishes : {ts : List Line} {t : Line} {h : Header} {fs : List AccountFile} {f : FileHead} {gs : List Group} {w v : ℕ}
-        → Lawful ts (atGroup h fs f gs w)
-        → null gs ≡ false
-        → Follows t (atGroup h fs f gs w) closeFile v
-        → Lawful (t ∷ ts) (atFile h (fileOf f (revOn gs []) ∷ fs) (w + v))
+    header : {ts : List Line} {t : Line} {h : Header} {v : ℕ}
+        → Lawful ts atFirst
+        → Follows t atFirst (head h) v
+        → Lawful (t ∷ ts) (atFile (begun h v))
+    opens : {ts : List Line} {t : Line} {x : Between} {kind number v : ℕ}
+        → Lawful ts (atFile x)
+        → length (x .files) < 1000
+        → Follows t (atFile x) (file kind number) v
+        → Lawful (t ∷ ts) (atGroup (fileOpened x kind number v))
+    begins : {ts : List Line} {t : Line} {x : InFile} {payer : Account} {total date v at : ℕ}
+        → Lawful ts (atGroup x)
+        → readLine sh today (contextOf (atGroup x)) (t .bytes) ≡ got (group payer total date) v (at ∷ [])
+        → Lawful (t ∷ ts)
+          (atItem (groupOpened x (record { payer = payer; date = date; total = total; line = suc (length ts); byte = t .start + at }) v))
+    more : {ts : List Line} {t : Line} {x : InGroup} {v : ℕ} {i : Item}
+        → Lawful ts (atItem x)
+        → isFull sh (atItem x) (kindOf (t .bytes)) ≡ false
+        → Follows t (atItem x) (item i) v
+        → Lawful (t ∷ ts) (atItem (itemAdded x i v))
+    closes : {ts : List Line} {t : Line} {x : InGroup} {v : ℕ}
+        → Lawful ts (atItem x)
+        → null (x .items) ≡ false
+        → Follows t (atItem x) closeGroup v
+        → totalBroken (sh .strict) (x .head .total) (sum (itemsOf x)) ≡ false
+        → Lawful (t ∷ ts) (atGroup (groupClosed x v))
+    finishes : {ts : List Line} {t : Line} {x : InFile} {v : ℕ}
+        → Lawful ts (atGroup x)
+        → null (x .groups) ≡ false
+        → Follows t (atGroup x) closeFile v
+        → Lawful (t ∷ ts) (atFile (fileClosed x v))
 
   -- ---- the rules that a line may break; size is the file's length, k the number of the first of the lines
   pub data Broken (size k : ℕ) : State → List Line → Answer → Type 0 where
     -- 3: the file ends early, that is, not behind a closed account file
     ends-first : Broken size k atFirst [] (Refused 3 k size)
-    ends-none : {h : Header} {w : ℕ} → Broken size k (atFile h [] w) [] (Refused 3 k size)
-    ends-file : {h : Header} {fs : List AccountFile} {f : FileHead} {gs : List Group} {w : ℕ} → Broken size k (atGroup h fs f gs w) [] (Refused 3 k size)
-    ends-group : {h : Header} {fs : List AccountFile} {f : FileHead} {gs : List Group} {g : GroupHead} {xs : List Item} {w : ℕ}
-        → Broken size k (atItem h fs f gs g xs w) [] (Refused 3 k size)
+    ends-none : {x : Between} → null (x .files) ≡ true → Broken size k (atFile x) [] (Refused 3 k size)
+    ends-file : {x : InFile} → Broken size k (atGroup x) [] (Refused 3 k size)
+    ends-group : {x : InGroup} → Broken size k (atItem x) [] (Refused 3 k size)
     -- 3: another kind of line is due, or lines follow
     not-due : {st : State} {t : Line} {ts : List Line} → isDue st (kindOf (t .bytes)) ≡ false → Broken size k st (t ∷ ts) (Refused 3 k (t .start))
     -- 15: one too many
@@ -71,11 +74,11 @@ module _ (sh : Sheet) (today : ℕ) where
         → readLine sh today (contextOf st) (t .bytes) ≡ no n off
         → Broken size k st (t ∷ ts) (Refused n k (t .start + off))
     -- 10: the closing line has passed, and the total is refused, at its own place
-    total : {h : Header} {fs : List AccountFile} {f : FileHead} {gs : List Group} {g : GroupHead} {xs : List Item} {w v : ℕ} {t : Line} {ts : List Line}
-        → null xs ≡ false
-        → Follows t (atItem h fs f gs g xs w) closeGroup v
-        → totalBroken (sh .strict) (g .total) (sum (revOn xs [])) ≡ true
-        → Broken size k (atItem h fs f gs g xs w) (t ∷ ts) (Refused 10 (g .line) (g .byte))
+    total : {x : InGroup} {v : ℕ} {t : Line} {ts : List Line}
+        → null (x .items) ≡ false
+        → Follows t (atItem x) closeGroup v
+        → totalBroken (sh .strict) (x .head .total) (sum (itemsOf x)) ≡ true
+        → Broken size k (atItem x) (t ∷ ts) (Refused 10 (x .head .line) (x .head .byte))
 
   -- the answer names the first fault of the file
   pub record FirstFault (f : List ℕ) (a : Answer) : Type 0 where

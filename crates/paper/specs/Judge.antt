@@ -39,12 +39,36 @@ pub record GroupHead : Type 0 where
   pub line : ℕ
   pub byte : ℕ
 
+-- between account files: the header, the account files that are closed, and the warnings
+pub record Between : Type 0 where
+  pub header : Header
+  pub files : List AccountFile
+  pub warnings : ℕ
+
+-- inside an account file: besides, the line that opened it, and its groups that are closed
+pub record InFile : Type 0 where
+  pub header : Header
+  pub files : List AccountFile
+  pub opening : FileHead
+  pub groups : List Group
+  pub warnings : ℕ
+
+-- inside a group: besides, the line that opened it, and its items
+pub record InGroup : Type 0 where
+  pub header : Header
+  pub files : List AccountFile
+  pub opening : FileHead
+  pub groups : List Group
+  pub head : GroupHead
+  pub items : List Item
+  pub warnings : ℕ
+
 -- before the first line; between account files; inside an account file; inside a group; at the end, with the answer
 pub data State : Type 0 where
   atFirst : State
-  atFile : Header → List AccountFile → ℕ → State
-  atGroup : Header → List AccountFile → FileHead → List Group → ℕ → State
-  atItem : Header → List AccountFile → FileHead → List Group → GroupHead → List Item → ℕ → State
+  atFile : Between → State
+  atGroup : InFile → State
+  atItem : InGroup → State
   stop : Answer → State
 
 -- the first three digits of the numbers of account files
@@ -55,9 +79,9 @@ seen (f ∷ fs) = series (f .number) ∷ seen fs
 -- what the reading of the next line depends on
 unfoldable pub contextOf : State → Context
 contextOf atFirst = forHead
-contextOf (atFile h fs w) = forFile h (seen fs)
-contextOf (atGroup h fs f gs w) = forGroup
-contextOf (atItem h fs f gs g xs w) = forItem (isNobody (g .payer))
+contextOf (atFile x) = forFile (x .header) (seen (x .files))
+contextOf (atGroup x) = forGroup
+contextOf (atItem x) = forItem (isNobody (x .head .payer))
 contextOf (stop a) = forHead
 
 -- ---- 3: another kind of line is due
@@ -79,9 +103,9 @@ is a b = eqb (code a) (code b)
 -- a group or `5 +`; behind `5 +`, an account file.
 unfoldable pub isDue : State → Kind → Bool
 isDue atFirst k = is headLine k
-isDue (atFile h fs w) k = is fileLine k
-isDue (atGroup h fs f gs w) k = pick (is groupLine k) true (pick (is fileEnd k) (pick (null gs) false true) false)
-isDue (atItem h fs f gs g xs w) k = pick (is itemLine k) true (pick (is groupEnd k) (pick (null xs) false true) false)
+isDue (atFile x) k = is fileLine k
+isDue (atGroup x) k = pick (is groupLine k) true (pick (is fileEnd k) (pick (null (x .groups)) false true) false)
+isDue (atItem x) k = pick (is itemLine k) true (pick (is groupEnd k) (pick (null (x .items)) false true) false)
 isDue (stop a) k = false
 
 -- ---- 15: account file 1,001, item 100,000 of an account file, item 1,001 of an S file
@@ -89,11 +113,12 @@ isDue (stop a) k = false
 -- "Numbers returned", 15: is there no room for one line more of this kind?
 unfoldable pub isFull : Sheet → State → Kind → Bool
 isFull sh atFirst k = false
-isFull sh (atFile h fs w) k = leb 1000 (length fs)
-isFull sh (atGroup h fs f gs w) k = false
-isFull sh (atItem h fs f gs g xs w) k =
+isFull sh (atFile x) k = leb 1000 (length (x .files))
+isFull sh (atGroup x) k = false
+isFull sh (atItem x) k =
     pick (is itemLine k)
-    (pick (leb 99999 (length xs + groupItems gs)) true (leb (sh .fileitems) (length xs + groupItems gs + fileItems fs)))
+    (pick (leb 99999 (length (x .items) + groupItems (x .groups))) true
+    (leb (sh .fileitems) (length (x .items) + groupItems (x .groups) + fileItems (x .files))))
     false
 isFull sh (stop a) k = false
 
@@ -103,27 +128,83 @@ isFull sh (stop a) k = false
 unfoldable pub totalBroken : Bool → ℕ → ℕ → Bool
 totalBroken strict total exact = pick (ltb most14 exact) true (pick strict (pick (eqb total exact) false true) false)
 
--- ---- one line
+-- ---- one line, which gives v warnings
+
+-- behind the first line
+abbrev pub begun : Header → ℕ → Between
+begun h v = record { header = h; files = []; warnings = v }
+
+-- an account file is opened
+abbrev pub fileOpened : Between → ℕ → ℕ → ℕ → InFile
+fileOpened x kind number v =
+    record {
+      header = x .header;
+      files = x .files;
+      opening = record { kind = kind; number = number };
+      groups = [];
+      warnings = x .warnings + v;
+    }
+
+-- a group is opened in it
+abbrev pub groupOpened : InFile → GroupHead → ℕ → InGroup
+groupOpened x g v =
+    record {
+      header = x .header;
+      files = x .files;
+      opening = x .opening;
+      groups = x .groups;
+      head = g;
+      items = [];
+      warnings = x .warnings + v;
+    }
+
+-- an item more
+abbrev pub itemAdded : InGroup → Item → ℕ → InGroup
+itemAdded x i v =
+    record {
+      header = x .header;
+      files = x .files;
+      opening = x .opening;
+      groups = x .groups;
+      head = x .head;
+      items = i ∷ x .items;
+      warnings = x .warnings + v;
+    }
+
+-- the items of the open group in their order
+abbrev pub itemsOf : InGroup → List Item
+itemsOf x = revOn (x .items) []
 
 -- a group of the line that opened it and its items
 abbrev pub groupOf : GroupHead → List Item → Group
 groupOf g xs = record { date = g .date; payer = g .payer; items = xs }
 
+-- the group is put to the others; a total that differs gives a warning more
+abbrev pub groupClosed : InGroup → ℕ → InFile
+groupClosed x v =
+    record {
+      header = x .header;
+      files = x .files;
+      opening = x .opening;
+      groups = groupOf (x .head) (itemsOf x) ∷ x .groups;
+      warnings = x .warnings + v + differs (x .head .total) (sum (itemsOf x));
+    }
+
 -- an account file of the line that opened it and its groups
 abbrev pub fileOf : FileHead → List Group → AccountFile
 fileOf f gs = record { kind = f .kind; number = f .number; groups = gs }
 
--- a group is closed: 10, or it is put to the others
-unfoldable pub closed : Sheet → Header → List AccountFile → FileHead → List Group → GroupHead → List Item → ℕ → State
-closed sh h fs f gs g xs w =
-    pick (totalBroken (sh .strict) (g .total) (sum xs))
-    (stop (Refused 10 (g .line) (g .byte)))
-    (atGroup h fs f (groupOf g xs ∷ gs) (w + differs (g .total) (sum xs)))
+-- the account file is put to the others
+abbrev pub fileClosed : InFile → ℕ → Between
+fileClosed x v =
+    record { header = x .header; files = fileOf (x .opening) (revOn (x .groups) []) ∷ x .files; warnings = x .warnings + v }
 
--- a total's offset is the first of a line's places
-unfoldable pub firstOr0 : List ℕ → ℕ
-firstOr0 [] = 0
-firstOr0 (p ∷ ps) = p
+-- the group's end: 10, or it is closed
+unfoldable pub closed : Sheet → InGroup → ℕ → State
+closed sh x v =
+    pick (totalBroken (sh .strict) (x .head .total) (sum (itemsOf x)))
+    (stop (Refused 10 (x .head .line) (x .head .byte)))
+    (atGroup (groupClosed x v))
 
 -- by entry: what it is expected to be goes on, any other answers z
 module _ {A : Type 0} where
@@ -163,18 +244,21 @@ module _ {A : Type 0} where
   onItem closeGroup k c z = c
   onItem closeFile k c z = z
 
--- line k, which starts at `at`, says the entry e, with v warnings
+-- a total's offset is the first of a line's places
+unfoldable pub firstOr0 : List ℕ → ℕ
+firstOr0 [] = 0
+firstOr0 (p ∷ ps) = p
+
+-- line k, which starts at `at`, says the entry e, with v warnings and these places
 unfoldable pub meet : Sheet → ℕ → ℕ → Entry → ℕ → List ℕ → State → State
-meet sh k at e v spots atFirst = onHead e (λ h. atFile h [] v) (stop (Refused 3 k at))
-meet sh k at e v spots (atFile h fs w) =
-    onFile e (λ kind number. atGroup h fs (record { kind = kind; number = number }) [] (w + v)) (stop (Refused 3 k at))
-meet sh k at e v spots (atGroup h fs f gs w) =
+meet sh k at e v spots atFirst = onHead e (λ h. atFile (begun h v)) (stop (Refused 3 k at))
+meet sh k at e v spots (atFile x) = onFile e (λ kind number. atGroup (fileOpened x kind number v)) (stop (Refused 3 k at))
+meet sh k at e v spots (atGroup x) =
     onGroup e
-    (λ payer total date. atItem h fs f gs (record { payer = payer; date = date; total = total; line = k; byte = at + firstOr0 spots }) [] (w + v))
-    (atFile h (fileOf f (revOn gs []) ∷ fs) (w + v))
+    (λ payer total date. atItem (groupOpened x (record { payer = payer; date = date; total = total; line = k; byte = at + firstOr0 spots }) v))
+    (atFile (fileClosed x v))
     (stop (Refused 3 k at))
-meet sh k at e v spots (atItem h fs f gs g xs w) =
-    onItem e (λ x. atItem h fs f gs g (x ∷ xs) (w + v)) (closed sh h fs f gs g (revOn xs []) (w + v)) (stop (Refused 3 k at))
+meet sh k at e v spots (atItem x) = onItem e (λ i. atItem (itemAdded x i v)) (closed sh x v) (stop (Refused 3 k at))
 meet sh k at e v spots (stop a) = stop a
 
 -- what the line was read as
@@ -194,17 +278,17 @@ read sh today k t kind st =
 -- the judging ends with the first fault
 unfoldable pub step : Sheet → ℕ → ℕ → Line → State → State
 step sh today k t atFirst = read sh today k t (kindOf (t .bytes)) atFirst
-step sh today k t (atFile h fs w) = read sh today k t (kindOf (t .bytes)) (atFile h fs w)
-step sh today k t (atGroup h fs f gs w) = read sh today k t (kindOf (t .bytes)) (atGroup h fs f gs w)
-step sh today k t (atItem h fs f gs g xs w) = read sh today k t (kindOf (t .bytes)) (atItem h fs f gs g xs w)
+step sh today k t (atFile x) = read sh today k t (kindOf (t .bytes)) (atFile x)
+step sh today k t (atGroup x) = read sh today k t (kindOf (t .bytes)) (atGroup x)
+step sh today k t (atItem x) = read sh today k t (kindOf (t .bytes)) (atItem x)
 step sh today k t (stop a) = stop a
 
 -- the file ends after n bytes, where line k would be: early, unless an account file was closed
 unfoldable pub endOf : ℕ → ℕ → State → Answer
 endOf n k atFirst = Refused 3 k n
-endOf n k (atFile h fs w) = let all = revOn fs [] in pick (null all) (Refused 3 k n) (Accepted h all w)
-endOf n k (atGroup h fs f gs w) = Refused 3 k n
-endOf n k (atItem h fs f gs g xs w) = Refused 3 k n
+endOf n k (atFile x) = pick (null (x .files)) (Refused 3 k n) (Accepted (x .header) (revOn (x .files) []) (x .warnings))
+endOf n k (atGroup x) = Refused 3 k n
+endOf n k (atItem x) = Refused 3 k n
 endOf n k (stop a) = a
 
 -- lines from line k on

@@ -17,9 +17,9 @@ use Rattle.shown.proofs.Numbers.{Among, here, there, holds-behind, hold
 -- an open group's total stands in a line that was read
 abbrev pub Kept : List Line → State → Type 0
 Kept ts atFirst = Unit {0}
-Kept ts (atFile h fs w) = Unit {0}
-Kept ts (atGroup h fs f gs w) = Unit {0}
-Kept ts (atItem h fs f gs g xs w) = Among ts (g .line) (g .byte)
+Kept ts (atFile x) = Unit {0}
+Kept ts (atGroup x) = Unit {0}
+Kept ts (atItem x) = Among ts (x .head .line) (x .head .byte)
 Kept ts (stop a) = Unit {0}
 
 module _ (sh : Sheet) (today : ℕ) where
@@ -28,8 +28,8 @@ module _ (sh : Sheet) (today : ℕ) where
   lawful-kept nothing = tt
   lawful-kept (header l q) = tt
   lawful-kept (opens l few q) = tt
-  lawful-kept (begins {t = t} {h = h} {fs = fs} {f = f} {gs = gs} {w = v} {at = at} l q) =
-      here {t = t} {p = t .start + at} (omega arith, omega (arith, named-got (rw q at (any-named sh today (contextOf (atGroup h fs f gs v)) (t .bytes)))))
+  lawful-kept (begins {t = t} {x = x} {at = at} l q) =
+      here {t = t} {p = t .start + at} (omega arith, omega (arith, named-got (rw q at (any-named sh today (contextOf (atGroup x)) (t .bytes)))))
   lawful-kept (more l free q) = there (lawful-kept l)
   lawful-kept (closes l some q good) = tt
   lawful-kept (finishes l some q) = tt
@@ -43,7 +43,7 @@ module _ (sh : Sheet) (today size : ℕ) where
   pub broken-placed : (before : List Line) {st : State} {after : List Line} {a : Answer} → Kept before st
       → Broken sh today size (suc (length before)) st after a → Placed size before after a
   broken-placed before k ends-first = holds-behind before (line size []) [] size (omega arith, omega arith)
-  broken-placed before k ends-none = holds-behind before (line size []) [] size (omega arith, omega arith)
+  broken-placed before k (ends-none _) = holds-behind before (line size []) [] size (omega arith, omega arith)
   broken-placed before k ends-file = holds-behind before (line size []) [] size (omega arith, omega arith)
   broken-placed before k ends-group = holds-behind before (line size []) [] size (omega arith, omega arith)
   broken-placed before k (not-due {t = t} d) = holds-behind before t _ (t .start) (omega arith, omega arith)

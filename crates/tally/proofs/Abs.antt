@@ -35,13 +35,6 @@ unfolding fileRows
 fileRows-rev [] m = omega arith
 fileRows-rev (f ∷ a) m = omega (arith, fileRows-rev a (f ∷ m))
 
--- ---- empty
-
-pub null-rev : {A : Type 0} (a : List A) → null (revOn a []) ≡ eqb (length a) 0
-null-rev a =
-    let e : length (revOn a []) ≡ length a = omega (arith, length-rev a []) in
-    sym (empty-null (revOn a [])) ∙ rw e
-
 -- ---- rows: the batch as one list is as long as there are account files, groups and items
 
 item-things : (xs : List Item) (r : List Thing) → length (itemThings xs r) ≡ length xs + length r

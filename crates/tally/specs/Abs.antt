@@ -45,11 +45,14 @@ openGroup g xs =
 
 unfoldable pub abs : State → Tally
 abs atFirst = tFirst
-abs (atFile h fs w) = tFile (closedBook h fs w)
-abs (atGroup h fs f gs w) = tGroup (openBook h fs f (groupItems gs) (groupRows gs) w) (openShelf (groupItems gs) gs)
-abs (atItem h fs f gs g xs w) =
+abs (atFile x) = tFile (closedBook (x .header) (x .files) (x .warnings))
+abs (atGroup x) =
+    tGroup
+    (openBook (x .header) (x .files) (x .opening) (groupItems (x .groups)) (groupRows (x .groups)) (x .warnings))
+    (openShelf (groupItems (x .groups)) (x .groups))
+abs (atItem x) =
     tItem
-    (openBook h fs f (length xs + groupItems gs) (groupRows gs + 1 + length xs) w)
-    (openShelf (length xs + groupItems gs) gs)
-    (openGroup g xs)
+    (openBook (x .header) (x .files) (x .opening) (length (x .items) + groupItems (x .groups)) (groupRows (x .groups) + 1 + length (x .items)) (x .warnings))
+    (openShelf (length (x .items) + groupItems (x .groups)) (x .groups))
+    (openGroup (x .head) (x .items))
 abs (stop a) = tStop (brief a)
