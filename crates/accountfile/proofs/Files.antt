@@ -10,12 +10,12 @@ use Rattle.base.specs.Pick.{pick}
 use Rattle.sheet.specs.declared.Sheet.{Sheet}
 use Rattle.paper.specs.Batch.{Header}
 use Rattle.paper.specs.Entries.{file, got, no, Kind, fileLine, kindOf}
-use Rattle.paper.specs.Spells.{allowedIn, readAs}
+use Rattle.paper.specs.Spells.{numberTest, readAs}
 use Rattle.paper.specs.Judge.{onFile}
-use Rattle.paper.specs.FileLine.{series, numberAllowed, readNumber, readFile}
+use Rattle.paper.specs.FileLine.{series, numberFault, readFile}
 use Rattle.paper.proofs.LineSays.{LineSays, a-file, file-says, refusal-in}
 use Rattle.paper.proofs.Starts.{kind-long}
-use Rattle.given.proofs.Sound.{tested}
+use Rattle.given.proofs.Sound.{number-tested}
 use Rattle.line.specs.declared.Cut.{Cut}
 use Rattle.line.specs.Cutting.{Cuts}
 use Rattle.line.proofs.Lines.{at-end}
@@ -24,9 +24,9 @@ use Rattle.kind.specs.Told as kinds
 use Rattle.seen.specs.Bits.{Holds}
 use Rattle.fileline.specs.declared.FileRead.{FileRead}
 use Rattle.fileline.specs.declared.FileRead.the-variants as reads
-use Rattle.fileline.specs.Free.{numberFree}
+use Rattle.fileline.specs.Fault.{faultIn}
 use Rattle.fileline.specs.Told as files
-use Rattle.fileline.proofs.Set.{free-allowed}
+use Rattle.fileline.proofs.Set.{same-fault}
 use Rattle.tally.specs.Tally.{No, tFile, tStop, contextOf, isDue, isFull, meet, onSaid, endOf, step, run}
 use Rattle.tally.proofs.Small.{file-limits}
 use Rattle.group.specs.declared.Counts.{Counts}
@@ -44,24 +44,23 @@ cut-inside f at cut cuts = omega (arith, cuts .to, cuts .inside)
 
 -- ---- a number has six digits
 
-low-of : {sh : Sheet} {today : ℕ} {allowed : ℕ → Bool} {single : Bool} {w : List ℕ} {kind : Kind} {k n v : ℕ} {p : List ℕ}
-    → LineSays sh today allowed single w kind (got (file k n) v p) → n < 1000000
-unfolding readNumber
-low-of {allowed = allowed} (a-file {number = n} _ g _ _) = tested 6 6 9 allowed (g .0) n (g .1) .0
+low-of : {sh : Sheet} {today : ℕ} {test : ℕ → ℕ} {single : Bool} {w : List ℕ} {kind : Kind} {k n v : ℕ} {p : List ℕ}
+    → LineSays sh today test single w kind (got (file k n) v p) → n < 1000000
+low-of {test = test} (a-file {number = n} _ g _ _) = number-tested test (g .0) n (g .1) .0
 
 -- the first three digits of a number that was read
-pub series-low : (sh : Sheet) (allowed : ℕ → Bool) (s : List ℕ) (r : FileRead) → files.told r ≡ readFile sh allowed s → (kind number : ℕ) → r ≡ reads.File kind number → number / 1000 < 1000
-series-low sh allowed s r t kind number e =
-    let u : got (file kind number) 0 [] ≡ readFile sh allowed s = rw e at t in
-    omega (arith, low-of (rw (← u) at (file-says sh 0 allowed false s)))
+pub series-low : (sh : Sheet) (test : ℕ → ℕ) (s : List ℕ) (r : FileRead) → files.told r ≡ readFile sh test s → (kind number : ℕ) → r ≡ reads.File kind number → number / 1000 < 1000
+series-low sh test s r t kind number e =
+    let u : got (file kind number) 0 [] ≡ readFile sh test s = rw e at t in
+    omega (arith, low-of (rw (← u) at (file-says sh 0 test false s)))
 
-pub file-within : (sh : Sheet) (allowed : ℕ → Bool) (f : List ℕ) (at : ℕ) (cut : Cut) → Cuts f at cut → kindOf (cut-of f at (cut .stop)) ≡ fileLine
-    → (r : FileRead) → files.told r ≡ readFile sh allowed (cut-of f at (cut .stop)) → (n off : ℕ) → r ≡ reads.Refused n off → at + off ≤ cut .stop
-file-within sh allowed f at cut cuts e r t n off q =
+pub file-within : (sh : Sheet) (test : ℕ → ℕ) (f : List ℕ) (at : ℕ) (cut : Cut) → Cuts f at cut → kindOf (cut-of f at (cut .stop)) ≡ fileLine
+    → (r : FileRead) → files.told r ≡ readFile sh test (cut-of f at (cut .stop)) → (n off : ℕ) → r ≡ reads.Refused n off → at + off ≤ cut .stop
+file-within sh test f at cut cuts e r t n off q =
     let s = cut-of f at (cut .stop) in
-    let u : no n off ≡ readFile sh allowed s = rw q at t in
+    let u : no n off ≡ readFile sh test s = rw q at t in
     within f at (cut .stop) off (cuts .from) (cut-inside f at cut cuts)
-    (refusal-in (rw (← u) at (file-says sh 0 allowed false s)) (kind-long s fileLine e))
+    (refusal-in (rw (← u) at (file-says sh 0 test false s)) (kind-long s fileLine e))
 
 -- ---- where reading stands
 
@@ -121,14 +120,14 @@ module _ (sh : Sheet) (f : List ℕ) (at k : ℕ) (c : Counts) (cut : Cut) (cuts
           stops 15 at λ today h p q l held.
           no-room sh today k (lineIn f at (cut .stop)) (tFile (bookOf h l c)) refl fileLine e refl (le-leb _ _ full)
 
-      module _ (room : c .files < 1000) (r : FileRead) (t : files.told r ≡ readFile sh (numberFree (sh .interval) from to words) (cut-of f at (cut .stop))) where
+      module _ (room : c .files < 1000) (r : FileRead) (t : files.told r ≡ readFile sh (faultIn (sh .interval) from to words) (cut-of f at (cut .stop))) where
         -- r was found to be v; the header and the words say which numbers are allowed
         said : (v : FileRead) → r ≡ v → (today : ℕ) (h : Header) → h .from ≡ from → h .to ≡ to → (l : List ℕ) → Holds words l
             → onSaid sh k at (files.told v) (tFile (bookOf h l c)) ≡ step sh today k (lineIn f at (cut .stop)) (tFile (bookOf h l c))
-        unfolding step isDue isFull contextOf readAs allowedIn
+        unfolding step isDue isFull contextOf readAs numberTest
         said v x today h p q l held =
-            let free : numberFree (sh .interval) from to words ≡ numberAllowed (sh .interval) h l = rw (← p, ← q) (free-allowed (sh .interval) h words l held) in
-            let u : files.told v ≡ readFile sh (numberAllowed (sh .interval) h l) (cut-of f at (cut .stop)) = (rw x at t) ∙ ap (λ (allowed : ℕ → Bool). readFile sh allowed (cut-of f at (cut .stop))) free in
+            let free : faultIn (sh .interval) from to words ≡ numberFault (sh .interval) h l = rw (← p, ← q) (same-fault (sh .interval) h words l held) in
+            let u : files.told v ≡ readFile sh (numberFault (sh .interval) h l) (cut-of f at (cut .stop)) = (rw x at t) ∙ ap (λ (test : ℕ → ℕ). readFile sh test (cut-of f at (cut .stop))) free in
             by-fields sh today k (lineIn f at (cut .stop)) (tFile (bookOf h l c)) refl fileLine e refl (lt-leb _ _ room) _ u
 
         pub file-refused : (n off : ℕ) → r ≡ reads.Refused n off → (byte : ℕ) → byte ≡ at + off → Stepped sh from to f (left.File at k c) words words (left.Refused n k byte)

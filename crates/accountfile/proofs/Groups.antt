@@ -53,12 +53,12 @@ module _ (f : List ℕ) (at stop : ℕ) (p : at ≤ stop) (q : stop ≤ length f
   pub group-within : (n off : ℕ) → r ≡ reads.Refused n off → at + off ≤ stop
   group-within n off x =
       let u : no n off ≡ readGroup sh today (cut-of f at stop) = rw x at (t .says) in
-      within f at stop off p q (refusal-in (rw (← u) at (group-says sh today (λ _. false) false (cut-of f at stop))) (kind-long (cut-of f at stop) groupLine e))
+      within f at stop off p q (refusal-in (rw (← u) at (group-says sh today (λ _. 0) false (cut-of f at stop))) (kind-long (cut-of f at stop) groupLine e))
 
   pub total-within : (single : Bool) (total date warnings spot : ℕ) → r ≡ reads.Group single total date warnings spot → at + spot ≤ stop
   total-within single total date warnings spot x =
       let u : got (group (t .payer) total date) warnings (spot ∷ []) ≡ readGroup sh today (cut-of f at stop) = rw x at (t .says) in
-      within f at stop spot p q (total-in (rw (← u) at (group-says sh today (λ _. false) false (cut-of f at stop))) (kind-long (cut-of f at stop) groupLine e))
+      within f at stop spot p q (total-in (rw (← u) at (group-says sh today (λ _. 0) false (cut-of f at stop))) (kind-long (cut-of f at stop) groupLine e))
 
 -- a line warns once at most
 pub warns-once : (r : GroupRead) → groups.Low r → (single : Bool) (total date warnings spot : ℕ) → r ≡ reads.Group single total date warnings spot → warnings ≤ 1

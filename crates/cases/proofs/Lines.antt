@@ -22,13 +22,21 @@ filled n = record { kind = 1501; number = 0; groups = items n ∷ [] }
 
 -- n account files were read, and another one is due
 abbrev afterFiles : ℕ → State
-afterFiles n = atFile noHeader (replicate n (filled 1)) 0
+afterFiles n = atFile (record { header = noHeader; files = replicate n (filled 1); warnings = 0 })
 
 -- c items of an earlier account file, g of an earlier group and n of this group were read, and another one is due
 abbrev afterItems : ℕ → ℕ → ℕ → State
 afterItems c g n =
-    atItem noHeader (filled c ∷ []) (record { kind = 1501; number = 0 }) (items g ∷ [])
-    (record { payer = account 19 19; date = 20180102; total = 5001; line = 3; byte = 8 }) (replicate n plainItem) 0
+    atItem
+    (record {
+      header = noHeader;
+      files = filled c ∷ [];
+      opening = record { kind = 1501; number = 0 };
+      groups = items g ∷ [];
+      head = record { payer = account 19 19; date = 20180102; total = 5001; line = 3; byte = 8 };
+      items = replicate n plainItem;
+      warnings = 0;
+    })
 
 -- Point 1: CR LF, LF and CR end a line. LF CR and CR CR LF are two ends, with an empty line between them. The last line may lack its end,
 -- and no line follows a CR that is the last byte.

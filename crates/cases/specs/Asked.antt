@@ -20,11 +20,11 @@ use Rattle.paper.specs.Proper.{check, headerProper, fileDue, groupDue, itemDue,
 use Rattle.paper.specs.Lines.{linesOf}
 use Rattle.paper.specs.Entries.{kindOf, onField, field, place, gap, lineEnd}
 use Rattle.paper.specs.FirstLine.{textField, readTo, restLength, readRest, readFirst, spellFirst}
-use Rattle.paper.specs.FileLine.{member, numberAllowed, readKind, readNumber, readCode, readFile, spellFile}
+use Rattle.paper.specs.FileLine.{member, numberFault, numberAllowed, readKind, readNumber, readCode, readFile, spellFile}
 use Rattle.paper.specs.GroupLine.{spaceCount, hasPayer, totalAndDate, readGroup, spellPayer, spellGroup}
 use Rattle.paper.specs.ItemLine.{readSymbolOrNone, isValue, fixedTail, afterSymbol, openTail, tail, fromPayee, readItem, spellTail, spellItem}
 use Rattle.paper.specs.ClosingLine.{plusAt, readClose}
-use Rattle.paper.specs.Spells.{allowedIn, singleIn, readAs, readLine, itemDues, groupDues, fileDues, dues, differs, groupItems, fileItems}
+use Rattle.paper.specs.Spells.{numberTest, readAs, readLine, itemDues, groupDues, fileDues, dues, differs, groupItems, fileItems}
 use Rattle.paper.specs.Judge.{Answer, seen, contextOf, isDue, isFull, totalBroken, closed, firstOr0, onHead, onFile, onGroup, onItem, meet, onSaid, read, step, endOf, run, judge}
 use Rattle.paper.specs.Words.{wordOf, wordBytes}
 use Rattle.paper.specs.Rows.{words, rowsOn, rowsIn, textAt, thingIn, thingsIn, blanks, fileRow, groupRow, textWords, textsWords, itemRow, entryRow, lineRow, singleAfter, singleBehind, linesRows, wordsBytes, rowsBytes}
@@ -41,7 +41,7 @@ today = 20180101
 
 -- a file, judged on a sheet
 unfoldable pub judged : Sheet → List ℕ → Answer
-unfolding pick all starts seek kindAllowed bankAllowed given isText isDigit null digitsOn digits fixedOn fixed leap monthDays realDay yearsDays monthsDays dayNumber real shortDay longDay readDay past dueAllowed dueWarnings readDue weighted nonZero accountOk ruled twoParts onePart readAccount isNobody zeros onlyZeros readPayer withComma readAmount readTotal amountProper readItemAmount ninth readBank others cut over overs pad opens finish messageEnd message marked readText sum linesOf kindOf onField field place gap lineEnd textField readTo restLength readRest readFirst member numberAllowed readKind readNumber readCode readFile spaceCount hasPayer totalAndDate readGroup readSymbolOrNone isValue fixedTail afterSymbol openTail tail fromPayee readItem plusAt readClose allowedIn singleIn readAs readLine differs groupItems fileItems seen contextOf isDue isFull totalBroken closed firstOr0 onHead onFile onGroup onItem meet onSaid read step endOf run judge
+unfolding pick all starts seek kindAllowed bankAllowed given isText isDigit null digitsOn digits fixedOn fixed leap monthDays realDay yearsDays monthsDays dayNumber real shortDay longDay readDay past dueAllowed dueWarnings readDue weighted nonZero accountOk ruled twoParts onePart readAccount isNobody zeros onlyZeros readPayer withComma readAmount readTotal amountProper readItemAmount ninth readBank others cut over overs pad opens finish messageEnd message marked readText sum linesOf kindOf onField field place gap lineEnd textField readTo restLength readRest readFirst member numberFault numberAllowed readKind readNumber readCode readFile spaceCount hasPayer totalAndDate readGroup readSymbolOrNone isValue fixedTail afterSymbol openTail tail fromPayee readItem plusAt readClose numberTest readAs readLine differs groupItems fileItems seen contextOf isDue isFull totalBroken closed firstOr0 onHead onFile onGroup onItem meet onSaid read step endOf run judge
 judged sh f = judge sh today f
 
 -- what stands in a batch, written with a header on a sheet

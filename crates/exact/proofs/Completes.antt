@@ -7,7 +7,6 @@ use Prim.Native.Nat.{ℕ, suc, _+_, _≤_, max}
 use native.Mathlib.Omega.{arith}
 use lib.ListN.{length}
 use Rattle.sheet.specs.declared.Sheet.{Sheet}
-use Rattle.paper.specs.Accounts.{isNobody}
 use Rattle.paper.specs.Batch.{Item, Group, AccountFile, Batch, Header, sum, most14}
 use Rattle.paper.specs.Lines.{Line}
 use Rattle.paper.specs.FileLine.{series}
@@ -35,7 +34,7 @@ module _ (sh : Sheet) (today : ℕ) (h : Header) (b : Batch) (w : ℕ) where
   Completes ts (atGroup x) =
       (mg : List Group) × (mf : List AccountFile) × (m : ℕ) × (h ≡ x .header)
       × (b ≡ revOn (x .files) (fileOf (x .opening) (revOn (x .groups) mg) ∷ mf)) × (w ≡ x .warnings + m)
-      × Each sh today ts (groupDues mg (fileDues (x .header) (series (x .opening .number) ∷ seen (x .files)) mf)) m
+      × Each sh today ts (groupDues (x .opening .kind) mg (fileDues (x .header) (series (x .opening .number) ∷ seen (x .files)) mf)) m
       × (1 ≤ length (x .groups) + length mg) × (groupItems (x .groups) + groupItems mg ≤ max (groupItems (x .groups)) 99999) × GroupRules mg
       × (suc (length (x .files)) + length mf ≤ max (suc (length (x .files))) 1000)
       × (groupItems (x .groups) + fileItems (x .files) + (groupItems mg + fileItems mf) ≤ max (groupItems (x .groups) + fileItems (x .files)) (sh .fileitems))
@@ -45,8 +44,8 @@ module _ (sh : Sheet) (today : ℕ) (h : Header) (b : Batch) (w : ℕ) where
       × (b ≡ revOn (x .files) (fileOf (x .opening) (revOn (x .groups) (groupOf (x .head) (revOn (x .items) mx) ∷ mg)) ∷ mf))
       × (w ≡ x .warnings + differs (x .head .total) (sum (revOn (x .items) mx)) + m)
       × Each sh today ts
-        (itemDues (isNobody (x .head .payer)) mx
-        (groupDues mg (fileDues (x .header) (series (x .opening .number) ∷ seen (x .files)) mf))) m
+        (itemDues (contextOf (atItem x)) mx
+        (groupDues (x .opening .kind) mg (fileDues (x .header) (series (x .opening .number) ∷ seen (x .files)) mf))) m
       × (1 ≤ length (x .items) + length mx) × (sum (revOn (x .items) mx) ≤ most14)
       × (sh .strict ≡ true → x .head .total ≡ sum (revOn (x .items) mx))
       × (length (x .items) + groupItems (x .groups) + (length mx + groupItems mg) ≤ max (length (x .items) + groupItems (x .groups)) 99999)

@@ -45,7 +45,7 @@ kind-file-end of-file-end = refl
 
 -- ---- a line that is read as of a kind says an entry of that kind
 
-told-by : {sh : Sheet} {today : ℕ} {allowed : ℕ → Bool} {single : Bool} {w : List ℕ} {kind : Kind} {r : Said} → LineSays sh today allowed single w kind r → Told kind r
+told-by : {sh : Sheet} {today : ℕ} {test : ℕ → ℕ} {single : Bool} {w : List ℕ} {kind : Kind} {r : Said} → LineSays sh today test single w kind r → Told kind r
 told-by (no-header _) = of-head
 told-by (a-header _ _ _ _ _ _ _) = of-head
 told-by (a-file _ _ _ _) = of-file

@@ -9,9 +9,9 @@ use Rattle.sheet.specs.declared.Sheet.{Sheet}
 use Rattle.paper.specs.Batch.{Batch, Header}
 use Rattle.paper.specs.Lines.{Line, linesOf}
 use Rattle.paper.specs.Entries.{kindOf}
-use Rattle.paper.specs.Spells.{Context, forItem, readLine}
+use Rattle.paper.specs.Spells.{Context, readLine}
 use Rattle.paper.specs.Judge.{Accepted, judge}
-use Rattle.paper.specs.Rows.{lineRow, singleBehind, linesRows}
+use Rattle.paper.specs.Rows.{lineRow, singleBehind, accepted, linesRows}
 use Rattle.paper.specs.Reading.{rowCount}
 use Rattle.paper.proofs.LineSays.{says}
 use Rattle.rowlaws.proofs.Main.{row-count}
@@ -28,11 +28,11 @@ rows-total : (sh : Sheet) (today : ℕ) (b : Bool) (ls : List Line) → 8 * leng
 unfolding linesRows total
 rows-total sh today b [] = omega arith
 rows-total sh today b (t ∷ ls) =
-    let r = readLine sh today (forItem b) (t .bytes) in
+    let r = readLine sh today (accepted b) (t .bytes) in
     omega (
       arith,
       length-append (lineRow (t .start) r) (linesRows sh today (singleBehind b r) ls),
-      line-bytes sh today (forItem b) (t .start) (t .bytes),
+      line-bytes sh today (accepted b) (t .start) (t .bytes),
       rows-total sh today (singleBehind b r) ls,
     )
 

@@ -1,3 +1,3 @@
 pub mod Told
-pub mod Free
+pub mod Fault
 pub mod Ending

@@ -11,7 +11,7 @@ ghost use Rattle.paper.specs.FileLine.{readKind, readNumber, readCode, readFile
 ghost use Rattle.field.specs.At.{fieldAt};
 ghost use Rattle.field.specs.Told as number;
 ghost use Rattle.placed.specs.Placed.{Placed};
-ghost use Rattle.fileline.specs.Free.{numberFree};
+ghost use Rattle.fileline.specs.Fault.{faultIn};
 ghost use Rattle.fileline.specs.Ending.{codeAndEnd};
 ghost use Rattle.fileline.specs.Told.{told};
 
@@ -87,38 +87,41 @@ fn code_at(s: &[u8], at: usize, sh: Sheet) -> NumAt
     }
 }
 
-// May the account file have the number n? On K (`interval`) its first three digits lie in the interval and came in no earlier number.
-pub fn number_free(interval: bool, from: u64, to: u64, seen: Seen, n: u64) -> bool
+// The refusal that the number n gets, 0 if none: on K (`interval`) its first three digits lie in the interval and came in no earlier number.
+pub fn number_fault(interval: bool, from: u64, to: u64, seen: Seen, n: u64) -> u64
     requires { ⌜ n < 1000000 ⌝ }
-    ensures { λ r. ⌜ r ≡ numberFree interval from to (seen .words) n ⌝ }
+    ensures { λ r. ⌜ r ≡ faultIn interval from to (seen .words) n ⌝ }
 {
     if interval {
         let first = n / 1000;
         if first < from {
-            return false;
+            return 9;
         }
         if to < first {
-            return false;
+            return 9;
         }
         if seen.has(first) {
-            return false;
+            return 9;
         }
-        return true;
+        return 0;
     }
-    true
+    0
 }
 
 // NUMBER: six digits, a number that is allowed.
 fn serial_at(s: &[u8], at: usize, interval: bool, from: u64, to: u64, seen: Seen) -> NumAt
     requires { ⌜ at ≤ length (now s) ⌝ }
-    ensures { λ r. ⌜ number.told r ≡ fieldAt (readNumber (numberFree interval from to (seen .words))) (now (s .entry)) at ⌝ }
+    ensures { λ r. ⌜ number.told r ≡ fieldAt (readNumber (faultIn interval from to (seen .words))) (now (s .entry)) at ⌝ }
 {
     match field::number_at(s, at, 6, 6) {
-        NumAt::Value(n, end) => if number_free(interval, from, to, seen, n) {
-            NumAt::Value(n, end)
-        } else {
-            NumAt::Refused(9)
-        },
+        NumAt::Value(n, end) => {
+            let fault = number_fault(interval, from, to, seen, n);
+            if fault == 0 {
+                NumAt::Value(n, end)
+            } else {
+                NumAt::Refused(fault)
+            }
+        }
         NumAt::Refused(c) => NumAt::Refused(c),
     }
 }
@@ -142,7 +145,7 @@ fn code_and_end(s: &[u8], at: usize, sh: Sheet, kind: u64, number: u64) -> FileR
 // The whole line, which is known to begin with `1 `. The interval goes from `from` to `to`, and `seen` holds what came before.
 pub fn file_line(s: &[u8], sh: Sheet, from: u64, to: u64, seen: Seen) -> FileRead
     requires { ⌜ 2 ≤ length (now s) ⌝ }
-    ensures { λ r. ⌜ told r ≡ readFile sh (numberFree (sh .interval) from to (seen .words)) (now (s .entry)) ⌝ }
+    ensures { λ r. ⌜ told r ≡ readFile sh (faultIn (sh .interval) from to (seen .words)) (now (s .entry)) ⌝ }
 {
     match kind_at(s, 2, sh) {
         NumAt::Refused(c) => FileRead::Refused(c, 2),

@@ -11,8 +11,8 @@ use Rattle.base.proofs.Put.{_then_}
 use Rattle.sheet.specs.declared.Sheet.{Sheet}
 use Rattle.paper.specs.Entries.{Said}
 use Rattle.paper.specs.Lines.{linesOf, linesFrom}
-use Rattle.paper.specs.Spells.{forItem, readLine}
-use Rattle.paper.specs.Rows.{lineRow, singleBehind, linesRows, wordsBytes, rowsBytes}
+use Rattle.paper.specs.Spells.{readLine}
+use Rattle.paper.specs.Rows.{accepted, lineRow, singleBehind, linesRows, wordsBytes, rowsBytes}
 use Rattle.base.proofs.Lists.{drop-none}
 use Rattle.put.proofs.Room.{wrote-none, wrote-length}
 use Rattle.line.specs.declared.Cut.{Cut}
@@ -37,7 +37,7 @@ module _ (f : List ℕ) (sh : Sheet) (today : ℕ) where
 
   -- what the line that starts at `at` says
   abbrev said : Bool → ℕ → Cut → Said
-  said single at r = readLine sh today (forItem single) (take (r .stop - at) (drop at f))
+  said single at r = readLine sh today (accepted single) (take (r .stop - at) (drop at f))
 
   -- the rows of the lines before `at` stand in o1, and the others follow them
   pub record Going (o : List ℕ) (at next : ℕ) (single : Bool) (o1 : List ℕ) : Type 0 where

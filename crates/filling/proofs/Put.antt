@@ -12,8 +12,8 @@ use Rattle.paper.specs.Entries.{file, group, item, Said, got, kindOf}
 use Rattle.paper.specs.FileLine.{readFile}
 use Rattle.paper.specs.GroupLine.{readGroup}
 use Rattle.paper.specs.ItemLine.{places, readItem}
-use Rattle.paper.specs.Spells.{forItem, readLine}
-use Rattle.paper.specs.Rows.{blanks, fileRow, groupRow, itemRow, entryRow, lineRow, singleAfter, singleBehind, wordsBytes, rowsBytes}
+use Rattle.paper.specs.Spells.{readLine}
+use Rattle.paper.specs.Rows.{accepted, blanks, fileRow, groupRow, itemRow, entryRow, lineRow, singleAfter, singleBehind, wordsBytes, rowsBytes}
 use Rattle.put.proofs.Room.{wrote-none}
 use Rattle.word.proofs.Laws.{words-length}
 use Rattle.span.specs.Held.{textsAt, Held}
@@ -53,22 +53,22 @@ module _ (o : List ℕ) (next at : ℕ) (single : Bool) where
   quiet-step r h q = record { wrote = rw (q .rows) (wrote-none o next h); after = sym (q .same) }
 
 module _ (sh : Sheet) (today : ℕ) (single : Bool) (s : List ℕ) (k : LineKind) (g : kinds.told k ≡ kindOf s) (o : List ℕ) (next at : ℕ)
-    (room : next + length (rowsBytes (lineRow at (readLine sh today (forItem single) s))) ≤ length o) where
-  pub step-head : k ≡ kind.Head → Stepped o next single at (readLine sh today (forItem single) s) o (step next single)
+    (room : next + length (rowsBytes (lineRow at (readLine sh today (accepted single) s))) ≤ length o) where
+  pub step-head : k ≡ kind.Head → Stepped o next single at (readLine sh today (accepted single) s) o (step next single)
   step-head e = quiet-step o next at single _ (omega arith) (head-quiet at single sh today s k g e)
 
-  pub step-group-end : k ≡ kind.GroupEnd → Stepped o next single at (readLine sh today (forItem single) s) o (step next single)
+  pub step-group-end : k ≡ kind.GroupEnd → Stepped o next single at (readLine sh today (accepted single) s) o (step next single)
   step-group-end e = quiet-step o next at single _ (omega arith) (group-end-quiet at single sh today s k g e)
 
-  pub step-file-end : k ≡ kind.FileEnd → Stepped o next single at (readLine sh today (forItem single) s) o (step next single)
+  pub step-file-end : k ≡ kind.FileEnd → Stepped o next single at (readLine sh today (accepted single) s) o (step next single)
   step-file-end e = quiet-step o next at single _ (omega arith) (file-end-quiet at single sh today s k g e)
 
   module _ (e : k ≡ kind.File) where
-    pub judged-file : isSaid (readLine sh today (forItem single) s) ≡ true → isSaid (readFile sh anyNumber s) ≡ true
+    pub judged-file : isSaid (readLine sh today (accepted single) s) ≡ true → isSaid (readFile sh anyNumber s) ≡ true
     judged-file h = rw (said-file sh today single s k g e) at h
 
     module _ (x : File) (f : got (file (x .kind) (x .number)) 0 [] ≡ readFile sh anyNumber s) where
-      file-says : readLine sh today (forItem single) s ≡ got (file (x .kind) (x .number)) 0 []
+      file-says : readLine sh today (accepted single) s ≡ got (file (x .kind) (x .number)) 0 []
       file-says = said-file sh today single s k g e ∙ sym f
 
       pub room-file : next + 192 ≤ length o
@@ -76,19 +76,19 @@ module _ (sh : Sheet) (today : ℕ) (single : Bool) (s : List ℕ) (k : LineKind
       room-file = row-room (fileRow (x .kind) (x .number)) next (length o) refl (rw file-says at room)
 
       pub step-file : (o1 : List ℕ) (p : ℕ) → Wrote o next (wordsBytes (fileRow (x .kind) (x .number))) o1 p
-          → Stepped o next single at (readLine sh today (forItem single) s) o1 (step p single)
+          → Stepped o next single at (readLine sh today (accepted single) s) o1 (step p single)
       unfolding lineRow entryRow singleBehind singleAfter
       step-file o1 p w = rw file-says (record { wrote = one-row o o1 next p (fileRow (x .kind) (x .number)) w; after = refl })
 
   module _ (e : k ≡ kind.Group) where
-    pub judged-group : isSaid (readLine sh today (forItem single) s) ≡ true → isSaid (readGroup sh today s) ≡ true
+    pub judged-group : isSaid (readLine sh today (accepted single) s) ≡ true → isSaid (readGroup sh today s) ≡ true
     judged-group h = rw (said-group sh today single s k g e) at h
 
     module _ (x : Group) (f : Opens (readGroup sh today s) x) where
       abbrev payer : Account
       payer = account (x .prefix) (x .base)
 
-      group-says : readLine sh today (forItem single) s ≡ got (group payer (f .total) (x .date)) (f .warnings) (f .spots)
+      group-says : readLine sh today (accepted single) s ≡ got (group payer (f .total) (x .date)) (f .warnings) (f .spots)
       group-says = said-group sh today single s k g e ∙ f .says
 
       pub room-group : next + 192 ≤ length o
@@ -96,16 +96,16 @@ module _ (sh : Sheet) (today : ℕ) (single : Bool) (s : List ℕ) (k : LineKind
       room-group = row-room (groupRow (x .date) payer) next (length o) refl (rw group-says at room)
 
       pub step-group : (o1 : List ℕ) (p : ℕ) (b : Bool) → Wrote o next (wordsBytes (groupRow (x .date) (account (x .prefix) (x .base)))) o1 p
-          → b ≡ isNobody (account (x .prefix) (x .base)) → Stepped o next single at (readLine sh today (forItem single) s) o1 (step p b)
+          → b ≡ isNobody (account (x .prefix) (x .base)) → Stepped o next single at (readLine sh today (accepted single) s) o1 (step p b)
       unfolding lineRow entryRow singleBehind singleAfter
       step-group o1 p b w n = rw group-says (record { wrote = one-row o o1 next p (groupRow (x .date) payer) w; after = n })
 
   module _ (e : k ≡ kind.Item) where
-    pub judged-item : isSaid (readLine sh today (forItem single) s) ≡ true → isSaid (readItem sh single s) ≡ true
+    pub judged-item : isSaid (readLine sh today (accepted single) s) ≡ true → isSaid (readItem sh single s) ≡ true
     judged-item h = rw (said-item sh today single s k g e) at h
 
     module _ (x : Fields) (f : item-told.told s x ≡ readItem sh single s) (t : item-told.Sound s x) where
-      item-says : readLine sh today (forItem single) s ≡ got (item (item-told.itemAt s x)) (x .warnings) (places (textsAt s (x .texts)))
+      item-says : readLine sh today (accepted single) s ≡ got (item (item-told.itemAt s x)) (x .warnings) (places (textsAt s (x .texts)))
       item-says = said-item sh today single s k g e ∙ sym f
 
       item-held : Held s (x .texts)
@@ -120,6 +120,6 @@ module _ (sh : Sheet) (today : ℕ) (single : Bool) (s : List ℕ) (k : LineKind
 
       pub step-item : (o1 : List ℕ) (p : ℕ)
           → ((u : List ℕ) → Held u (x .texts) → Wrote o next (wordsBytes (itemRow at (places (textsAt u (x .texts))) (item-told.itemAt u x))) o1 p)
-          → Stepped o next single at (readLine sh today (forItem single) s) o1 (step p single)
+          → Stepped o next single at (readLine sh today (accepted single) s) o1 (step p single)
       unfolding lineRow entryRow singleBehind singleAfter
       step-item o1 p w = rw item-says (record { wrote = one-row o o1 next p (itemRow at (places (textsAt s (x .texts))) (item-told.itemAt s x)) (w s item-held); after = refl })

@@ -12,8 +12,8 @@ use Rattle.paper.specs.FileLine.{readFile}
 use Rattle.paper.specs.GroupLine.{readGroup}
 use Rattle.paper.specs.ItemLine.{readItem}
 use Rattle.paper.specs.ClosingLine.{plusAt, readClose}
-use Rattle.paper.specs.Spells.{forItem, allowedIn, singleIn, readAs, readLine}
-use Rattle.paper.specs.Rows.{entryRow, lineRow, singleAfter, singleBehind}
+use Rattle.paper.specs.Spells.{numberTest, readAs, readLine}
+use Rattle.paper.specs.Rows.{accepted, entryRow, lineRow, singleAfter, singleBehind}
 use Rattle.kind.specs.declared.LineKind.{LineKind}
 use Rattle.kind.specs.declared.LineKind.the-variants as kind
 use Rattle.kind.specs.Told as kinds
@@ -21,27 +21,27 @@ use Rattle.take_file.specs.Any.{anyNumber}
 
 -- the line is of the kind that was told, and the reader of this kind is asked
 module _ (sh : Sheet) (today : ℕ) (single : Bool) (s : List ℕ) (k : LineKind) (g : kinds.told k ≡ kindOf s) where
-  pub said-file : k ≡ kind.File → readLine sh today (forItem single) s ≡ readFile sh anyNumber s
-  unfolding readLine readAs allowedIn
+  pub said-file : k ≡ kind.File → readLine sh today (accepted single) s ≡ readFile sh anyNumber s
+  unfolding readLine readAs numberTest
   said-file e = rw (← g, e)
 
-  pub said-group : k ≡ kind.Group → readLine sh today (forItem single) s ≡ readGroup sh today s
+  pub said-group : k ≡ kind.Group → readLine sh today (accepted single) s ≡ readGroup sh today s
   unfolding readLine readAs
   said-group e = rw (← g, e)
 
-  pub said-item : k ≡ kind.Item → readLine sh today (forItem single) s ≡ readItem sh single s
-  unfolding readLine readAs singleIn
+  pub said-item : k ≡ kind.Item → readLine sh today (accepted single) s ≡ readItem sh single s
+  unfolding readLine readAs
   said-item e = rw (← g, e)
 
-  said-head : k ≡ kind.Head → readLine sh today (forItem single) s ≡ readFirst sh s
+  said-head : k ≡ kind.Head → readLine sh today (accepted single) s ≡ readFirst sh s
   unfolding readLine readAs
   said-head e = rw (← g, e)
 
-  said-group-end : k ≡ kind.GroupEnd → readLine sh today (forItem single) s ≡ readClose (sh .near) closeGroup s
+  said-group-end : k ≡ kind.GroupEnd → readLine sh today (accepted single) s ≡ readClose (sh .near) closeGroup s
   unfolding readLine readAs
   said-group-end e = rw (← g, e)
 
-  said-file-end : k ≡ kind.FileEnd → readLine sh today (forItem single) s ≡ readClose (sh .near) closeFile s
+  said-file-end : k ≡ kind.FileEnd → readLine sh today (accepted single) s ≡ readClose (sh .near) closeFile s
   unfolding readLine readAs
   said-file-end e = rw (← g, e)
 
@@ -91,13 +91,13 @@ module _ (at : ℕ) (single : Bool) where
         either (Quiet at single) _ (λ _. quiet-plus 2 _) (λ _. either (Quiet at single) _ (λ _. quiet-plus 1 _) (λ _. quiet-no 4 1))
 
   module _ (sh : Sheet) (today : ℕ) (s : List ℕ) (k : LineKind) (g : kinds.told k ≡ kindOf s) where
-    pub head-quiet : k ≡ kind.Head → Quiet at single (readLine sh today (forItem single) s)
+    pub head-quiet : k ≡ kind.Head → Quiet at single (readLine sh today (accepted single) s)
     head-quiet e = rw (said-head sh today single s k g e) (quiet-head sh s)
 
-    pub group-end-quiet : k ≡ kind.GroupEnd → Quiet at single (readLine sh today (forItem single) s)
+    pub group-end-quiet : k ≡ kind.GroupEnd → Quiet at single (readLine sh today (accepted single) s)
     unfolding lineRow entryRow singleBehind singleAfter
     group-end-quiet e = rw (said-group-end sh today single s k g e) (quiet-close closeGroup (record { rows = refl; same = refl }) _ s)
 
-    pub file-end-quiet : k ≡ kind.FileEnd → Quiet at single (readLine sh today (forItem single) s)
+    pub file-end-quiet : k ≡ kind.FileEnd → Quiet at single (readLine sh today (accepted single) s)
     unfolding lineRow entryRow singleBehind singleAfter
     file-end-quiet e = rw (said-file-end sh today single s k g e) (quiet-close closeFile (record { rows = refl; same = refl }) _ s)

@@ -5,13 +5,13 @@ use mathlib.Core.Bool.{Bool, true}
 use mathlib.Core.List.{List, [], _∷_}
 use Rattle.sheet.specs.declared.Sheet.{Sheet}
 use Rattle.paper.specs.Lines.{Line}
-use Rattle.paper.specs.Spells.{forItem, readLine}
-use Rattle.paper.specs.Rows.{singleBehind}
+use Rattle.paper.specs.Spells.{readLine}
+use Rattle.paper.specs.Rows.{accepted, singleBehind}
 use Rattle.placed.specs.Said.{isSaid}
 
 -- each line says an entry; behind a group's line items are read as that group's
 abbrev pub AllSaid : Sheet → ℕ → Bool → List Line → Type 0
 AllSaid sh today single [] = Unit {0}
 AllSaid sh today single (t ∷ ts) =
-    (isSaid (readLine sh today (forItem single) (t .bytes)) ≡ true)
-    × AllSaid sh today (singleBehind single (readLine sh today (forItem single) (t .bytes))) ts
+    (isSaid (readLine sh today (accepted single) (t .bytes)) ≡ true)
+    × AllSaid sh today (singleBehind single (readLine sh today (accepted single) (t .bytes))) ts

@@ -9,8 +9,8 @@ ghost use lib.ListN.{length, drop};
 ghost use Rattle.paper.specs.Batch.{most14};
 ghost use Rattle.paper.specs.Days.{realDay};
 ghost use Rattle.paper.specs.Lines.{linesOf};
-ghost use Rattle.paper.specs.Spells.{forItem, readLine};
-ghost use Rattle.paper.specs.Rows.{lineRow, linesRows, rowsBytes};
+ghost use Rattle.paper.specs.Spells.{readLine};
+ghost use Rattle.paper.specs.Rows.{accepted, lineRow, linesRows, rowsBytes};
 ghost use Rattle.placed.specs.Said.{isSaid};
 ghost use Rattle.filling.specs.Stepped.{Stepped};
 ghost use Rattle.filling.specs.Judged.{AllSaid};
@@ -33,10 +33,10 @@ fn fill_line(
     next: usize,
 ) -> Step
     requires { ⌜ (sh .text .most ≤ 4) × (sh .itemdigits ≤ 19) × (sh .itemmax ≤ most14) ⌝ }
-    requires { ⌜ isSaid (readLine sh today (forItem single) (now s)) ≡ true ⌝ }
+    requires { ⌜ isSaid (readLine sh today (accepted single) (now s)) ≡ true ⌝ }
     requires { ⌜ at + length (now s) < 18446744073709551616 ⌝ }
-    requires { ⌜ next + length (rowsBytes (lineRow at (readLine sh today (forItem single) (now s)))) ≤ length (now rows) ⌝ }
-    ensures { λ r. ⌜ Stepped (now (rows .entry)) next single at (readLine sh today (forItem single) (now (s .entry))) (now (rows .exit)) r ⌝ }
+    requires { ⌜ next + length (rowsBytes (lineRow at (readLine sh today (accepted single) (now s)))) ≤ length (now rows) ⌝ }
+    ensures { λ r. ⌜ Stepped (now (rows .entry)) next single at (readLine sh today (accepted single) (now (s .entry))) (now (rows .exit)) r ⌝ }
 {
     match kind::kind_of(s) {
         LineKind::Item => Step {

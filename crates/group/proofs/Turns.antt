@@ -17,7 +17,7 @@ use Rattle.paper.specs.Batch.{Header}
 use Rattle.paper.specs.Entries.{Entry, head, file, group, item, closeGroup, closeFile, Said, got, no, Kind, itemLine, groupEnd, kindOf}
 use Rattle.paper.specs.ItemLine.{readItem}
 use Rattle.paper.specs.ClosingLine.{readClose}
-use Rattle.paper.specs.Spells.{singleIn, readAs, differs}
+use Rattle.paper.specs.Spells.{readAs, differs}
 use Rattle.paper.specs.Judge.{totalBroken, onItem}
 use Rattle.paper.proofs.LineSays.{group-end-says, item-says, refusal-in}
 use Rattle.paper.proofs.Starts.{least, kind-long}
@@ -64,13 +64,13 @@ module _ (f : List ℕ) (at stop : ℕ) (p : at ≤ stop) (q : stop ≤ length f
       → ((x : Entry) → closes.told x r ≡ readClose (sh .near) x (cut f at stop)) → (n off : ℕ) → r ≡ closing.Refused n off → at + off ≤ stop
   close-within sh sane kind e two r t n off x =
       let u : no n off ≡ readClose (sh .near) closeGroup (cut f at stop) = rw x at (t closeGroup) in
-      within f at stop off p q (refusal-in (rw (← u) at (group-end-says sh 0 (λ _. false) false (cut f at stop))) (known-long (cut f at stop) kind e two))
+      within f at stop off p q (refusal-in (rw (← u) at (group-end-says sh 0 (λ _. 0) false (cut f at stop))) (known-long (cut f at stop) kind e two))
 
   pub item-within : (sh : Sheet) (single : Bool) (r : Judged) → items.told r ≡ brief (readItem sh single (cut f at stop))
       → (n off : ℕ) → r ≡ judged.Refused n off → at + off ≤ stop
   item-within sh single r t n off x =
       let u : no n off ≡ readItem sh single (cut f at stop) = brief-no (readItem sh single (cut f at stop)) n off (rw x at t) in
-      within f at stop off p q (refusal-in (rw (← u) at (item-says sh 0 (λ _. false) single (cut f at stop))) (omega arith))
+      within f at stop off p q (refusal-in (rw (← u) at (item-says sh 0 (λ _. 0) single (cut f at stop))) (omega arith))
 
 -- ---- what a line says in a group
 
@@ -112,7 +112,7 @@ module _ (sh : Sheet) (f : List ℕ) (at stop : ℕ) (x : Held) where
 
       module _ (j : x .counts .items < m .items) (r : Judged) (t : items.told r ≡ brief (readItem sh (x .opened .single) (cut f at stop))) where
         judged-as : (v : Judged) → r ≡ v → (today k : ℕ) (h : Header) (l : List ℕ) → onSaid sh k at (items.told v) (inGroup h l x) ≡ step sh today k (lineIn f at stop) (inGroup h l x)
-        unfolding step isDue isFull contextOf readAs singleIn pick
+        unfolding step isDue isFull contextOf readAs pick
         judged-as v q today k h l =
             let g : x .counts .items < sh .fileitems = omega (arith, of .items) in
             ap (λ said. onSaid sh k at said (inGroup h l x)) (rw q at t)

@@ -1,10 +1,10 @@
 -- The canonical line of an account file is read as its kind and number. Assumes nothing.
 use mathlib.Core.Path.{_≡_, refl, sym, _∙_}
-use mathlib.Core.Bool.{Bool, true}
+use mathlib.Core.Bool.{true}
 use mathlib.Core.List.{[]}
 use Prim.Native.Nat.{ℕ, _^_, _<_, _≤_}
 use native.Mathlib.Omega.{arith}
-use lib.Dec.{ltb}
+use lib.Dec.{eqb, ltb}
 use borrow.Author.Tests.{leb-true, eq-eqb}
 use Rattle.base.specs.Pick.{pick}
 use Rattle.base.specs.Seek.{starts, Free}
@@ -32,9 +32,9 @@ kind-back : (sh : Sheet) (k : ℕ) → kindProper k ≡ true → kindAllowed sh 
 unfolding readKind given
 kind-back sh k p h = rw (fixed-back 4 k (kind-low k p)) (pick-true _ _ h)
 
-number-back : (allowed : ℕ → Bool) (n : ℕ) → n < 10 ^ 6 → allowed n ≡ true → readNumber allowed (fixed 6 n) ≡ value n
+number-back : (test : ℕ → ℕ) (n : ℕ) → n < 10 ^ 6 → eqb (test n) 0 ≡ true → readNumber test (fixed 6 n) ≡ value n
 unfolding readNumber given
-number-back allowed n l h = rw (fixed-back 6 n l) (pick-true _ _ h)
+number-back test n l h = rw (fixed-back 6 n l) (pick-true _ _ h)
 
 code-back : (sh : Sheet) → sh .bank ≤ 9999 → readCode sh (fixed 4 (sh .bank)) ≡ value (sh .bank)
 unfolding readCode bankAllowed given
@@ -49,9 +49,9 @@ pub kind-file : (sh : Sheet) (k n : ℕ) → kindOf (spellFile sh k n) ≡ fileL
 unfolding kindOf starts spellFile pick
 kind-file sh k n = refl
 
-pub file-back : (sh : Sheet) → Sane sh → (allowed : ℕ → Bool) (k n : ℕ) → FileFits sh allowed k n → readFile sh allowed (spellFile sh k n) ≡ got (file k n) 0 []
+pub file-back : (sh : Sheet) → Sane sh → (test : ℕ → ℕ) (k n : ℕ) → FileFits sh test k n → readFile sh test (spellFile sh k n) ≡ got (file k n) 0 []
 unfolding readFile spellFile gap lineEnd
-file-back sh sane allowed k n f =
+file-back sh sane test k n f =
     field-back (readKind sh) 2 (fixed 4 k) k _ _ (fixed-field 4 k) at-space (kind-back sh k (f .kind-proper) (f .kind-allowed))
-    ∙ field-back (readNumber allowed) _ (fixed 6 n) n _ _ (fixed-field 6 n) at-space (number-back allowed n (f .number-low) (f .number-allowed))
+    ∙ field-back (readNumber test) _ (fixed 6 n) n _ _ (fixed-field 6 n) at-space (number-back test n (f .number-low) (f .number-allowed))
     ∙ last-back (readCode sh) _ (fixed 4 (sh .bank)) (sh .bank) _ (fixed-field 4 _) (code-back sh (sane .bank-low))

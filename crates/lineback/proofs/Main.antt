@@ -3,6 +3,7 @@ use mathlib.Core.Path.{_≡_, refl, sym, ap, _∙_}
 use mathlib.Core.Bool.{Bool, true, false}
 use mathlib.Core.List.{List, []}
 use Prim.Native.Nat.{ℕ}
+use lib.Dec.{eqb}
 use Rattle.base.specs.Pick.{pick}
 use Rattle.base.specs.Seek.{all, starts}
 use Rattle.base.proofs.Cases.{by-test, pick-false}
@@ -11,9 +12,9 @@ use Rattle.sheet.proofs.Laws.{Sane}
 use Rattle.paper.specs.Batch.{Header}
 use Rattle.paper.specs.Proper.{fine, headerProper}
 use Rattle.paper.specs.Entries.{Entry, head, file, group, item, closeGroup, closeFile, got, Kind, headLine, fileLine, groupLine, itemLine, groupEnd, fileEnd, kindOf, lineEnd}
-use Rattle.paper.specs.FileLine.{numberAllowed}
+use Rattle.paper.specs.FileLine.{numberFault, numberAllowed}
 use Rattle.paper.specs.ClosingLine.{plusAt, readClose, spellClose}
-use Rattle.paper.specs.Spells.{Context, allowedIn, singleIn, readAs, readLine, Reads}
+use Rattle.paper.specs.Spells.{Context, numberTest, readAs, readLine, Reads}
 use Rattle.paper.specs.Canonical.{spell}
 use Rattle.line.specs.Cutting.{isPlain}
 use Rattle.linesound.specs.Fits.{Fits, warnings}
@@ -26,8 +27,8 @@ use Rattle.lineback.proofs.Plain.{first-plain, file-plain, group-plain,
 
 -- where no header is read, every number is allowed, whatever header was written
 pub number-any : (sh : Sheet) → Sane sh → sh .header ≡ false → (h : Header) (seen : List ℕ) (n : ℕ) → numberAllowed (sh .interval) h seen n ≡ true
-unfolding numberAllowed
-number-any sh q off h seen n = pick-false _ _ (q .no-interval off)
+unfolding numberAllowed numberFault
+number-any sh q off h seen n = ap (λ (k : ℕ). eqb k 0) (pick-false _ _ (q .no-interval off))
 
 -- ---- back, and plain
 
@@ -52,9 +53,9 @@ module _ (sh : Sheet) (today : ℕ) (c : Context) where
         by-test (sh .header)
         (λ on. ([], as-kind _ headLine (kind-first sh h) ∙ first-back sh on h (f .is-proper on) (f .is-carried on)))
         (λ off. ([], as-kind _ headLine (kind-first sh h) ∙ none-back sh off h ∙ ap (λ (x : Header). got (head x) 0 []) (sym (f .is-none off))))
-    line-back (file k n) f = ([], as-kind _ fileLine (kind-file sh k n) ∙ file-back sh sane (allowedIn sh c) k n f)
+    line-back (file k n) f = ([], as-kind _ fileLine (kind-file sh k n) ∙ file-back sh sane (numberTest sh (c .numbers)) k n f)
     line-back (group p t d) f = onward (as-kind _ groupLine (kind-group sh p t d)) (group-back sh sane today p t d f)
-    line-back (item x) f = onward (as-kind _ itemLine (kind-of sh (singleIn c) x f)) (item-back sh sane (singleIn c) x f)
+    line-back (item x) f = onward (as-kind _ itemLine (kind-of sh (c .single) x f)) (item-back sh sane (c .single) x f)
     line-back closeGroup f = ([], as-kind _ groupEnd refl ∙ close-back (sh .near) closeGroup 51)
     line-back closeFile f = ([], as-kind _ fileEnd refl ∙ close-back (sh .near) closeFile 53)
 
@@ -63,6 +64,6 @@ module _ (sh : Sheet) (today : ℕ) (c : Context) where
     line-plain (head h) f = head-plain sh h (f .is-proper)
     line-plain (file k n) f = file-plain sh k n
     line-plain (group p t d) f = group-plain sh p t d
-    line-plain (item x) f = item-plain sh sane (singleIn c) x f
+    line-plain (item x) f = item-plain sh sane (c .single) x f
     line-plain closeGroup f = refl
     line-plain closeFile f = refl

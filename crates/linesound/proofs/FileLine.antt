@@ -1,6 +1,6 @@
 -- What the line of an account file says fits. Assumes nothing.
 use mathlib.Core.Path.{_≡_, sym}
-use mathlib.Core.Bool.{Bool, true}
+use mathlib.Core.Bool.{true}
 use Prim.Native.Nat.{ℕ}
 use native.Mathlib.Omega.{arith}
 use borrow.Author.Tests.{lt-ltb, leb-true, le-ltb, le-leb}
@@ -13,7 +13,7 @@ use Rattle.sheet.proofs.Laws.{Sane}
 use Rattle.paper.specs.Proper.{kindProper}
 use Rattle.paper.specs.FileLine.{readKind, readNumber}
 use Rattle.paper.proofs.LineSays.{Read}
-use Rattle.given.proofs.Sound.{tested}
+use Rattle.given.proofs.Sound.{tested, number-tested}
 use Rattle.linesound.specs.Fits.{FileFits}
 
 -- a kind of a sheet is a kind of a batch
@@ -23,10 +23,10 @@ kind-in sh sane k h =
     by-lt k 1501 (λ lt. never (sym (rw (lt-ltb k 1501 lt) at h)))
     (λ le. rw (le-ltb k 1501 le) (le-leb k 1504 (omega (arith, leb-true k (sh .lastkind) (rw (le-ltb k 1501 le) at h), sane .kind-last))))
 
-pub file-fits : (sh : Sheet) → Sane sh → {allowed : ℕ → Bool} {kind number : ℕ} → Read (readKind sh) kind → Read (readNumber allowed) number
-    → FileFits sh allowed kind number
-unfolding readKind readNumber
-file-fits sh sane {allowed} {kind} {number} f g =
+pub file-fits : (sh : Sheet) → Sane sh → {test : ℕ → ℕ} {kind number : ℕ} → Read (readKind sh) kind → Read (readNumber test) number
+    → FileFits sh test kind number
+unfolding readKind
+file-fits sh sane {test} {kind} {number} f g =
     let k = tested 4 4 7 (kindAllowed sh) (f .0) kind (f .1) .1 in
-    let n = tested 6 6 9 allowed (g .0) number (g .1) in
+    let n = number-tested test (g .0) number (g .1) in
     record { kind-proper = kind-in sh sane kind k; kind-allowed = k; number-low = n .0; number-allowed = n .1 }

@@ -14,12 +14,12 @@ use Rattle.linesound.proofs.FileLine.{file-fits}
 use Rattle.linesound.proofs.GroupLine.{group-fits}
 use Rattle.linesound.proofs.ItemLine.{item-fits}
 
-abbrev Told : Sheet → ℕ → (ℕ → Bool) → Bool → Said → Type 0
-Told sh today allowed single (got e w spots) = FitsIn sh today allowed single e × Warned sh today e w
-Told sh today allowed single (no n off) = Unit {0}
+abbrev Told : Sheet → ℕ → (ℕ → ℕ) → Bool → Said → Type 0
+Told sh today test single (got e w spots) = FitsIn sh today test single e × Warned sh today e w
+Told sh today test single (no n off) = Unit {0}
 
 module _ (sh : Sheet) (sane : Sane sh) where
-  sound : {today : ℕ} {allowed : ℕ → Bool} {single : Bool} {w : List ℕ} {kind : Kind} {r : Said} → LineSays sh today allowed single w kind r → Told sh today allowed single r
+  sound : {today : ℕ} {test : ℕ → ℕ} {single : Bool} {w : List ℕ} {kind : Kind} {r : Said} → LineSays sh today test single w kind r → Told sh today test single r
   sound (no-header not) = (no-header-fits sh not, refl)
   sound (a-header has d n long c f t) = (header-fits sh has d n long c f t, refl)
   sound (a-file k n _ _) = (file-fits sh sane k n, refl)

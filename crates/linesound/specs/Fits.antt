@@ -2,7 +2,7 @@
 use Prim.Native.Nat.{ℕ, _^_, _<_}
 use mathlib.Core.Path.{_≡_}
 use mathlib.Core.Bool.{Bool, true, false}
-use lib.Dec.{ltb}
+use lib.Dec.{eqb, ltb}
 use Rattle.sheet.specs.declared.Sheet.{Sheet}
 use Rattle.sheet.specs.Sheets.{kindAllowed}
 use Rattle.paper.specs.Days.{realDay, dueAllowed, dueWarnings}
@@ -13,7 +13,7 @@ use Rattle.paper.specs.Batch.{Item, Header, noHeader, most14}
 use Rattle.paper.specs.Proper.{fine, headerProper, kindProper, payerProper, itemPayerProper}
 use Rattle.paper.specs.Carried.{headerCarried}
 use Rattle.paper.specs.Entries.{Entry, head, file, group, item, closeGroup, closeFile}
-use Rattle.paper.specs.Spells.{Context, allowedIn, singleIn}
+use Rattle.paper.specs.Spells.{Context, numberTest}
 use Rattle.wording.specs.Wording.{Sendable}
 
 -- a header: C's where the sheet's first line has no fields
@@ -22,12 +22,12 @@ pub record HeadFits (sh : Sheet) (h : Header) : Type 0 where
   pub is-carried : sh .header ≡ true → headerCarried (sh .interval) h ≡ fine
   pub is-none : sh .header ≡ false → h ≡ noHeader
 
--- kind and number of an account file; `allowed` is what the header and earlier account files leave
-pub record FileFits (sh : Sheet) (allowed : ℕ → Bool) (kind number : ℕ) : Type 0 where
+-- kind and number of an account file; the test is what the header and earlier account files ask
+pub record FileFits (sh : Sheet) (test : ℕ → ℕ) (kind number : ℕ) : Type 0 where
   pub kind-proper : kindProper kind ≡ true
   pub kind-allowed : kindAllowed sh kind ≡ true
   pub number-low : number < 10 ^ 6
-  pub number-allowed : allowed number ≡ true
+  pub number-allowed : eqb (test number) 0 ≡ true
 
 -- payer, total and due date of a group
 pub record GroupFits (sh : Sheet) (today : ℕ) (payer : Account) (total date : ℕ) : Type 0 where
@@ -50,18 +50,18 @@ pub record ItemFits (sh : Sheet) (single : Bool) (x : Item) : Type 0 where
   pub priority-carried : priorityCarried (sh .priority) (x .priority) ≡ true
   pub texts : Sendable (sh .text) (x .parts) (x .name)
 
--- an entry, where these numbers of account files are allowed and groups are single or not
-abbrev pub FitsIn : Sheet → ℕ → (ℕ → Bool) → Bool → Entry → Type 0
-FitsIn sh today allowed single (head h) = HeadFits sh h
-FitsIn sh today allowed single (file kind number) = FileFits sh allowed kind number
-FitsIn sh today allowed single (group payer total date) = GroupFits sh today payer total date
-FitsIn sh today allowed single (item x) = ItemFits sh single x
-FitsIn sh today allowed single closeGroup = Unit {0}
-FitsIn sh today allowed single closeFile = Unit {0}
+-- an entry, where numbers of account files are tested so and groups are single or not
+abbrev pub FitsIn : Sheet → ℕ → (ℕ → ℕ) → Bool → Entry → Type 0
+FitsIn sh today test single (head h) = HeadFits sh h
+FitsIn sh today test single (file kind number) = FileFits sh test kind number
+FitsIn sh today test single (group payer total date) = GroupFits sh today payer total date
+FitsIn sh today test single (item x) = ItemFits sh single x
+FitsIn sh today test single closeGroup = Unit {0}
+FitsIn sh today test single closeFile = Unit {0}
 
 -- an entry in its context
 abbrev pub Fits : Sheet → ℕ → Context → Entry → Type 0
-Fits sh today c e = FitsIn sh today (allowedIn sh c) (singleIn c) e
+Fits sh today c e = FitsIn sh today (numberTest sh (c .numbers)) (c .single) e
 
 -- how many warnings the canonical line of an entry gives: one for a past due day, where the sheet warns of it
 abbrev pub warnings : Sheet → ℕ → Entry → ℕ

@@ -4,8 +4,10 @@ use mathlib.Core.Bool.{Bool, true, false}
 use mathlib.Core.List.{List, [], _∷_}
 use Prim.Native.Nat.{ℕ}
 use native.Mathlib.Omega.{arith}
+use lib.Dec.{eqb, leb}
 use Rattle.base.specs.Pick.{pick}
 use Rattle.base.proofs.Cases.{either}
+use Rattle.base.proofs.Seek.{never}
 use Rattle.sheet.specs.declared.Sheet.{Sheet}
 use Rattle.sheet.specs.declared.Style.{Style}
 use Rattle.paper.specs.Read.{Field, value, fault, given}
@@ -15,9 +17,11 @@ use Rattle.paper.specs.Accounts.{ruled, twoParts, onePart, readAccount, readPay
 use Rattle.paper.specs.Amounts.{withComma, readAmount, readTotal, readItemAmount}
 use Rattle.paper.specs.BankField.{ninth, readBank}
 use Rattle.paper.specs.Texts.{Piece, finish, message, marked, readText}
+use Rattle.paper.specs.Batch.{Header}
 use Rattle.paper.specs.FirstLine.{textField, readTo, readRest}
-use Rattle.paper.specs.FileLine.{readKind, readNumber, readCode}
+use Rattle.paper.specs.FileLine.{member, series, numberFault, readKind, readNumber, readCode}
 use Rattle.paper.specs.ItemLine.{readSymbolOrNone}
+use Rattle.paper.specs.Spells.{Numbers, anyNumber, after, numberTest}
 use Rattle.named.specs.Numbers.{Own}
 
 -- ---- each number that a line gives of its own
@@ -138,9 +142,35 @@ pub kind-named : (sh : Sheet) (s : List ℕ) → Numbered (readKind sh s)
 unfolding readKind
 kind-named sh s = given-on (digits-named 4 4 s) λ k. tested _ k 7 own7
 
-pub number-named : (allowed : ℕ → Bool) (s : List ℕ) → Numbered (readNumber allowed s)
+-- a test of numbers refuses with a line's own number
+abbrev pub Tests : (ℕ → ℕ) → Type 0
+Tests test = (n : ℕ) → eqb (test n) 0 ≡ false → Own (test n)
+
+pub number-named : {test : ℕ → ℕ} → Tests test → (s : List ℕ) → Numbered (readNumber test s)
 unfolding readNumber
-number-named allowed s = given-on (digits-named 6 6 s) λ n. tested _ n 9 own9
+number-named {test} g s = given-on (digits-named 6 6 s) λ n. either Numbered _ (λ _. is-value) (λ e. is-fault (g n e))
+
+-- it gives 9, or allows the number
+nine : (t : Bool) (a : ℕ) → (eqb a 0 ≡ false → Own a) → eqb (pick t a 9) 0 ≡ false → Own (pick t a 9)
+unfolding pick
+nine true a h e = h e
+nine false a h e = own9
+
+used : (t : Bool) → eqb (pick t 9 0) 0 ≡ false → Own (pick t 9 0)
+unfolding pick
+used true e = own9
+used false e = never e
+
+fault-tests : (interval : Bool) (h : Header) (seen : List ℕ) → Tests (numberFault interval h seen)
+unfolding numberFault pick
+fault-tests true h seen n e =
+    nine (leb (h .from) (series n)) _ (nine (leb (series n) (h .to)) _ (used (member (series n) seen))) e
+fault-tests false h seen n e = never e
+
+pub number-tests : (sh : Sheet) (a : Numbers) → Tests (numberTest sh a)
+unfolding numberTest
+number-tests sh anyNumber n e = never e
+number-tests sh (after h seen) n e = fault-tests (sh .interval) h seen n e
 
 pub code-named : (sh : Sheet) (s : List ℕ) → Numbered (readCode sh s)
 unfolding readCode

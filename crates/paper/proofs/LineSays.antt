@@ -30,7 +30,7 @@ use Rattle.paper.specs.FileLine.{readKind, readNumber, readCode, readFil
 use Rattle.paper.specs.GroupLine.{totalAndDate, readGroup}
 use Rattle.paper.specs.ItemLine.{noTexts, readSymbol, readSymbolOrNone, fixedTail, afterSymbol, openTail, tail, places, itemOf, fromPayee, readItem}
 use Rattle.paper.specs.ClosingLine.{plusAt, readClose}
-use Rattle.paper.specs.Spells.{Context, allowedIn, singleIn, readAs}
+use Rattle.paper.specs.Spells.{Context, numberTest, readAs}
 use Rattle.paper.proofs.Starts.{least}
 
 -- ---- what is said
@@ -43,24 +43,24 @@ abbrev pub Refuses : {A : Type 0} → (List ℕ → Field A) → ℕ → Type 0
 Refuses read n = (f : List ℕ) × (read f ≡ fault n)
 
 -- a line is refused by 4 for its form, or with the number of one of its fields
-pub data Blamed (sh : Sheet) (today : ℕ) (allowed : ℕ → Bool) : ℕ → Type 0 where
-  form : Blamed sh today allowed 4
-  by-digits : (few most : ℕ) {n : ℕ} → Refuses (digits few most) n → Blamed sh today allowed n
-  by-day : {n : ℕ} → Refuses shortDay n → Blamed sh today allowed n
-  by-name : {n : ℕ} → Refuses textField n → Blamed sh today allowed n
-  by-to : (from : ℕ) {n : ℕ} → Refuses (readTo (sh .interval) from) n → Blamed sh today allowed n
-  by-rest : {n : ℕ} → Refuses (readRest (sh .short)) n → Blamed sh today allowed n
-  by-kind : {n : ℕ} → Refuses (readKind sh) n → Blamed sh today allowed n
-  by-number : {n : ℕ} → Refuses (readNumber allowed) n → Blamed sh today allowed n
-  by-code : {n : ℕ} → Refuses (readCode sh) n → Blamed sh today allowed n
-  by-payer : {n : ℕ} → Refuses (readPayer (sh .emptypayer) (sh .zeropayer) (sh .joined) (sh .basemin)) n → Blamed sh today allowed n
-  by-total : {n : ℕ} → Refuses (readTotal (sh .comma)) n → Blamed sh today allowed n
-  by-due : {n : ℕ} → Refuses (readDue (sh .longdate) (sh .early) (sh .ahead) today) n → Blamed sh today allowed n
-  by-account : {n : ℕ} → Refuses (readAccount (sh .joined) (sh .basemin)) n → Blamed sh today allowed n
-  by-amount : {n : ℕ} → Refuses (readItemAmount (sh .comma) (sh .itemdigits) (sh .itemmax)) n → Blamed sh today allowed n
-  by-bank : {n : ℕ} → Refuses (readBank (sh .priority)) n → Blamed sh today allowed n
-  by-symbol : {n : ℕ} → Refuses readSymbolOrNone n → Blamed sh today allowed n
-  by-text : (at : ℕ) {n : ℕ} → Refuses (readText (sh .text) at) n → Blamed sh today allowed n
+pub data Blamed (sh : Sheet) (today : ℕ) (test : ℕ → ℕ) : ℕ → Type 0 where
+  form : Blamed sh today test 4
+  by-digits : (few most : ℕ) {n : ℕ} → Refuses (digits few most) n → Blamed sh today test n
+  by-day : {n : ℕ} → Refuses shortDay n → Blamed sh today test n
+  by-name : {n : ℕ} → Refuses textField n → Blamed sh today test n
+  by-to : (from : ℕ) {n : ℕ} → Refuses (readTo (sh .interval) from) n → Blamed sh today test n
+  by-rest : {n : ℕ} → Refuses (readRest (sh .short)) n → Blamed sh today test n
+  by-kind : {n : ℕ} → Refuses (readKind sh) n → Blamed sh today test n
+  by-number : {n : ℕ} → Refuses (readNumber test) n → Blamed sh today test n
+  by-code : {n : ℕ} → Refuses (readCode sh) n → Blamed sh today test n
+  by-payer : {n : ℕ} → Refuses (readPayer (sh .emptypayer) (sh .zeropayer) (sh .joined) (sh .basemin)) n → Blamed sh today test n
+  by-total : {n : ℕ} → Refuses (readTotal (sh .comma)) n → Blamed sh today test n
+  by-due : {n : ℕ} → Refuses (readDue (sh .longdate) (sh .early) (sh .ahead) today) n → Blamed sh today test n
+  by-account : {n : ℕ} → Refuses (readAccount (sh .joined) (sh .basemin)) n → Blamed sh today test n
+  by-amount : {n : ℕ} → Refuses (readItemAmount (sh .comma) (sh .itemdigits) (sh .itemmax)) n → Blamed sh today test n
+  by-bank : {n : ℕ} → Refuses (readBank (sh .priority)) n → Blamed sh today test n
+  by-symbol : {n : ℕ} → Refuses readSymbolOrNone n → Blamed sh today test n
+  by-text : (at : ℕ) {n : ℕ} → Refuses (readText (sh .text) at) n → Blamed sh today test n
 
 -- a payer where one stands, and nobody elsewhere
 pub data Payer (read : List ℕ → Field Account) : Bool → Account → Type 0 where
@@ -79,35 +79,35 @@ pub data Text (y : Style) (w : List ℕ) : Texts → Type 0 where
 
 -- What the line w says where it is read as of a kind. A refusal's offset lies in the line, if that is as long as its kind asks for, and so
 -- does that of a group's total.
-pub data LineSays (sh : Sheet) (today : ℕ) (allowed : ℕ → Bool) (single : Bool) (w : List ℕ) : Kind → Said → Type 0 where
-  no-header : sh .header ≡ false → LineSays sh today allowed single w headLine (got (head noHeader) 0 [])
+pub data LineSays (sh : Sheet) (today : ℕ) (test : ℕ → ℕ) (single : Bool) (w : List ℕ) : Kind → Said → Type 0 where
+  no-header : sh .header ≡ false → LineSays sh today test single w headLine (got (head noHeader) 0 [])
   a-header : {date client from to : ℕ} {name : List ℕ} → sh .header ≡ true → Read shortDay date → (t : Read textField name) → length (t .0) ≡ 20
       → Read (digits 10 10) client → Read (digits 3 3) from → Read (readTo (sh .interval) from) to
-      → LineSays sh today allowed single w headLine (got (head (record { date = date; name = name; client = client; from = from; to = to })) 0 [])
-  a-file : {kind number code : ℕ} (k : Read (readKind sh) kind) (n : Read (readNumber allowed) number) → Read (readCode sh) code
-      → length (k .0) + length (n .0) ≤ length (drop 2 w) → LineSays sh today allowed single w fileLine (got (file kind number) 0 [])
+      → LineSays sh today test single w headLine (got (head (record { date = date; name = name; client = client; from = from; to = to })) 0 [])
+  a-file : {kind number code : ℕ} (k : Read (readKind sh) kind) (n : Read (readNumber test) number) → Read (readCode sh) code
+      → length (k .0) + length (n .0) ≤ length (drop 2 w) → LineSays sh today test single w fileLine (got (file kind number) 0 [])
   a-group : {named : Bool} {payer : Account} {total date at : ℕ}
       → Payer (readPayer (sh .emptypayer) (sh .zeropayer) (sh .joined) (sh .basemin)) named payer → Read (readTotal (sh .comma)) total
       → (d : Read (readDue (sh .longdate) (sh .early) (sh .ahead) today) date) → suc (length (d .0)) ≤ length (drop 2 w) → (2 ≤ length w → at ≤ length w)
-      → LineSays sh today allowed single w groupLine (got (group payer total date) (dueWarnings (sh .warnpast) today date) (at ∷ []))
+      → LineSays sh today test single w groupLine (got (group payer total date) (dueWarnings (sh .warnpast) today date) (at ∷ []))
   an-item : {payer payee : Account} {amount variable specific : ℕ} {bank : Bank} {texts : Texts}
       → Payer (readAccount (sh .joined) (sh .basemin)) single payer → Read (readAccount (sh .joined) (sh .basemin)) payee
       → Read (readItemAmount (sh .comma) (sh .itemdigits) (sh .itemmax)) amount → Read readSymbol variable
       → (b : Read (readBank (sh .priority)) bank) → length (b .0) ≤ length w → Symbol specific → Text (sh .text) w texts
-      → LineSays sh today allowed single w itemLine
+      → LineSays sh today test single w itemLine
       (got (item (itemOf payer payee amount variable specific bank texts)) (bank .warnings + texts .warnings) (places texts))
-  a-group-end : LineSays sh today allowed single w groupEnd (got closeGroup 0 [])
-  a-file-end : LineSays sh today allowed single w fileEnd (got closeFile 0 [])
-  refused : {kind : Kind} {n off : ℕ} → Blamed sh today allowed n → (least kind ≤ length w → off ≤ length w) → LineSays sh today allowed single w kind (no n off)
+  a-group-end : LineSays sh today test single w groupEnd (got closeGroup 0 [])
+  a-file-end : LineSays sh today test single w fileEnd (got closeFile 0 [])
+  refused : {kind : Kind} {n off : ℕ} → Blamed sh today test n → (least kind ≤ length w → off ≤ length w) → LineSays sh today test single w kind (no n off)
 
 -- ---- fields from left to right
 
-module _ (sh : Sheet) (today : ℕ) (allowed : ℕ → Bool) (single : Bool) (w : List ℕ) where
+module _ (sh : Sheet) (today : ℕ) (test : ℕ → ℕ) (single : Bool) (w : List ℕ) where
   abbrev Line : Kind → Said → Type 0
-  Line = LineSays sh today allowed single w
+  Line = LineSays sh today test single w
 
   abbrev Why : ℕ → Type 0
-  Why = Blamed sh today allowed
+  Why = Blamed sh today test
 
   module _ (kind : Kind) where
     -- an offset lies in the line, if that is long enough
@@ -181,12 +181,12 @@ module _ (sh : Sheet) (today : ℕ) (allowed : ℕ → Bool) (single : Bool) (w 
       a-header yes f1 f2 long f3 f4 f5)
       no-header
 
-  pub file-says : Line fileLine (readFile sh allowed w)
+  pub file-says : Line fileLine (readFile sh test w)
   unfolding readFile
   file-says =
       fields fileLine (readKind sh) 2 (drop 2 w) (refl, λ k. k) (λ n. by-kind) λ kind a1 s1 f1 n1 l1.
       gaps fileLine a1 s1 l1 λ a2 s2 n2 l2.
-      fields fileLine (readNumber allowed) a2 s2 l2 (λ n. by-number) λ number a3 s3 f3 n3 l3.
+      fields fileLine (readNumber test) a2 s2 l2 (λ n. by-number) λ number a3 s3 f3 n3 l3.
       gaps fileLine a3 s3 l3 λ a4 s4 n4 l4.
       fields fileLine (readCode sh) a4 s4 l4 (λ n. by-code) λ code a5 s5 f5 n5 l5.
       ends fileLine a5 s5 l5 (a-file f1 f3 f5 (omega arith))
@@ -265,17 +265,17 @@ module _ (sh : Sheet) (today : ℕ) (allowed : ℕ → Bool) (single : Bool) (w 
   file-end-says = closes fileEnd (sh .near) closeFile (λ k. k) a-file-end
 
 -- the payer's account comes first where the group is single
-module _ (sh : Sheet) (today : ℕ) (allowed : ℕ → Bool) where
-  pub item-says : (single : Bool) (w : List ℕ) → LineSays sh today allowed single w itemLine (readItem sh single w)
+module _ (sh : Sheet) (today : ℕ) (test : ℕ → ℕ) where
+  pub item-says : (single : Bool) (w : List ℕ) → LineSays sh today test single w itemLine (readItem sh single w)
   unfolding readItem pick
   item-says true w =
-      fields sh today allowed true w itemLine (readAccount (sh .joined) (sh .basemin)) 0 w (refl, λ _. omega arith) (λ n. by-account) λ payer a1 s1 f1 n1 l1.
-      gaps sh today allowed true w itemLine a1 s1 l1 λ a2 s2 n2 l2.
-      payee-says sh today allowed true w (stands f1) a2 s2 l2
-  item-says false w = payee-says sh today allowed false w lacks 0 w (refl, λ _. omega arith)
+      fields sh today test true w itemLine (readAccount (sh .joined) (sh .basemin)) 0 w (refl, λ _. omega arith) (λ n. by-account) λ payer a1 s1 f1 n1 l1.
+      gaps sh today test true w itemLine a1 s1 l1 λ a2 s2 n2 l2.
+      payee-says sh today test true w (stands f1) a2 s2 l2
+  item-says false w = payee-says sh today test false w lacks 0 w (refl, λ _. omega arith)
 
 -- a line that is read as of a kind
-pub says : (sh : Sheet) (today : ℕ) (c : Context) (kind : Kind) (w : List ℕ) → LineSays sh today (allowedIn sh c) (singleIn c) w kind (readAs sh today c kind w)
+pub says : (sh : Sheet) (today : ℕ) (c : Context) (kind : Kind) (w : List ℕ) → LineSays sh today (numberTest sh (c .numbers)) (c .single) w kind (readAs sh today c kind w)
 unfolding readAs
 says sh today c headLine w = first-says sh today _ _ w
 says sh today c fileLine w = file-says sh today _ _ w
@@ -286,9 +286,9 @@ says sh today c fileEnd w = file-end-says sh today _ _ w
 
 -- ---- a refusal's offset lies in its line, and so does that of a group's total
 
-module _ {sh : Sheet} {today : ℕ} {allowed : ℕ → Bool} {single : Bool} {w : List ℕ} where
-  pub refusal-in : {kind : Kind} {n off : ℕ} → LineSays sh today allowed single w kind (no n off) → least kind ≤ length w → off ≤ length w
+module _ {sh : Sheet} {today : ℕ} {test : ℕ → ℕ} {single : Bool} {w : List ℕ} where
+  pub refusal-in : {kind : Kind} {n off : ℕ} → LineSays sh today test single w kind (no n off) → least kind ≤ length w → off ≤ length w
   refusal-in (refused _ l) h = l h
 
-  pub total-in : {kind : Kind} {a : Account} {t d v q : ℕ} {p : List ℕ} → LineSays sh today allowed single w kind (got (group a t d) v (q ∷ p)) → 2 ≤ length w → q ≤ length w
+  pub total-in : {kind : Kind} {a : Account} {t d v q : ℕ} {p : List ℕ} → LineSays sh today test single w kind (got (group a t d) v (q ∷ p)) → 2 ≤ length w → q ≤ length w
   total-in (a-group _ _ _ _ l) h = l h

@@ -80,8 +80,8 @@ seen (f ∷ fs) = series (f .number) ∷ seen fs
 unfoldable pub contextOf : State → Context
 contextOf atFirst = forHead
 contextOf (atFile x) = forFile (x .header) (seen (x .files))
-contextOf (atGroup x) = forGroup
-contextOf (atItem x) = forItem (isNobody (x .head .payer))
+contextOf (atGroup x) = forGroup (x .opening .kind)
+contextOf (atItem x) = forItem (x .opening .kind) (x .head .date) (isNobody (x .head .payer))
 contextOf (stop a) = forHead
 
 -- ---- 3: another kind of line is due

@@ -12,7 +12,7 @@ use Rattle.paper.specs.Accounts.{Account, account, isNobody}
 use Rattle.paper.specs.Batch.{Item, Thing, aFile, aGroup, anItem, strange}
 use Rattle.paper.specs.Lines.{Line}
 use Rattle.paper.specs.Entries.{Entry, head, file, group, item, closeGroup, closeFile, Said, got, no}
-use Rattle.paper.specs.Spells.{forItem, readLine}
+use Rattle.paper.specs.Spells.{Context, forItem, readLine}
 
 -- a row is 24 words of 8 bytes
 abbrev pub rowSize : ℕ
@@ -130,12 +130,16 @@ unfoldable pub singleBehind : Bool → Said → Bool
 singleBehind b (got e v spots) = singleAfter b e
 singleBehind b (no n off) = b
 
+-- The context for lines that are accepted already: any number, and no kind or date. What a line says in its own context it says in this one.
+abbrev pub accepted : Bool → Context
+accepted single = forItem 0 0 single
+
 -- the rows of an accepted file's lines, in order
 unfoldable pub linesRows : Sheet → ℕ → Bool → List Line → List (List ℕ)
 linesRows sh today single [] = []
 linesRows sh today single (t ∷ ts) =
-    lineRow (t .start) (readLine sh today (forItem single) (t .bytes))
-    ++ linesRows sh today (singleBehind single (readLine sh today (forItem single) (t .bytes))) ts
+    lineRow (t .start) (readLine sh today (accepted single) (t .bytes))
+    ++ linesRows sh today (singleBehind single (readLine sh today (accepted single) (t .bytes))) ts
 
 -- rows as bytes
 unfoldable pub wordsBytes : List ℕ → List ℕ

@@ -13,41 +13,53 @@ use Rattle.paper.specs.Batch.{Item, Group, AccountFile, Batch, Header, s
 use Rattle.paper.specs.Lines.{Line, linesOf}
 use Rattle.paper.specs.Entries.{Entry, head, file, group, item, closeGroup, closeFile, Said, got, Kind, headLine, fileLine, groupLine, itemLine, groupEnd, fileEnd, kindOf}
 use Rattle.paper.specs.FirstLine.{readFirst}
-use Rattle.paper.specs.FileLine.{series, numberAllowed, readFile}
+use Rattle.paper.specs.FileLine.{series, numberFault, readFile}
 use Rattle.paper.specs.GroupLine.{readGroup}
 use Rattle.paper.specs.ItemLine.{readItem}
 use Rattle.paper.specs.ClosingLine.{readClose}
 
 -- ---- one line
 
--- What the reading of a line depends on: before an account file, the header and the first three digits of earlier account files' numbers;
--- behind a group's line, whether the group is single.
-pub data Context : Type 0 where
-  forHead : Context
-  forFile : Header → List ℕ → Context
-  forGroup : Context
-  forItem : Bool → Context
+-- Which numbers may an account file have? Any; or those that the header and the first three digits of earlier numbers leave.
+pub data Numbers : Type 0 where
+  anyNumber : Numbers
+  after : Header → List ℕ → Numbers
 
--- may an account file have this number here?
-unfoldable pub allowedIn : Sheet → Context → ℕ → Bool
-allowedIn sh forHead n = true
-allowedIn sh (forFile h seen) n = numberAllowed (sh .interval) h seen n
-allowedIn sh forGroup n = true
-allowedIn sh (forItem single) n = true
+-- What the reading of a line depends on, besides its sheet and today: which numbers an account file may have, the kind of the account file
+-- that the line stands in, its group's due date, and whether the group is single. What is not there yet is 0, or nothing.
+pub record Context : Type 0 where
+  pub numbers : Numbers
+  pub kind : ℕ
+  pub date : ℕ
+  pub single : Bool
 
--- is the group that the line stands in single?
-unfoldable pub singleIn : Context → Bool
-singleIn forHead = false
-singleIn (forFile h seen) = false
-singleIn forGroup = false
-singleIn (forItem single) = single
+-- the first line
+abbrev pub forHead : Context
+forHead = record { numbers = anyNumber; kind = 0; date = 0; single = false }
+
+-- a line between account files
+abbrev pub forFile : Header → List ℕ → Context
+forFile h seen = record { numbers = after h seen; kind = 0; date = 0; single = false }
+
+-- a line of an account file of that kind, between groups
+abbrev pub forGroup : ℕ → Context
+forGroup kind = record { numbers = anyNumber; kind = kind; date = 0; single = false }
+
+-- a line of a group
+abbrev pub forItem : ℕ → ℕ → Bool → Context
+forItem kind date single = record { numbers = anyNumber; kind = kind; date = date; single = single }
+
+-- the refusal that a number gets there
+unfoldable pub numberTest : Sheet → Numbers → ℕ → ℕ
+numberTest sh anyNumber n = 0
+numberTest sh (after h seen) n = numberFault (sh .interval) h seen n
 
 -- a line of a known kind, read by the definition of that kind
 unfoldable pub readAs : Sheet → ℕ → Context → Kind → List ℕ → Said
 readAs sh today c headLine s = readFirst sh s
-readAs sh today c fileLine s = readFile sh (allowedIn sh c) s
+readAs sh today c fileLine s = readFile sh (numberTest sh (c .numbers)) s
 readAs sh today c groupLine s = readGroup sh today s
-readAs sh today c itemLine s = readItem sh (singleIn c) s
+readAs sh today c itemLine s = readItem sh (c .single) s
 readAs sh today c groupEnd s = readClose (sh .near) closeGroup s
 readAs sh today c fileEnd s = readClose (sh .near) closeFile s
 
@@ -71,21 +83,22 @@ abbrev pub due : Context → Entry → Due
 due c e = record { context = c; entry = e }
 
 -- a group's items, and the line that closes it, in front of the lines r
-unfoldable pub itemDues : Bool → List Item → List Due → List Due
-itemDues single [] r = due (forItem single) closeGroup ∷ r
-itemDues single (x ∷ xs) r = due (forItem single) (item x) ∷ itemDues single xs r
+unfoldable pub itemDues : Context → List Item → List Due → List Due
+itemDues c [] r = due c closeGroup ∷ r
+itemDues c (x ∷ xs) r = due c (item x) ∷ itemDues c xs r
 
--- an account file's groups, each with the exact sum of its items as its total, and the line that closes it
-unfoldable pub groupDues : List Group → List Due → List Due
-groupDues [] r = due forGroup closeFile ∷ r
-groupDues (g ∷ gs) r =
-    due forGroup (group (g .payer) (sum (g .items)) (g .date)) ∷ itemDues (isNobody (g .payer)) (g .items) (groupDues gs r)
+-- the groups of an account file of that kind, each with the exact sum of its items as its total, and the line that closes it
+unfoldable pub groupDues : ℕ → List Group → List Due → List Due
+groupDues kind [] r = due (forGroup kind) closeFile ∷ r
+groupDues kind (g ∷ gs) r =
+    due (forGroup kind) (group (g .payer) (sum (g .items)) (g .date))
+    ∷ itemDues (forItem kind (g .date) (isNobody (g .payer))) (g .items) (groupDues kind gs r)
 
 -- account files; `seen` are the first three digits of earlier numbers
 unfoldable pub fileDues : Header → List ℕ → List AccountFile → List Due
 fileDues h seen [] = []
 fileDues h seen (f ∷ fs) =
-    due (forFile h seen) (file (f .kind) (f .number)) ∷ groupDues (f .groups) (fileDues h (series (f .number) ∷ seen) fs)
+    due (forFile h seen) (file (f .kind) (f .number)) ∷ groupDues (f .kind) (f .groups) (fileDues h (series (f .number) ∷ seen) fs)
 
 -- the first line, then the account files
 unfoldable pub dues : Header → Batch → List Due

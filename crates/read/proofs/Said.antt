@@ -7,8 +7,8 @@ use Rattle.sheet.specs.declared.Sheet.{Sheet}
 use Rattle.paper.specs.Batch.{Batch, Header}
 use Rattle.paper.specs.Lines.{Line, linesOf}
 use Rattle.paper.specs.Entries.{Entry, head, file, group, item, closeGroup, closeFile, Said}
-use Rattle.paper.specs.Spells.{Context, forItem, readLine, Due, dues, SaysEntry, Each}
-use Rattle.paper.specs.Rows.{singleAfter, singleBehind}
+use Rattle.paper.specs.Spells.{Context, readLine, Due, dues, SaysEntry, Each}
+use Rattle.paper.specs.Rows.{accepted, singleAfter, singleBehind}
 use Rattle.paper.specs.Judge.{Accepted, judge}
 use Rattle.exact.proofs.Main.{exact}
 use Rattle.rowlaws.proofs.Within.{head-again, file-line-again, group-again, item-again, group-end-again, file-end-again}
@@ -19,7 +19,7 @@ use Rattle.filling.specs.Judged.{AllSaid}
 -- one line: it says the same in the context of an item, and so do the lines behind it (P)
 module _ (sh : Sheet) (today : ℕ) (s : List ℕ) (b : Bool) (P : Bool → Type 0) where
   abbrev said : Said
-  said = readLine sh today (forItem b) s
+  said = readLine sh today (accepted b) s
 
   abbrev Goes : Type 0
   Goes = (isSaid said ≡ true) × P (singleBehind b said)

@@ -5,6 +5,7 @@ use mathlib.Core.List.{List, []}
 use Prim.Native.Nat.{ℕ, _+_, _-_}
 use lib.Dec.{ltb}
 use lib.ListN.{take, drop}
+use borrow.Author.Tests.{eq-eqb, ne-eqb}
 use Rattle.base.specs.Pick.{pick}
 use Rattle.base.specs.Seek.{seek}
 use Rattle.sheet.specs.declared.Style.{Style}
@@ -16,15 +17,16 @@ use Rattle.paper.specs.Days.{dueAllowed}
 use Rattle.paper.specs.Amounts.{amountProper}
 use Rattle.paper.specs.Texts.{lacks, partCarried, nameCarried}
 use Rattle.paper.specs.Batch.{Header}
-use Rattle.paper.specs.FileLine.{numberAllowed}
+use Rattle.paper.specs.FileLine.{numberFault, numberAllowed}
+use Rattle.paper.specs.Proper.{Verdict, wrong, check}
 use Rattle.seen.specs.Bits.{Holds}
 use Rattle.span.specs.declared.Span.{Span}
-use Rattle.fileline.specs.Free.{numberFree}
-use Rattle.fileline.proofs.Set.{free-allowed}
+use Rattle.fileline.specs.Fault.{faultIn}
+use Rattle.fileline.proofs.Set.{same-fault}
 use Rattle.rowread.specs.Told.{textOfSpan}
 use Rattle.span.specs.Held.{Within}
 use Rattle.rowread.proofs.Laws.{text-within, cut-is}
-use Rattle.rowread.proofs.Fields.{passes, fails}
+use Rattle.rowread.proofs.Fields.{holds, lacks as without, passes, fails}
 
 -- a test by the limits that a sheet gave is a test by the sheet's
 module _ (sh : Sheet) (l : Limits) (of : LimitsOf sh l) (t : Bool) where
@@ -34,11 +36,26 @@ module _ (sh : Sheet) (l : Limits) (of : LimitsOf sh l) (t : Bool) where
   pub amount-limit : (v : ℕ) → t ≡ amountProper (l .amount) v → t ≡ amountProper (sh .itemmax) v
   amount-limit v e = rw (of .amount) at e
 
--- the set of words stands for the list that it holds
-pub free-number : (interval : Bool) (from to : ℕ) (words : List ℕ) (n : ℕ) (r : Bool) → r ≡ numberFree interval from to words n
-    → (h : Header) (l : List ℕ) → h .from ≡ from → h .to ≡ to → Holds words l → r ≡ numberAllowed interval h l n
-free-number interval from to words n r e h l f t g =
-    rw (← f, ← t) at e ∙ ap (λ (p : ℕ → Bool). p n) (free-allowed interval h words l g)
+-- the set of words stands for the list that it holds: r is the refusal that the number gets by them
+module _ (interval : Bool) (from to : ℕ) (words : List ℕ) (n r : ℕ) (e : r ≡ faultIn interval from to words n)
+    (h : Header) (l : List ℕ) (f : h .from ≡ from) (t : h .to ≡ to) (g : Holds words l) where
+  by-list : r ≡ numberFault interval h l n
+  by-list = rw (← f, ← t) at e ∙ ap (λ (p : ℕ → ℕ). p n) (same-fault interval h words l g)
+
+  number-free : r ≡ 0 → numberAllowed interval h l n ≡ true
+  unfolding numberAllowed
+  number-free z = eq-eqb _ _ (sym by-list ∙ z)
+
+  number-taken : (r ≡ 0 → ⊥) → numberAllowed interval h l n ≡ false
+  unfolding numberAllowed
+  number-taken z = ne-eqb _ _ (λ q. z (by-list ∙ q))
+
+  module _ (k : ℕ) (v rest : Verdict) where
+    pub number-passes : r ≡ 0 → v ≡ rest → v ≡ check k 2 (numberAllowed interval h l n) rest
+    number-passes z q = holds k 2 v rest _ (number-free z) q
+
+    pub number-fails : (r ≡ 0 → ⊥) → v ≡ wrong k 2 → v ≡ check k 2 (numberAllowed interval h l n) rest
+    number-fails z q = without k 2 v rest _ (number-taken z) q
 
 -- an empty part is carried
 empty : (a b : Bool) → true ≡ pick (pick a true (null {A = ℕ} [])) (pick b (lacks mark []) true) false
@@ -65,6 +82,6 @@ module _ (y : Style) (t : List ℕ) (p : Span) (w : Within t p) where
       let f : textOfSpan t p ≡ [] = text-within t p w ∙ ap (λ (n : ℕ). take n (drop (p .at) t)) e in
       blank-carried y i ∙ ap (partCarried y i) (sym f)
 
-pub ruleset steps = (passes, fails)
+pub ruleset steps = (passes, fails, number-passes, number-fails)
 
 pub ruleset texts = (part-here, name-here, part-blank)

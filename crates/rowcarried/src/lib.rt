@@ -22,7 +22,7 @@ ghost use Rattle.span.specs.Held.{Within};
 ghost use Rattle.rowread.specs.Sized.{Inside, Sized};
 ghost use Rattle.rowread.specs.After.{after};
 
-// An account file: its kind is one of the sheet's, and its number is free.
+// An account file: its kind is one of the sheet's, and its number is not refused.
 pub fn file_carried(sh: Sheet, from: u64, to: u64, seen: Seen, kind: u64, number: u64) -> Check
     requires { ⌜ number < 1000000 ⌝ }
     ensures { λ r. ⌜ ((h : Header) (l : List ℕ) → h .from ≡ from → h .to ≡ to → Holds (seen .words) l → (k : ℕ) (rest : Verdict)
@@ -32,11 +32,11 @@ pub fn file_carried(sh: Sheet, from: u64, to: u64, seen: Seen, kind: u64, number
     if !known {
         return Check::Wrong(1);
     }
-    let free = fileline::number_free(sh.interval, from, to, seen, number);
-    if !free {
-        return Check::Wrong(2);
+    let fault = fileline::number_fault(sh.interval, from, to, seen, number);
+    if fault == 0 {
+        return Check::Fine;
     }
-    Check::Fine
+    Check::Wrong(2)
 }
 
 // A group: its due day is one that the sheet takes today.

@@ -12,7 +12,7 @@ use Rattle.paper.specs.Days.{readDue}
 use Rattle.paper.specs.Accounts.{Account, nobody, readAccount, readPayer, accountProper, isNobody}
 use Rattle.paper.specs.BankField.{Bank, readBank}
 use Rattle.paper.specs.FileLine.{readKind, readNumber}
-use Rattle.given.proofs.Sound.{tested}
+use Rattle.given.proofs.Sound.{tested, number-tested}
 use Rattle.calendar.proofs.Real.{parts}
 use Rattle.calendar.proofs.Sound.{due-sound}
 use Rattle.account.proofs.Proper.{proper-prefix, proper-base, nobody-is}
@@ -44,9 +44,8 @@ module _ (s : List ℕ) where
   unfolding readKind
   kind-below sh v e = tested 4 4 7 (kindAllowed sh) s v e .0
 
-  pub number-below : (allowed : ℕ → Bool) (v : ℕ) → readNumber allowed s ≡ value v → v < 1000000
-  unfolding readNumber
-  number-below allowed v e = tested 6 6 9 allowed s v e .0
+  pub number-below : (test : ℕ → ℕ) (v : ℕ) → readNumber test s ≡ value v → v < 1000000
+  number-below test v e = number-tested test s v e .0
 
   pub due-below : (long early : Bool) (ahead today v : ℕ) → readDue long early ahead today s ≡ value v → v < 100000000
   due-below long early ahead today v e = let p = parts v (due-sound long s early ahead today v e .0) in omega (arith, p .to)

@@ -5,13 +5,13 @@ use mathlib.Core.List.{List, [], _∷_, _++_}
 use Prim.Native.Nat.{ℕ, suc}
 use lib.ListN.{length}
 use Rattle.sheet.specs.declared.Sheet.{Sheet}
-use Rattle.paper.specs.Accounts.{Account}
+use Rattle.paper.specs.Accounts.{Account, isNobody}
 use Rattle.paper.specs.Batch.{Item, Group, AccountFile, Batch, Header, Thing, aFile, aGroup, anItem, itemThings, groupThings, things}
 use Rattle.paper.specs.Lines.{Line, linesOf}
 use Rattle.paper.specs.Entries.{Entry, head, file, group, item, closeGroup, closeFile, got}
 use Rattle.paper.specs.FileLine.{series}
-use Rattle.paper.specs.Spells.{Context, forItem, singleIn, readAs, readLine, Due, itemDues, groupDues, fileDues, dues, SaysEntry, Each}
-use Rattle.paper.specs.Rows.{thingsIn, fileRow, groupRow, itemRow, entryRow, lineRow, singleAfter, singleBehind, linesRows}
+use Rattle.paper.specs.Spells.{Context, forItem, readAs, readLine, Due, itemDues, groupDues, fileDues, dues, SaysEntry, Each}
+use Rattle.paper.specs.Rows.{thingsIn, fileRow, groupRow, itemRow, entryRow, lineRow, singleAfter, singleBehind, accepted, linesRows}
 use Rattle.line.proofs.Places.{Stands, Stand}
 use Rattle.exact.proofs.Told.{told-line, kind-file, kind-group, kind-item}
 use Rattle.rowlaws.specs.Places.{Here}
@@ -43,7 +43,7 @@ abbrev pub Meets : Bool → Context → Entry → Type 0
 Meets b c (head h) = Unit {0}
 Meets b c (file k n) = Unit {0}
 Meets b c (group p t d) = Unit {0}
-Meets b c (item x) = singleIn c ≡ b
+Meets b c (item x) = c .single ≡ b
 Meets b c closeGroup = Unit {0}
 Meets b c closeFile = Unit {0}
 
@@ -80,7 +80,7 @@ module _ (sh : Sheet) (today : ℕ) (f : List ℕ) where
     abbrev Front : Entry → Type 0
     Front e =
         Rows f (m (singleAfter b e)) ts
-        → Rows f (lineRow (t .start) (readLine sh today (forItem b) (t .bytes)) ++ m (singleBehind b (readLine sh today (forItem b) (t .bytes)))) (entryThings e ts)
+        → Rows f (lineRow (t .start) (readLine sh today (accepted b) (t .bytes)) ++ m (singleBehind b (readLine sh today (accepted b) (t .bytes)))) (entryThings e ts)
 
     one : (c : Context) (e : Entry) (w : ℕ) → Meets b c e → SaysEntry sh today (t .bytes) c e w → Front e
     unfolding lineRow entryRow singleAfter singleBehind entryThings
@@ -107,20 +107,21 @@ module _ (sh : Sheet) (today : ℕ) (f : List ℕ) where
 
 -- ---- a batch's lines: items in their groups' contexts
 
-runs-items : (b : Bool) (xs : List Item) (r : List Due) → Runs b r → Runs b (itemDues b xs r)
-unfolding itemDues singleAfter singleIn
-runs-items b [] r h = (tt, h)
-runs-items b (x ∷ xs) r h = (refl, runs-items b xs r h)
+runs-items : (c : Context) (xs : List Item) (r : List Due) → Runs (c .single) r → Runs (c .single) (itemDues c xs r)
+unfolding itemDues singleAfter
+runs-items c [] r h = (tt, h)
+runs-items c (x ∷ xs) r h = (refl, runs-items c xs r h)
 
-runs-groups : (b : Bool) (gs : List Group) (r : List Due) → ((i : Bool) → Runs i r) → Runs b (groupDues gs r)
+runs-groups : (kind : ℕ) (b : Bool) (gs : List Group) (r : List Due) → ((i : Bool) → Runs i r) → Runs b (groupDues kind gs r)
 unfolding groupDues singleAfter
-runs-groups b [] r h = (tt, h b)
-runs-groups b (g ∷ gs) r h = (tt, runs-items _ (g .items) _ (runs-groups _ gs r h))
+runs-groups kind b [] r h = (tt, h b)
+runs-groups kind b (g ∷ gs) r h =
+    (tt, runs-items (forItem kind (g .date) (isNobody (g .payer))) (g .items) _ (runs-groups kind _ gs r h))
 
 runs-files : (h : Header) (seen : List ℕ) (fs : List AccountFile) (b : Bool) → Runs b (fileDues h seen fs)
 unfolding fileDues singleAfter
 runs-files h seen [] b = tt
-runs-files h seen (f ∷ fs) b = (tt, runs-groups b (f .groups) _ (runs-files h (series (f .number) ∷ seen) fs))
+runs-files h seen (f ∷ fs) b = (tt, runs-groups (f .kind) b (f .groups) _ (runs-files h (series (f .number) ∷ seen) fs))
 
 pub runs-batch : (h : Header) (b : Batch) → Runs false (dues h b)
 unfolding dues singleAfter
@@ -128,24 +129,24 @@ runs-batch h b = (tt, runs-files h [] b false)
 
 -- ---- and its things
 
-things-items : (b : Bool) (xs : List Item) (r : List Due) → dueThings (itemDues b xs r) ≡ itemThings xs (dueThings r)
+things-items : (c : Context) (xs : List Item) (r : List Due) → dueThings (itemDues c xs r) ≡ itemThings xs (dueThings r)
 unfolding itemDues itemThings dueThings entryThings
-things-items b [] r = refl
-things-items b (x ∷ xs) r = ap (λ (l : List Thing). anItem x ∷ l) (things-items b xs r)
+things-items c [] r = refl
+things-items c (x ∷ xs) r = ap (λ (l : List Thing). anItem x ∷ l) (things-items c xs r)
 
-things-groups : (gs : List Group) (r : List Due) → dueThings (groupDues gs r) ≡ groupThings gs (dueThings r)
+things-groups : (kind : ℕ) (gs : List Group) (r : List Due) → dueThings (groupDues kind gs r) ≡ groupThings gs (dueThings r)
 unfolding groupDues groupThings dueThings entryThings
-things-groups [] r = refl
-things-groups (g ∷ gs) r =
+things-groups kind [] r = refl
+things-groups kind (g ∷ gs) r =
     ap (λ (l : List Thing). aGroup (g .date) (g .payer) ∷ l)
-    (things-items _ (g .items) (groupDues gs r) ∙ ap (itemThings (g .items)) (things-groups gs r))
+    (things-items _ (g .items) (groupDues kind gs r) ∙ ap (itemThings (g .items)) (things-groups kind gs r))
 
 things-files : (h : Header) (seen : List ℕ) (fs : List AccountFile) → dueThings (fileDues h seen fs) ≡ things fs
 unfolding fileDues things dueThings entryThings
 things-files h seen [] = refl
 things-files h seen (f ∷ fs) =
     ap (λ (l : List Thing). aFile (f .kind) (f .number) ∷ l)
-    (things-groups (f .groups) _ ∙ ap (groupThings (f .groups)) (things-files h (series (f .number) ∷ seen) fs))
+    (things-groups (f .kind) (f .groups) _ ∙ ap (groupThings (f .groups)) (things-files h (series (f .number) ∷ seen) fs))
 
 -- the rows of a file that spells a batch are those of the batch
 pub batch-rows : (sh : Sheet) (today : ℕ) (f : List ℕ) (h : Header) (b : Batch) (w : ℕ)

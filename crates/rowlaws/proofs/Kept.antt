@@ -1,6 +1,6 @@
 -- What an accepted line says, with its places: an item's texts stand in the line, and its numbers are small. Assumes nothing.
 use mathlib.Core.Path.{_≡_, refl}
-use mathlib.Core.Bool.{Bool, true, false}
+use mathlib.Core.Bool.{Bool, false}
 use mathlib.Core.List.{List}
 use Prim.Native.Nat.{ℕ, _<_}
 use lib.ListN.{drop}
@@ -60,10 +60,10 @@ account-kept : (joined : Bool) (least : ℕ) {named : Bool} {a : Account} → Pa
 account-kept joined least (stands {a} f) = account-short (f .0) joined least a (f .1)
 account-kept joined least lacks = nobody-short
 
-keeps : (sh : Sheet) {today : ℕ} {allowed : ℕ → Bool} {single : Bool} {w : List ℕ} {kind : Kind} {r : Said} → LineSays sh today allowed single w kind r → Kept w r
+keeps : (sh : Sheet) {today : ℕ} {test : ℕ → ℕ} {single : Bool} {w : List ℕ} {kind : Kind} {r : Said} → LineSays sh today test single w kind r → Kept w r
 keeps sh (no-header _) = tt
 keeps sh (a-header _ _ _ _ _ _ _) = tt
-keeps sh {allowed = allowed} (a-file {kind = k} {number = n} f g _ _) = (kind-below (f .0) sh k (f .1), number-below (g .0) allowed n (g .1))
+keeps sh {test = test} (a-file {kind = k} {number = n} f g _ _) = (kind-below (f .0) sh k (f .1), number-below (g .0) test n (g .1))
 keeps sh {today} (a-group {date = date} p _ d _ _) =
     (payer-kept (sh .emptypayer) (sh .zeropayer) (sh .joined) (sh .basemin) p, due-below (d .0) (sh .longdate) (sh .early) (sh .ahead) today date (d .1))
 keeps sh (an-item {payee = payee} {variable = variable} {bank = bank} {texts = texts} p f a v b _ s t) =
@@ -89,11 +89,11 @@ keeps sh (refused _ _) = tt
 -- ---- a line that was read
 
 module _ (sh : Sheet) (w : List ℕ) (v : ℕ) (spots : List ℕ) where
-  pub kept-file : (allowed : ℕ → Bool) (k n : ℕ) → readFile sh allowed w ≡ got (file k n) v spots → (k < 10000) × (n < 1000000)
-  kept-file allowed k n e = rw e at (keeps sh (file-says sh 0 allowed false w))
+  pub kept-file : (test : ℕ → ℕ) (k n : ℕ) → readFile sh test w ≡ got (file k n) v spots → (k < 10000) × (n < 1000000)
+  kept-file test k n e = rw e at (keeps sh (file-says sh 0 test false w))
 
   pub kept-group : (today : ℕ) (p : Account) (t d : ℕ) → readGroup sh today w ≡ got (group p t d) v spots → Short p × (d < 100000000)
-  kept-group today p t d e = rw e at (keeps sh (group-says sh today (λ _. true) false w))
+  kept-group today p t d e = rw e at (keeps sh (group-says sh today (λ _. 0) false w))
 
   pub kept-item : (single : Bool) (x : Item) → readItem sh single w ≡ got (item x) v spots → KeptItem w x spots
-  kept-item single x e = rw e at (keeps sh (item-says sh 0 (λ _. true) single w))
+  kept-item single x e = rw e at (keeps sh (item-says sh 0 (λ _. 0) single w))

@@ -10,8 +10,8 @@ use Rattle.paper.specs.Batch.{Item}
 use Rattle.paper.specs.Texts.{Piece}
 use Rattle.paper.specs.Lines.{Line}
 use Rattle.paper.specs.Entries.{head, file, group, item, closeGroup, closeFile, Said, got, no}
-use Rattle.paper.specs.Spells.{Context, forItem, readAs, readLine}
-use Rattle.paper.specs.Rows.{blanks, fileRow, groupRow, textsWords, itemRow, entryRow, lineRow, singleBehind, linesRows}
+use Rattle.paper.specs.Spells.{Context, readAs, readLine}
+use Rattle.paper.specs.Rows.{blanks, fileRow, groupRow, textsWords, itemRow, entryRow, lineRow, singleBehind, accepted, linesRows}
 use Rattle.exact.proofs.Told.{told-line, kind-item}
 use Rattle.rowlaws.specs.Sizes.{Long}
 use Rattle.rowlaws.proofs.Kept.{KeptItem, kept-item}
@@ -63,6 +63,6 @@ pub lines-long : (sh : Sheet) (today : ℕ) (b : Bool) (ls : List Line) → Long
 unfolding linesRows
 lines-long sh today b [] = tt
 lines-long sh today b (t ∷ ls) =
-    let r = readLine sh today (forItem b) (t .bytes) in
+    let r = readLine sh today (accepted b) (t .bytes) in
     long-append (lineRow (t .start) r) (linesRows sh today (singleBehind b r) ls)
-    (line-long sh today (forItem b) (t .start) (t .bytes)) (lines-long sh today (singleBehind b r) ls)
+    (line-long sh today (accepted b) (t .start) (t .bytes)) (lines-long sh today (singleBehind b r) ls)

@@ -1,8 +1,9 @@
 -- A line that is accepted says the same where any account file's number is allowed: so the second reading needs no header. Assumes nothing.
 use mathlib.Core.Path.{_≡_, refl}
-use mathlib.Core.Bool.{Bool, true}
+use mathlib.Core.Bool.{Bool}
 use mathlib.Core.List.{List, [], _∷_}
 use Prim.Native.Nat.{ℕ}
+use lib.Dec.{eqb}
 use Rattle.base.specs.Pick.{pick}
 use Rattle.base.proofs.Cases.{either}
 use Rattle.sheet.specs.declared.Sheet.{Sheet}
@@ -12,7 +13,8 @@ use Rattle.paper.specs.Batch.{Item, Header}
 use Rattle.paper.specs.Accounts.{Account}
 use Rattle.paper.specs.Entries.{Entry, head, file, group, item, closeGroup, closeFile, Said, got, no, onField, field, gap}
 use Rattle.paper.specs.FileLine.{readNumber, readFile}
-use Rattle.paper.specs.Spells.{Context, forItem, allowedIn, singleIn, readAs, readLine}
+use Rattle.paper.specs.Spells.{Context, numberTest, readAs, readLine}
+use Rattle.paper.specs.Rows.{accepted}
 use Rattle.exact.proofs.Told.{told-line, kind-head, kind-file, kind-group, kind-item, kind-group-end, kind-file-end}
 
 -- the first reading is refused, or the second is the same
@@ -53,43 +55,43 @@ unfolding given
 within-given (value v) h = h v
 within-given (fault n) h = fails
 
-within-number : (allowed : ℕ → Bool) (s : List ℕ) → WithinField (readNumber allowed s) (readNumber (λ n. true) s)
+within-number : (test : ℕ → ℕ) (s : List ℕ) → WithinField (readNumber test s) (readNumber (λ n. 0) s)
 unfolding readNumber pick
-within-number allowed s = within-given _ λ n. either (λ r. WithinField r (value n)) (allowed n) (λ _. alike) (λ _. fails)
+within-number test s = within-given _ λ n. either (λ r. WithinField r (value n)) (eqb (test n) 0) (λ _. alike) (λ _. fails)
 
-within-file : (sh : Sheet) (allowed : ℕ → Bool) (s : List ℕ) → Within (readFile sh allowed s) (readFile sh (λ n. true) s)
+within-file : (sh : Sheet) (test : ℕ → ℕ) (s : List ℕ) → Within (readFile sh test s) (readFile sh (λ n. 0) s)
 unfolding readFile
-within-file sh allowed s =
-    within-field _ _ _ _ alike λ kind a1 s1. within-gap a1 s1 λ a2 s2. within-field _ _ a2 s2 (within-number allowed _) λ number a3 s3. same
+within-file sh test s =
+    within-field _ _ _ _ alike λ kind a1 s1. within-gap a1 s1 λ a2 s2. within-field _ _ a2 s2 (within-number test _) λ number a3 s3. same
 
 -- what is accepted of an account file's line is so with any number allowed
-pub file-again : (sh : Sheet) (allowed : ℕ → Bool) (s : List ℕ) (e : Entry) (v : ℕ) (spots : List ℕ)
-    → readFile sh allowed s ≡ got e v spots → readFile sh (λ n. true) s ≡ got e v spots
-file-again sh allowed s e v spots q = within-got (rw q at (within-file sh allowed s))
+pub file-again : (sh : Sheet) (test : ℕ → ℕ) (s : List ℕ) (e : Entry) (v : ℕ) (spots : List ℕ)
+    → readFile sh test s ≡ got e v spots → readFile sh (λ n. 0) s ≡ got e v spots
+file-again sh test s e v spots q = within-got (rw q at (within-file sh test s))
 
--- ---- any line, read in the context of an item
+-- ---- any line, read in the context of lines that are accepted
 
 module _ (sh : Sheet) (today : ℕ) (c : Context) (b : Bool) (s : List ℕ) (v : ℕ) (spots : List ℕ) where
-  pub head-again : (h : Header) → readLine sh today c s ≡ got (head h) v spots → readLine sh today (forItem b) s ≡ got (head h) v spots
+  pub head-again : (h : Header) → readLine sh today c s ≡ got (head h) v spots → readLine sh today (accepted b) s ≡ got (head h) v spots
   unfolding readLine readAs
   head-again h q = let k = kind-head (told-line sh today c s _ q) in rw k (rw k at q)
 
-  pub file-line-again : (k n : ℕ) → readLine sh today c s ≡ got (file k n) v spots → readLine sh today (forItem b) s ≡ got (file k n) v spots
-  unfolding readLine readAs allowedIn
-  file-line-again k n q = let i = kind-file (told-line sh today c s _ q) in rw i (file-again sh (allowedIn sh c) s (file k n) v spots (rw i at q))
+  pub file-line-again : (k n : ℕ) → readLine sh today c s ≡ got (file k n) v spots → readLine sh today (accepted b) s ≡ got (file k n) v spots
+  unfolding readLine readAs numberTest
+  file-line-again k n q = let i = kind-file (told-line sh today c s _ q) in rw i (file-again sh (numberTest sh (c .numbers)) s (file k n) v spots (rw i at q))
 
-  pub group-again : (p : Account) (t d : ℕ) → readLine sh today c s ≡ got (group p t d) v spots → readLine sh today (forItem b) s ≡ got (group p t d) v spots
+  pub group-again : (p : Account) (t d : ℕ) → readLine sh today c s ≡ got (group p t d) v spots → readLine sh today (accepted b) s ≡ got (group p t d) v spots
   unfolding readLine readAs
   group-again p t d q = let k = kind-group (told-line sh today c s _ q) in rw k (rw k at q)
 
-  pub item-again : (x : Item) → singleIn c ≡ b → readLine sh today c s ≡ got (item x) v spots → readLine sh today (forItem b) s ≡ got (item x) v spots
-  unfolding readLine readAs singleIn
+  pub item-again : (x : Item) → c .single ≡ b → readLine sh today c s ≡ got (item x) v spots → readLine sh today (accepted b) s ≡ got (item x) v spots
+  unfolding readLine readAs
   item-again x e q = let k = kind-item (told-line sh today c s _ q) in rw k (rw (k, e) at q)
 
-  pub group-end-again : readLine sh today c s ≡ got closeGroup v spots → readLine sh today (forItem b) s ≡ got closeGroup v spots
+  pub group-end-again : readLine sh today c s ≡ got closeGroup v spots → readLine sh today (accepted b) s ≡ got closeGroup v spots
   unfolding readLine readAs
   group-end-again q = let k = kind-group-end (told-line sh today c s _ q) in rw k (rw k at q)
 
-  pub file-end-again : readLine sh today c s ≡ got closeFile v spots → readLine sh today (forItem b) s ≡ got closeFile v spots
+  pub file-end-again : readLine sh today c s ≡ got closeFile v spots → readLine sh today (accepted b) s ≡ got closeFile v spots
   unfolding readLine readAs
   file-end-again q = let k = kind-file-end (told-line sh today c s _ q) in rw k (rw k at q)

@@ -6,6 +6,7 @@ use Prim.Native.Nat.{ℕ, _*_, _+_, _≤_}
 use native.Mathlib.Omega.{arith}
 use mir.Val.{Fits}
 use mir.Syntax.{w64}
+use lib.Dec.{eqb}
 use lib.ListN.{length, take, drop}
 use Rattle.sheet.specs.declared.Sheet.{Sheet}
 use Rattle.sheet.specs.Sheets.{kindAllowed}
@@ -68,7 +69,7 @@ module _ (sh : Sheet) (s : List ℕ) (h : isSaid (readFile sh anyNumber s) ≡ t
 
   number-digits : digits 6 6 (fieldOf (drop 7 s)) ≡ value number
   unfolding readNumber
-  number-digits = tested anyNumber 9 (digits 6 6 (fieldOf (drop 7 s))) number (number-some .1)
+  number-digits = tested (λ n. eqb (anyNumber n) 0) 0 (digits 6 6 (fieldOf (drop 7 s))) number (number-some .1)
 
   number-found : found number 13 ≡ fieldAt (readNumber anyNumber) s 7
   number-found = at-value (readNumber anyNumber) s 7 number number 13 (number-some .1) refl (omega (arith, known-long 6 (drop 7 s) number number-digits))

@@ -45,7 +45,7 @@ module _ (sh : Sheet) (sane : Sane sh) where
   texts-light no-text = omega arith
   texts-light {w} (a-text at {t} e) = text-warnings (sh .text) (sane .parts-few) at (drop at w) t e
 
-  light : {today : ℕ} {allowed : ℕ → Bool} {single : Bool} {w : List ℕ} {kind : Kind} {r : Said} → LineSays sh today allowed single w kind r → Light kind r
+  light : {today : ℕ} {test : ℕ → ℕ} {single : Bool} {w : List ℕ} {kind : Kind} {r : Said} → LineSays sh today test single w kind r → Light kind r
   light (lines.no-header _) = a-head
   light (lines.a-header _ _ _ _ _ _ _) = a-head
   light (lines.a-file _ _ _ _) = a-file

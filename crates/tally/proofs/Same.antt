@@ -7,8 +7,8 @@ use lib.ListN.{length}
 use Rattle.sheet.specs.declared.Sheet.{Sheet}
 use Rattle.paper.specs.Batch.{sum, things}
 use Rattle.paper.specs.Lines.{Line, linesOf}
-use Rattle.paper.specs.Entries.{Entry, head, file, group, item, closeGroup, closeFile, Said, got, no, Kind, kindOf}
-use Rattle.paper.specs.Spells.{readAs, differs, groupItems, fileItems}
+use Rattle.paper.specs.Entries.{Entry, head, file, group, item, closeGroup, closeFile, Said, got, no, Kind, headLine, fileLine, groupLine, itemLine, groupEnd, fileEnd, kindOf}
+use Rattle.paper.specs.Spells.{Context, readAs, differs, groupItems, fileItems}
 use Rattle.paper.specs.Judge.{InGroup, State, atFirst, atFile, atGroup, atItem, stop, seen, revOn, onHead, onFile, onGroup, onItem}
 use Rattle.paper.specs.Judge as judge
 use Rattle.paper.proofs.Lists.{empty-null, length-rev, items-rev}
@@ -19,13 +19,25 @@ use Rattle.tally.proofs.Abs.{map-pick, sum-rev, groupRows-rev, fileRows
 
 -- ---- what is due, and when it is full
 
-contexts : (st : State) → judge.contextOf st ≡ numbers.contextOf (abs st)
+-- a line is read alike in a context of which two fields that its reading does not look at are left out
+alike : (sh : Sheet) (today : ℕ) (c d : Context) → c .numbers ≡ d .numbers → c .single ≡ d .single
+    → (kind : Kind) (s : List ℕ) → readAs sh today c kind s ≡ readAs sh today d kind s
+unfolding readAs
+alike sh today c d m n headLine s = refl
+alike sh today c d m n fileLine s = rw m
+alike sh today c d m n groupLine s = refl
+alike sh today c d m n itemLine s = rw n
+alike sh today c d m n groupEnd s = refl
+alike sh today c d m n fileEnd s = refl
+
+contexts : (sh : Sheet) (today : ℕ) (kind : Kind) (s : List ℕ) (st : State)
+    → readAs sh today (judge.contextOf st) kind s ≡ readAs sh today (numbers.contextOf (abs st)) kind s
 unfolding abs judge.contextOf numbers.contextOf
-contexts atFirst = refl
-contexts (atFile y) = refl
-contexts (atGroup y) = refl
-contexts (atItem y) = refl
-contexts (stop a) = refl
+contexts sh today kind s atFirst = refl
+contexts sh today kind s (atFile x) = refl
+contexts sh today kind s (atGroup x) = alike sh today _ _ refl refl kind s
+contexts sh today kind s (atItem x) = alike sh today _ _ refl refl kind s
+contexts sh today kind s (stop a) = refl
 
 dues : (kind : Kind) (st : State) → judge.isDue st kind ≡ numbers.isDue (abs st) kind
 unfolding abs judge.isDue numbers.isDue
@@ -129,7 +141,7 @@ module _ (sh : Sheet) (today k : ℕ) (t : Line) where
         saids sh k (t .start) (readAs sh today (judge.contextOf st) kind (t .bytes)) st,
         stops 15,
         stops 3,
-        contexts st,
+        contexts sh today kind (t .bytes) st,
         dues kind st,
         fulls sh kind st,
       )

@@ -87,11 +87,12 @@ abbrev pub added : Open → ℕ → Open
 added o amount =
     record { single = o .single; total = o .total; line = o .line; byte = o .byte; sum = o .sum + amount; count = o .count + 1 }
 
+-- kinds and dates are not kept: no line's reading goes by them
 unfoldable pub contextOf : Tally → Context
 contextOf tFirst = forHead
 contextOf (tFile b) = forFile (b .head) (b .seen)
-contextOf (tGroup b s) = forGroup
-contextOf (tItem b s o) = forItem (o .single)
+contextOf (tGroup b s) = forGroup 0
+contextOf (tItem b s o) = forItem 0 0 (o .single)
 contextOf (tStop a) = forHead
 
 unfoldable pub isDue : Tally → Kind → Bool

@@ -9,7 +9,7 @@ use lib.ListN.{length}
 use borrow.Author.Tests.{eqb-true, ltb-true, leb-true, lt-ltb, le-ltb, le-leb}
 use Rattle.base.specs.Pick.{pick}
 use Rattle.base.specs.Seek.{all, seek}
-use Rattle.base.proofs.Cases.{by-test, by-lt, either, either-way, pick-not, pick-false}
+use Rattle.base.proofs.Cases.{by-test, by-lt, either, either-way, pick-not, pick-true, pick-false}
 use Rattle.base.proofs.Seek.{all-cons, free-all}
 use Rattle.sheet.specs.declared.Sheet.{Sheet}
 use Rattle.sheet.specs.Sheets.{kindAllowed, bankAllowed}
@@ -24,8 +24,9 @@ use Rattle.uncut.proofs.Tests.{easier, besides}
 use Rattle.uncut.proofs.Takes.{Takes, alike, refused, read-on, not-on}
 
 -- a value is kept only where the second sheet's test is passed too
-checked : {A : Type 0} (t u : Bool) (v : A) (n : ℕ) → (t ≡ true → u ≡ true) → Takes (pick t (value v) (fault n)) (pick u (value v) (fault n))
-checked t u v n h = easier Takes t u _ h alike (λ r. refused)
+checked : {A : Type 0} (t u : Bool) (v : A) (n m : ℕ) → (t ≡ true → u ≡ true) → Takes (pick t (value v) (fault n)) (pick u (value v) (fault m))
+checked t u v n m h =
+    either (λ x. Takes x (pick u (value v) (fault m))) t (λ y. rw (pick-true (value v) (fault m) (h y)) alike) (λ _. refused)
 
 -- ---- digits
 
@@ -69,15 +70,15 @@ module _ (a b : Sheet) where
   unfolding readKind kindAllowed
   kind-takes l s =
       read-on _ _ alike λ k.
-      checked _ _ _ _ λ e. let (low, high) = pick-not (ltb k 1501) _ e in pick-false _ _ low ∙ le-leb k (b .lastkind) (omega (arith, leb-true k (a .lastkind) high))
+      checked _ _ _ _ _ λ e. let (low, high) = pick-not (ltb k 1501) _ e in pick-false _ _ low ∙ le-leb k (b .lastkind) (omega (arith, leb-true k (a .lastkind) high))
 
   pub code-takes : ((code : ℕ) → bankAllowed a code ≡ true → bankAllowed b code ≡ true) → (s : List ℕ) → Takes (readCode a s) (readCode b s)
   unfolding readCode
-  code-takes h s = read-on _ _ alike λ code. checked _ _ _ _ (h code)
+  code-takes h s = read-on _ _ alike λ code. checked _ _ _ _ _ (h code)
 
-pub number-takes : (p q : ℕ → Bool) → ((n : ℕ) → p n ≡ true → q n ≡ true) → (s : List ℕ) → Takes (readNumber p s) (readNumber q s)
+pub number-takes : (p q : ℕ → ℕ) → ((n : ℕ) → eqb (p n) 0 ≡ true → eqb (q n) 0 ≡ true) → (s : List ℕ) → Takes (readNumber p s) (readNumber q s)
 unfolding readNumber
-number-takes p q h s = read-on _ _ alike λ n. checked _ _ _ _ (h n)
+number-takes p q h s = read-on _ _ alike λ n. checked _ _ _ _ _ (h n)
 
 -- ---- accounts
 
@@ -127,7 +128,7 @@ module _ (early sooner : Bool) (p : early ≡ true → sooner ≡ true) (ahead f
 
   pub due-takes : (may can : Bool) → (may ≡ true → can ≡ true) → (s : List ℕ) → Takes (readDue may early ahead today s) (readDue can sooner further today s)
   unfolding readDue
-  due-takes may can m s = read-on _ _ (day-takes may can m s) λ d. checked _ _ _ _ (due-more d)
+  due-takes may can m s = read-on _ _ (day-takes may can m s) λ d. checked _ _ _ _ _ (due-more d)
 
 -- ---- amounts
 
@@ -146,4 +147,4 @@ module _ (may can : Bool) (c : may ≡ true → can ≡ true) (most more : ℕ) 
   unfolding readItemAmount amountProper
   item-amount-takes max max′ l =
       read-on _ _ amount-takes λ v.
-      checked _ _ _ _ λ e. let (some, low) = pick-not (ltb v 1) _ e in pick-false _ _ some ∙ le-leb v max′ (omega (arith, leb-true v max low))
+      checked _ _ _ _ _ λ e. let (some, low) = pick-not (ltb v 1) _ e in pick-false _ _ some ∙ le-leb v max′ (omega (arith, leb-true v max low))

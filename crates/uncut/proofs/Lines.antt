@@ -4,6 +4,7 @@ use mathlib.Core.Bool.{Bool, true, false}
 use mathlib.Core.List.{List, [], _∷_}
 use Prim.Native.Nat.{ℕ, _+_}
 use native.Mathlib.Omega.{arith}
+use lib.Dec.{eqb}
 use Rattle.base.specs.Pick.{pick}
 use Rattle.base.proofs.Cases.{either, either-way, pick-not, pick-false}
 use Rattle.base.proofs.Seek.{never}
@@ -17,11 +18,11 @@ use Rattle.paper.specs.Batch.{Header, noHeader}
 use Rattle.paper.specs.Texts.{Texts, readText}
 use Rattle.paper.specs.Entries.{Entry, head, file, group, item, closeGroup, closeFile, Said, got, onField, field, Kind, headLine, fileLine, groupLine, itemLine, groupEnd, fileEnd, kindOf}
 use Rattle.paper.specs.FirstLine.{readFirst}
-use Rattle.paper.specs.FileLine.{numberAllowed, readFile}
+use Rattle.paper.specs.FileLine.{numberFault, numberAllowed, readFile}
 use Rattle.paper.specs.GroupLine.{hasPayer, totalAndDate, readGroup}
 use Rattle.paper.specs.ItemLine.{isValue, readSymbol, fixedTail, afterSymbol, openTail, tail, itemOf, fromPayee, readItem}
 use Rattle.paper.specs.ClosingLine.{plusAt, readClose}
-use Rattle.paper.specs.Spells.{Context, forHead, forFile, forGroup, forItem, allowedIn, singleIn, readAs, readLine}
+use Rattle.paper.specs.Spells.{Numbers, anyNumber, after, Context, numberTest, readAs, readLine}
 use Rattle.uncut.specs.Wider.{Heads, read-alike, read-none, TextsOf, Wider}
 use Rattle.uncut.proofs.Tests.{same-test, easier, besides}
 use Rattle.uncut.proofs.Takes.{Takes, alike}
@@ -29,19 +30,14 @@ use Rattle.uncut.proofs.Fields.{kind-takes, code-takes, number-takes, a
 use Rattle.uncut.proofs.Texts.{text-takes}
 use Rattle.uncut.proofs.Kept.{turned, Kept, said-kept, refused-kept, same-kept, field-kept, on-gone, place-gone, gap-kept, end-kept}
 
--- what becomes of a context, where headers are turned
-abbrev pub turnedIn : (Header → Header) → Context → Context
-turnedIn turn forHead = forHead
-turnedIn turn (forFile h seen) = forFile (turn h) seen
-turnedIn turn forGroup = forGroup
-turnedIn turn (forItem single) = forItem single
+-- what becomes of the numbers that account files may have, where headers are turned
+abbrev turnedNumbers : (Header → Header) → Numbers → Numbers
+turnedNumbers turn anyNumber = anyNumber
+turnedNumbers turn (after h seen) = after (turn h) seen
 
-same-single : (turn : Header → Header) (c : Context) → singleIn (turnedIn turn c) ≡ singleIn c
-unfolding singleIn
-same-single turn forHead = refl
-same-single turn (forFile h seen) = refl
-same-single turn forGroup = refl
-same-single turn (forItem single) = refl
+-- .. and of a context
+abbrev pub turnedIn : (Header → Header) → Context → Context
+turnedIn turn c = record { numbers = turnedNumbers turn (c .numbers); kind = c .kind; date = c .date; single = c .single }
 
 bank-takes : (ranked ranked′ : Bool) → ranked ≡ ranked′ → (s : List ℕ) → Takes (readBank ranked s) (readBank ranked′ s)
 bank-takes ranked ranked′ e s = rw e alike
@@ -51,7 +47,7 @@ unfolding readTotal
 total-takes may can c s = amount-takes may can c 14 14 (omega arith) s
 
 any-number : (interval : Bool) (h : Header) (seen : List ℕ) (n : ℕ) → interval ≡ false → numberAllowed interval h seen n ≡ true
-unfolding numberAllowed pick
+unfolding numberAllowed numberFault pick
 any-number interval h seen n e = rw e
 
 same-number : (interval interval′ : Bool) (h g : Header) (seen : List ℕ) (n : ℕ) → interval ≡ interval′ → g ≡ h
@@ -84,19 +80,17 @@ module _ (Only : Entry → ℕ → Type 0) (turn : Header → Header) (a b : She
   number-kept (read-alike t _ _ i) h seen n e = same-number (a .interval) (b .interval) h (turn h) seen n i (t h) e
   number-kept (read-none _ _ i) h seen n e = any-number (b .interval) (turn h) seen n i
 
-  allowed-kept : (c : Context) (n : ℕ) → allowedIn a c n ≡ true → allowedIn b (turnedIn turn c) n ≡ true
-  unfolding allowedIn
-  allowed-kept forHead n e = e
-  allowed-kept (forFile h seen) n e = number-kept (wider .heads) h seen n e
-  allowed-kept forGroup n e = e
-  allowed-kept (forItem single) n e = e
+  allowed-kept : (m : Numbers) (n : ℕ) → eqb (numberTest a m n) 0 ≡ true → eqb (numberTest b (turnedNumbers turn m) n) 0 ≡ true
+  unfolding numberTest numberAllowed
+  allowed-kept anyNumber n e = e
+  allowed-kept (after h seen) n e = number-kept (wider .heads) h seen n e
 
-  file-kept : (c : Context) (s : List ℕ) → K (readFile a (allowedIn a c) s) (readFile b (allowedIn b (turnedIn turn c)) s)
+  file-kept : (m : Numbers) (s : List ℕ) → K (readFile a (numberTest a m) s) (readFile b (numberTest b (turnedNumbers turn m)) s)
   unfolding readFile
-  file-kept c s =
+  file-kept m s =
       field-kept _ _ (kind-takes a b (wider .kinds)) _ _ λ kind a1 s1.
       gap-kept a1 s1 λ a2 s2.
-      field-kept _ _ (number-takes _ _ (allowed-kept c)) a2 s2 λ number a3 s3.
+      field-kept _ _ (number-takes _ _ (allowed-kept m)) a2 s2 λ number a3 s3.
       gap-kept a3 s3 λ a4 s4.
       field-kept _ _ (code-takes a b (wider .banks)) a4 s4 λ bank a5 s5.
       end-kept a5 s5 (said-kept (file kind number) refl)
@@ -212,9 +206,9 @@ module _ (Only : Entry → ℕ → Type 0) (turn : Header → Header) (a b : She
     as-kept : (kind : Kind) (s : List ℕ) → K (readAs a today c kind s) (readAs b today (turnedIn turn c) kind s)
     unfolding readAs
     as-kept headLine s = first-kept (wider .heads) s
-    as-kept fileLine s = file-kept c s
+    as-kept fileLine s = file-kept (c .numbers) s
     as-kept groupLine s = group-kept today s
-    as-kept itemLine s = rw (same-single turn c) (item-kept (singleIn c) s)
+    as-kept itemLine s = item-kept (c .single) s
     as-kept groupEnd s = close-kept closeGroup s
     as-kept fileEnd s = close-kept closeFile s
 

@@ -1,6 +1,5 @@
 -- What the narrower of two sheets accepts, of what is let through, the wider one accepts alike. Assumes nothing.
 use mathlib.Core.Path.{_≡_, refl}
-use mathlib.Core.Bool.{Bool}
 use mathlib.Core.List.{List, [], _∷_, map}
 use Prim.Native.Nat.{ℕ}
 use native.Mathlib.Omega.{arith}
@@ -10,7 +9,7 @@ use Rattle.paper.specs.Batch.{Item, Group, AccountFile, Batch, Header}
 use Rattle.paper.specs.Lines.{Line, linesOf}
 use Rattle.paper.specs.Entries.{Entry, head, file, group, item, closeGroup, closeFile}
 use Rattle.paper.specs.FileLine.{series}
-use Rattle.paper.specs.Spells.{Context, Reads, Due, due, itemDues, groupDues, fileDues, dues, SaysEntry, Each}
+use Rattle.paper.specs.Spells.{forItem, Context, Reads, Due, due, itemDues, groupDues, fileDues, dues, SaysEntry, Each}
 use Rattle.paper.specs.Judge.{Accepted, judge}
 use Rattle.exact.proofs.Main.{exact}
 use Rattle.uncut.specs.Wider.{Wider, Throughout}
@@ -23,21 +22,22 @@ module _ (turn : Header → Header) where
   abbrev turnedDue : Due → Due
   turnedDue d = due (turnedIn turn (d .context)) (turned turn (d .entry))
 
-  items-turned : (single : Bool) (xs : List Item) (r : List Due) → map turnedDue (itemDues single xs r) ≡ itemDues single xs (map turnedDue r)
+  items-turned : (c : Context) (xs : List Item) (r : List Due) → map turnedDue (itemDues c xs r) ≡ itemDues (turnedIn turn c) xs (map turnedDue r)
   unfolding itemDues
-  items-turned single [] r = refl
-  items-turned single (x ∷ xs) r = rw (items-turned single xs r)
+  items-turned c [] r = refl
+  items-turned c (x ∷ xs) r = rw (items-turned c xs r)
 
-  groups-turned : (gs : List Group) (r : List Due) → map turnedDue (groupDues gs r) ≡ groupDues gs (map turnedDue r)
+  groups-turned : (kind : ℕ) (gs : List Group) (r : List Due) → map turnedDue (groupDues kind gs r) ≡ groupDues kind gs (map turnedDue r)
   unfolding groupDues
-  groups-turned [] r = refl
-  groups-turned (g ∷ gs) r = rw (items-turned (isNobody (g .payer)) (g .items) (groupDues gs r), groups-turned gs r)
+  groups-turned kind [] r = refl
+  groups-turned kind (g ∷ gs) r =
+      rw (items-turned (forItem kind (g .date) (isNobody (g .payer))) (g .items) (groupDues kind gs r), groups-turned kind gs r)
 
   files-turned : (h : Header) (seen : List ℕ) (fs : List AccountFile) → map turnedDue (fileDues h seen fs) ≡ fileDues (turn h) seen fs
   unfolding fileDues
   files-turned h seen [] = refl
   files-turned h seen (f ∷ fs) =
-      rw (groups-turned (f .groups) (fileDues h (series (f .number) ∷ seen) fs), files-turned h (series (f .number) ∷ seen) fs)
+      rw (groups-turned (f .kind) (f .groups) (fileDues h (series (f .number) ∷ seen) fs), files-turned h (series (f .number) ∷ seen) fs)
 
   dues-turned : (h : Header) (b : Batch) → map turnedDue (dues h b) ≡ dues (turn h) b
   unfolding dues

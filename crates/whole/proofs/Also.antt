@@ -11,7 +11,7 @@ use Rattle.paper.specs.Batch.{Item, Group, AccountFile, Header, sum, most14, Th
 use Rattle.paper.specs.FileLine.{series}
 use Rattle.paper.specs.Entries.{file, group}
 use Rattle.paper.specs.Proper.{any, fileDue, groupDue, itemDue, mayStop, Before, afterFile, afterGroup, afterItem}
-use Rattle.paper.specs.Spells.{forFile, forGroup, singleIn, Due, due, itemDues, groupDues, fileDues, groupItems, fileItems, GroupRules, FileRules}
+use Rattle.paper.specs.Spells.{forFile, forGroup, forItem, Due, due, itemDues, groupDues, fileDues, groupItems, fileItems, GroupRules, FileRules}
 use Rattle.whole.proofs.Lines.{Every, Told}
 use Rattle.whole.proofs.Good.{Good, end-also, file-also, group-also, item-also}
 
@@ -26,54 +26,54 @@ module _ (sh : Sheet) (today : ℕ) (h : Header) where
 
   -- `ds` are the entries due behind, r their rows
   module _ (seen : List ℕ) (c n m : ℕ) (few : n ≤ 99999) (all-few : m ≤ sh .fileitems) (r : List Thing) (ds : List Due) (go : Tell ds → Behind c n m seen r) where
-    items-also : (xs : List Item) (k : ℕ) (b : Before) (a : ℕ) → b .stage ≡ any → b .files ≡ c → b .items + length xs ≡ n → a + length xs ≡ m
-        → b .sum + sum xs ≤ most14 → Tell (itemDues (b .single) xs ds) → Good sh today h k b a seen (itemThings xs r)
-    unfolding itemThings itemDues sum singleIn itemDue
-    items-also [] k b a st fi it al s (_, t) = go t k b a st fi (omega arith) (omega arith)
-    items-also (x ∷ xs) k b a st fi it al s (f, t) =
+    items-also : (kind date : ℕ) (xs : List Item) (k : ℕ) (b : Before) (a : ℕ) → b .stage ≡ any → b .files ≡ c → b .items + length xs ≡ n → a + length xs ≡ m
+        → b .sum + sum xs ≤ most14 → Tell (itemDues (forItem kind date (b .single)) xs ds) → Good sh today h k b a seen (itemThings xs r)
+    unfolding itemThings itemDues sum itemDue
+    items-also kind date [] k b a st fi it al s (_, t) = go t k b a st fi (omega arith) (omega arith)
+    items-also kind date (x ∷ xs) k b a st fi it al s (f, t) =
         item-also sh today h k b a seen x (itemThings xs r) (rw st refl) (omega arith) (omega arith) (omega arith) f
-        (items-also xs (suc k) (afterItem b x) (suc a) refl fi (omega arith) (omega arith) (omega arith) t)
+        (items-also kind date xs (suc k) (afterItem b x) (suc a) refl fi (omega arith) (omega arith) (omega arith) t)
 
     -- a group, of one item or more
-    one-group : (date : ℕ) (payer : Account) (xs : List Item) (k : ℕ) (b : Before) (a : ℕ) → groupDue (b .stage) ≡ true → b .files ≡ c
+    one-group : (kind date : ℕ) (payer : Account) (xs : List Item) (k : ℕ) (b : Before) (a : ℕ) → groupDue (b .stage) ≡ true → b .files ≡ c
         → b .items + length xs ≡ n → a + length xs ≡ m → 1 ≤ length xs → sum xs ≤ most14
-        → Tell (due forGroup (group payer (sum xs) date) ∷ itemDues (isNobody payer) xs ds) → Good sh today h k b a seen (aGroup date payer ∷ itemThings xs r)
-    unfolding itemThings itemDues sum singleIn itemDue
-    one-group date payer [] k b a st fi it al some s t = absurd (omega arith)
-    one-group date payer (x ∷ xs) k b a st fi it al some s ((total, g), (f, t)) =
+        → Tell (due (forGroup kind) (group payer (sum xs) date) ∷ itemDues (forItem kind date (isNobody payer)) xs ds) → Good sh today h k b a seen (aGroup date payer ∷ itemThings xs r)
+    unfolding itemThings itemDues sum itemDue
+    one-group kind date payer [] k b a st fi it al some s t = absurd (omega arith)
+    one-group kind date payer (x ∷ xs) k b a st fi it al some s ((total, g), (f, t)) =
         group-also sh today h k b a seen date payer _ st total g
         (item-also sh today h (suc k) (afterGroup b payer) a seen x (itemThings xs r) refl (omega arith) (omega arith) (omega arith) f
-        (items-also xs (suc (suc k)) (afterItem (afterGroup b payer) x) (suc a) refl fi (omega arith) (omega arith) (omega arith) t))
+        (items-also kind date xs (suc (suc k)) (afterItem (afterGroup b payer) x) (suc a) refl fi (omega arith) (omega arith) (omega arith) t))
 
   module _ (seen : List ℕ) (c n m : ℕ) (few : n ≤ 99999) (all-few : m ≤ sh .fileitems) (r : List Thing) (ds : List Due) (go : Tell ds → Behind c n m seen r) where
-    groups-also : (gs : List Group) (k : ℕ) (b : Before) (a : ℕ) → b .stage ≡ any → b .files ≡ c → b .items + groupItems gs ≡ n → a + groupItems gs ≡ m
-        → GroupRules gs → Tell (groupDues gs ds) → Good sh today h k b a seen (groupThings gs r)
+    groups-also : (kind : ℕ) (gs : List Group) (k : ℕ) (b : Before) (a : ℕ) → b .stage ≡ any → b .files ≡ c → b .items + groupItems gs ≡ n → a + groupItems gs ≡ m
+        → GroupRules gs → Tell (groupDues kind gs ds) → Good sh today h k b a seen (groupThings gs r)
     unfolding groupThings groupDues groupItems groupDue
-    groups-also [] k b a st fi it al q (_, t) = go t k b a st fi (omega arith) (omega arith)
-    groups-also (g ∷ gs) k b a st fi it al (some, s, q) t =
-        one-group seen c (b .items + length (g .items)) (a + length (g .items)) (omega arith) (omega arith) (groupThings gs r) (groupDues gs ds)
-        (λ u j d e st′ fi′ it′ al′. groups-also gs j d e st′ fi′ (omega arith) (omega arith) q u)
-        (g .date) (g .payer) (g .items) k b a (rw st refl) fi refl refl some s t
+    groups-also kind [] k b a st fi it al q (_, t) = go t k b a st fi (omega arith) (omega arith)
+    groups-also kind (g ∷ gs) k b a st fi it al (some, s, q) t =
+        one-group seen c (b .items + length (g .items)) (a + length (g .items)) (omega arith) (omega arith) (groupThings gs r) (groupDues kind gs ds)
+        (λ u j d e st′ fi′ it′ al′. groups-also kind gs j d e st′ fi′ (omega arith) (omega arith) q u)
+        kind (g .date) (g .payer) (g .items) k b a (rw st refl) fi refl refl some s t
 
     -- the groups of an account file, one or more
-    some-groups : (gs : List Group) (k : ℕ) (b : Before) (a : ℕ) → groupDue (b .stage) ≡ true → b .files ≡ c → b .items + groupItems gs ≡ n → a + groupItems gs ≡ m
-        → 1 ≤ length gs → GroupRules gs → Tell (groupDues gs ds) → Good sh today h k b a seen (groupThings gs r)
+    some-groups : (kind : ℕ) (gs : List Group) (k : ℕ) (b : Before) (a : ℕ) → groupDue (b .stage) ≡ true → b .files ≡ c → b .items + groupItems gs ≡ n → a + groupItems gs ≡ m
+        → 1 ≤ length gs → GroupRules gs → Tell (groupDues kind gs ds) → Good sh today h k b a seen (groupThings gs r)
     unfolding groupThings groupDues groupItems
-    some-groups [] k b a st fi it al some q t = absurd (omega arith)
-    some-groups (g ∷ gs) k b a st fi it al _ (some, s, q) t =
-        one-group seen c (b .items + length (g .items)) (a + length (g .items)) (omega arith) (omega arith) (groupThings gs r) (groupDues gs ds)
-        (λ u j d e st′ fi′ it′ al′. groups-also gs j d e st′ fi′ (omega arith) (omega arith) q u)
-        (g .date) (g .payer) (g .items) k b a st fi refl refl some s t
+    some-groups kind [] k b a st fi it al some q t = absurd (omega arith)
+    some-groups kind (g ∷ gs) k b a st fi it al _ (some, s, q) t =
+        one-group seen c (b .items + length (g .items)) (a + length (g .items)) (omega arith) (omega arith) (groupThings gs r) (groupDues kind gs ds)
+        (λ u j d e st′ fi′ it′ al′. groups-also kind gs j d e st′ fi′ (omega arith) (omega arith) q u)
+        kind (g .date) (g .payer) (g .items) k b a st fi refl refl some s t
 
   -- an account file, and the rows behind it
   one-file : (seen : List ℕ) (kind number : ℕ) (gs : List Group) (r : List Thing) (ds : List Due) (k : ℕ) (b : Before) (a : ℕ)
       → fileDue (b .stage) ≡ true → b .files < 1000 → a + groupItems gs ≤ sh .fileitems → 1 ≤ length gs → groupItems gs ≤ 99999 → GroupRules gs
       → (Tell ds → Behind (b .files + 1) (groupItems gs) (a + groupItems gs) (series number ∷ seen) r)
-      → Tell (due (forFile h seen) (file kind number) ∷ groupDues gs ds) → Good sh today h k b a seen (aFile kind number ∷ groupThings gs r)
+      → Tell (due (forFile h seen) (file kind number) ∷ groupDues kind gs ds) → Good sh today h k b a seen (aFile kind number ∷ groupThings gs r)
   unfolding groupDue
   one-file seen kind number gs r ds k b a st free all-few some few q go (f, t) =
       file-also sh today h k b a seen kind number (groupThings gs r) st free f
-      (some-groups (series number ∷ seen) (b .files + 1) (groupItems gs) (a + groupItems gs) few all-few r ds go gs (suc k) (afterFile b) a
+      (some-groups (series number ∷ seen) (b .files + 1) (groupItems gs) (a + groupItems gs) few all-few r ds go kind gs (suc k) (afterFile b) a
       refl refl (omega arith) refl some q t)
 
   files-also : (seen : List ℕ) (fs : List AccountFile) (k : ℕ) (b : Before) (a : ℕ) → b .stage ≡ any → b .files + length fs ≤ 1000

@@ -16,7 +16,7 @@ use Rattle.paper.specs.Batch.{Item, Group, AccountFile, Header, most14, Thing, 
 use Rattle.paper.specs.FileLine.{series, numberAllowed}
 use Rattle.paper.specs.Proper.{fine, needGroup, needItem, fileDue, groupDue, itemDue, mayStop, Before, rowsProper, afterFile, afterGroup, afterItem}
 use Rattle.paper.specs.Carried.{itemCarried, rowsCarried}
-use Rattle.paper.specs.Spells.{forFile, allowedIn}
+use Rattle.paper.specs.Spells.{after, numberTest}
 use Rattle.paper.proofs.Verdicts.{check-on, check-only}
 use Rattle.linesound.specs.Fits.{FileFits, GroupFits, ItemFits}
 use Rattle.linesound.proofs.Items.{fits-proper, fits-carried, carried-rest, tests-fit}
@@ -43,9 +43,9 @@ module _ (sh : Sheet) (today : ℕ) (h : Header) where
     -- ---- an account file's row
 
     pub file-only : (kind number : ℕ) (ts : List Thing) → Good k b m seen (aFile kind number ∷ ts)
-        → (fileDue (b .stage) ≡ true) × (b .files < 1000) × FileFits sh (allowedIn sh (forFile h seen)) kind number
+        → (fileDue (b .stage) ≡ true) × (b .files < 1000) × FileFits sh (numberTest sh (after h seen)) kind number
         × Good (suc k) (afterFile b) m (series number ∷ seen) ts
-    unfolding rowsProper rowsCarried allowedIn
+    unfolding rowsProper rowsCarried numberTest numberAllowed
     file-only kind number ts g =
         let (d, few, kind-is, low, rest) = file-proper k b kind number ts (g .is-proper) in
         let (c0, c1) = check-only k 1 (kindAllowed sh kind) _ (g .is-carried) in
@@ -57,9 +57,9 @@ module _ (sh : Sheet) (today : ℕ) (h : Header) where
         )
 
     pub file-also : (kind number : ℕ) (ts : List Thing) → fileDue (b .stage) ≡ true → b .files < 1000
-        → FileFits sh (allowedIn sh (forFile h seen)) kind number → Good (suc k) (afterFile b) m (series number ∷ seen) ts
+        → FileFits sh (numberTest sh (after h seen)) kind number → Good (suc k) (afterFile b) m (series number ∷ seen) ts
         → Good k b m seen (aFile kind number ∷ ts)
-    unfolding rowsProper rowsCarried allowedIn
+    unfolding rowsProper rowsCarried numberTest numberAllowed
     file-also kind number ts d few f g =
         record {
           is-proper =

@@ -11,7 +11,7 @@ use Rattle.paper.specs.FileLine.{series}
 use Rattle.paper.specs.Entries.{item, closeGroup, closeFile}
 use Rattle.paper.specs.FirstLine.{spellFirst}
 use Rattle.paper.specs.Carried.{rowsCarried, batchCarried}
-use Rattle.paper.specs.Spells.{Due, itemDues, groupDues, fileDues, dues}
+use Rattle.paper.specs.Spells.{Context, Due, itemDues, groupDues, fileDues, dues}
 use Rattle.paper.specs.Canonical.{spell, textOf, canon}
 use Rattle.linesound.proofs.FirstLine.{headless}
 use Rattle.lineback.proofs.Main.{number-any}
@@ -24,20 +24,20 @@ module _ (sh : Sheet) where
   line s t = s ++ (13 ∷ 10 ∷ t)
 
   module _ (h h′ : Header) where
-    text-items : (single : Bool) (xs : List Item) (r r′ : List Due) → textOf sh r ≡ textOf sh r′ → textOf sh (itemDues single xs r) ≡ textOf sh (itemDues single xs r′)
+    text-items : (c : Context) (xs : List Item) (r r′ : List Due) → textOf sh r ≡ textOf sh r′ → textOf sh (itemDues c xs r) ≡ textOf sh (itemDues c xs r′)
     unfolding itemDues textOf
-    text-items single [] r r′ e = ap (line (spell sh closeGroup)) e
-    text-items single (x ∷ xs) r r′ e = ap (line (spell sh (item x))) (text-items single xs r r′ e)
+    text-items c [] r r′ e = ap (line (spell sh closeGroup)) e
+    text-items c (x ∷ xs) r r′ e = ap (line (spell sh (item x))) (text-items c xs r r′ e)
 
-    text-groups : (gs : List Group) (r r′ : List Due) → textOf sh r ≡ textOf sh r′ → textOf sh (groupDues gs r) ≡ textOf sh (groupDues gs r′)
+    text-groups : (kind : ℕ) (gs : List Group) (r r′ : List Due) → textOf sh r ≡ textOf sh r′ → textOf sh (groupDues kind gs r) ≡ textOf sh (groupDues kind gs r′)
     unfolding groupDues textOf
-    text-groups [] r r′ e = ap (line (spell sh closeFile)) e
-    text-groups (g ∷ gs) r r′ e = ap (line (spell sh _)) (text-items _ (g .items) (groupDues gs r) (groupDues gs r′) (text-groups gs r r′ e))
+    text-groups kind [] r r′ e = ap (line (spell sh closeFile)) e
+    text-groups kind (g ∷ gs) r r′ e = ap (line (spell sh _)) (text-items _ (g .items) (groupDues kind gs r) (groupDues kind gs r′) (text-groups kind gs r r′ e))
 
     text-files : (seen : List ℕ) (fs : List AccountFile) → textOf sh (fileDues h seen fs) ≡ textOf sh (fileDues h′ seen fs)
     unfolding fileDues textOf
     text-files seen [] = refl
-    text-files seen (f ∷ fs) = ap (line (spell sh _)) (text-groups (f .groups) _ _ (text-files (series (f .number) ∷ seen) fs))
+    text-files seen (f ∷ fs) = ap (line (spell sh _)) (text-groups (f .kind) (f .groups) _ _ (text-files (series (f .number) ∷ seen) fs))
 
     pub canon-same : sh .header ≡ false → (b : Batch) → canon sh h b ≡ canon sh h′ b
     unfolding canon dues textOf spell

@@ -9,7 +9,7 @@ use Rattle.paper.specs.Accounts.{Account}
 use Rattle.paper.specs.Batch.{Item, Group, AccountFile, Header, sum, most14, Thing, itemThings, groupThings, things}
 use Rattle.paper.specs.FileLine.{series}
 use Rattle.paper.specs.Proper.{Before, afterFile, afterGroup, afterItem}
-use Rattle.paper.specs.Spells.{singleIn, Due, itemDues, groupDues, fileDues, groupItems, fileItems, GroupRules, FileRules}
+use Rattle.paper.specs.Spells.{forItem, Due, itemDues, groupDues, fileDues, groupItems, fileItems, GroupRules, FileRules}
 use Rattle.linesound.specs.Fits.{Fits}
 use Rattle.whole.proofs.Lines.{Every}
 use Rattle.whole.proofs.Good.{Good, file-only, group-only, item-only, none-item, none-group}
@@ -30,17 +30,17 @@ module _ (sh : Sheet) (today : ℕ) (h : Header) where
     all-few : m + n ≤ max m (sh .fileitems)
     good : Good sh today h row after count seen r
 
-  items-only : (seen : List ℕ) (xs : List Item) (r : List Thing) (k : ℕ) (b : Before) (m : ℕ) → Good sh today h k b m seen (itemThings xs r)
-      → Left b m (length xs) seen r × (b .sum + sum xs ≤ max (b .sum) most14) × ((ds : List Due) → Fit ds → Fit (itemDues (b .single) xs ds))
-  unfolding itemThings itemDues sum singleIn
-  items-only seen [] r k b m g = (
+  items-only : (kind date : ℕ) (seen : List ℕ) (xs : List Item) (r : List Thing) (k : ℕ) (b : Before) (m : ℕ) → Good sh today h k b m seen (itemThings xs r)
+      → Left b m (length xs) seen r × (b .sum + sum xs ≤ max (b .sum) most14) × ((ds : List Due) → Fit ds → Fit (itemDues (forItem kind date (b .single)) xs ds))
+  unfolding itemThings itemDues sum
+  items-only kind date seen [] r k b m g = (
     record { row = k; after = b; count = m; same-files = refl; more = omega arith; all-more = omega arith; few = omega arith; all-few = omega arith; good = g },
     omega arith,
     λ ds e. (tt, e),
   )
-  items-only seen (x ∷ xs) r k b m g =
+  items-only kind date seen (x ∷ xs) r k b m g =
       let (i, s, a, f, rest) = item-only sh today h k b m seen x (itemThings xs r) g in
-      let (l, t, u) = items-only seen xs r (suc k) (afterItem b x) (suc m) rest in (
+      let (l, t, u) = items-only kind date seen xs r (suc k) (afterItem b x) (suc m) rest in (
         record {
           row = l .row;
           after = l .after;
@@ -62,18 +62,18 @@ module _ (sh : Sheet) (today : ℕ) (h : Header) where
   items-some seen [] gs fs k b payer m g = absurd (none-item sh today h k (afterGroup b payer) m seen gs fs refl g)
   items-some seen (x ∷ xs) gs fs k b payer m g = omega arith
 
-  groups-only : (seen : List ℕ) (gs : List Group) (fs : List AccountFile) (k : ℕ) (b : Before) (m : ℕ) → Good sh today h k b m seen (groupThings gs (things fs))
-      → Left b m (groupItems gs) seen (things fs) × GroupRules gs × ((ds : List Due) → Fit ds → Fit (groupDues gs ds))
+  groups-only : (kind : ℕ) (seen : List ℕ) (gs : List Group) (fs : List AccountFile) (k : ℕ) (b : Before) (m : ℕ) → Good sh today h k b m seen (groupThings gs (things fs))
+      → Left b m (groupItems gs) seen (things fs) × GroupRules gs × ((ds : List Due) → Fit ds → Fit (groupDues kind gs ds))
   unfolding groupThings groupDues groupItems
-  groups-only seen [] fs k b m g = (
+  groups-only kind seen [] fs k b m g = (
     record { row = k; after = b; count = m; same-files = refl; more = omega arith; all-more = omega arith; few = omega arith; all-few = omega arith; good = g },
     tt,
     λ ds e. (tt, e),
   )
-  groups-only seen (g ∷ gs) fs k b m i =
+  groups-only kind seen (g ∷ gs) fs k b m i =
       let (d, f, rest) = group-only sh today h k b m seen (g .date) (g .payer) (itemThings (g .items) (groupThings gs (things fs))) i in
-      let (l, s, u) = items-only seen (g .items) (groupThings gs (things fs)) (suc k) (afterGroup b (g .payer)) m rest in
-      let (n, r, v) = groups-only seen gs fs (l .row) (l .after) (l .count) (l .good) in
+      let (l, s, u) = items-only kind (g .date) seen (g .items) (groupThings gs (things fs)) (suc k) (afterGroup b (g .payer)) m rest in
+      let (n, r, v) = groups-only kind seen gs fs (l .row) (l .after) (l .count) (l .good) in
       let small : sum (g .items) ≤ most14 = omega arith in (
         record {
           row = n .row;
@@ -87,7 +87,7 @@ module _ (sh : Sheet) (today : ℕ) (h : Header) where
           good = n .good;
         },
         (items-some seen (g .items) gs fs (suc k) b (g .payer) m rest, small, r),
-        λ ds e. (f (sum (g .items)) small, u (groupDues gs ds) (v ds e)),
+        λ ds e. (f (sum (g .items)) small, u (groupDues kind gs ds) (v ds e)),
       )
 
   groups-some : (seen : List ℕ) (gs : List Group) (fs : List AccountFile) (k : ℕ) (b : Before) (m : ℕ)
@@ -103,7 +103,7 @@ module _ (sh : Sheet) (today : ℕ) (h : Header) where
   files-only seen (f ∷ fs) k b m g =
       let others = series (f .number) ∷ seen in
       let (d, n, e, rest) = file-only sh today h k b m seen (f .kind) (f .number) (groupThings (f .groups) (things fs)) g in
-      let (l, r, u) = groups-only others (f .groups) fs (suc k) (afterFile b) m rest in
+      let (l, r, u) = groups-only (f .kind) others (f .groups) fs (suc k) (afterFile b) m rest in
       let (q, a, c, v) = files-only others fs (l .row) (l .after) (l .count) (l .good) in (
         (groups-some others (f .groups) fs (suc k) b m rest, omega (arith, l .few), r, q),
         omega (arith, l .same-files),

@@ -11,8 +11,8 @@ number-at-requires c κs = search needs
 enum-known-n : tie.Need-enum-known-n
 enum-known-n c = search needs
 
-number-free-requires : tie.Need-number-free-requires
-number-free-requires c κs = search (serial-below, needs)
+number-fault-requires : tie.Need-number-fault-requires
+number-fault-requires c κs = search (serial-below, needs)
 
 enum-known-c : tie.Need-enum-known-c
 enum-known-c c = search needs
@@ -32,7 +32,7 @@ serial-at-spec =
     (tie.spec
     number-at-requires
     enum-known-n
-    number-free-requires
+    number-fault-requires
     enum-known-c
     returns
     returns-2
