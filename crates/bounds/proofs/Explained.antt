@@ -1,58 +1,30 @@
 -- How long the line of an explanation is: 65 bytes are room for every one. Assumes nothing.
 use mathlib.Core.Path.{_≡_, refl, ap}
-use mathlib.Core.List.{List, [], _∷_, _++_}
-use Prim.Native.Nat.{ℕ, _+_, _≤_, _<_}
+use mathlib.Core.List.{List}
+use Prim.Native.Nat.{ℕ, _≤_, _<_}
 use native.Mathlib.Omega.{arith}
 use lib.Dec.{eqb, ltb}
-use lib.ListN.{length, length-append}
+use lib.ListN.{length}
 use borrow.Author.Tests.{le-ltb}
 use Rattle.base.proofs.Cases.{either, pick-false}
 use Rattle.sheet.specs.declared.Sheet.{Sheet}
 use Rattle.sheet.specs.declared.Known.{Known}
 use Rattle.sheet.specs.declared.Known.the-variants as known
 use Rattle.sheet.specs.Sheets.{sheetOf}
-use Rattle.paper.specs.Bytes.{bytes}
-use Rattle.paper.specs.Numerals.{decimal}
 use Rattle.paper.specs.Days.{realDay}
 use Rattle.paper.specs.Judge.{Answer, Refused, Accepted, judge}
 use Rattle.paper.specs.Reading.{ReadAnswer, refusedAt, needs, acceptedAs, rowCount, answered, readWith}
 use Rattle.paper.specs.Writing.{WriteAnswer, drafted, writtenIn}
-use Rattle.paper.specs.Explaining.{refusedLine, acceptedLine, explained, explanation}
+use Rattle.paper.specs.Explaining.{refusedLine, explained, explanation}
 use Rattle.numeral.proofs.Long.{decimal-most}
 use Rattle.named.proofs.Main.{judge-named}
 use Rattle.linelen.proofs.Lengths.{decimal-twenty}
+use Rattle.explain.proofs.Wording.{refused-length, accepted-most}
 
--- ---- the two lines, by the digits of their numbers
+-- ---- a refusal's line with a number of two digits
 
-module _ (n l p : ℕ) where
-  refused-length : length (refusedLine n l p) ≡ 21 + length (decimal n) + length (decimal l) + length (decimal p)
-  unfolding refusedLine
-  refused-length =
-      omega (
-        arith,
-        length-append (decimal n) (bytes " line " ++ (decimal l ++ (bytes " byte " ++ (decimal p ++ (10 ∷ []))))),
-        length-append (decimal l) (bytes " byte " ++ (decimal p ++ (10 ∷ []))),
-        length-append (decimal p) (10 ∷ []),
-      )
-
-  -- whatever the numbers are,
-  pub refused-most : length (refusedLine n l p) ≤ 81
-  refused-most = omega (arith, refused-length, decimal-twenty n, decimal-twenty l, decimal-twenty p)
-
-  -- and with a number of two digits
-  refused-short : n < 100 → length (refusedLine n l p) ≤ 63
-  refused-short two = omega (arith, refused-length, decimal-most 2 n (omega arith) two, decimal-twenty l, decimal-twenty p)
-
-accepted-most : (rows w : ℕ) → length (acceptedLine rows w) ≤ 65
-unfolding acceptedLine
-accepted-most rows w =
-    omega (
-      arith,
-      decimal-twenty rows,
-      decimal-twenty w,
-      length-append (decimal rows) (bytes " warnings " ++ (decimal w ++ (10 ∷ []))),
-      length-append (decimal w) (10 ∷ []),
-    )
+refused-short : (n l p : ℕ) → n < 100 → length (refusedLine n l p) ≤ 63
+refused-short n l p two = omega (arith, refused-length n l p, decimal-most 2 n (omega arith) two, decimal-twenty l, decimal-twenty p)
 
 -- ---- an answer of reading has a number of two digits at most
 

@@ -7,7 +7,7 @@ use native.Mathlib.Omega.{arith}
 use lib.ListN.{length, drop}
 use borrow.Author.Tests.{lt-ltb, le-ltb}
 use Rattle.base.specs.Pick.{pick}
-use Rattle.base.specs.Put.{put, Wrote}
+use Rattle.base.specs.Put.{put}
 use Rattle.sheet.specs.declared.Sheet.{Sheet}
 use Rattle.sheet.specs.declared.Known.{Known}
 use Rattle.sheet.specs.declared.Known.the-variants as known
@@ -22,10 +22,13 @@ use Rattle.reading.specs.declared.Head.{Head}
 use Rattle.reading.specs.declared.FileJudged.{FileJudged}
 use Rattle.reading.specs.declared.FileJudged.the-variants as judged
 use Rattle.reading.specs.Answer as reading
+use Rattle.counted.specs.Counted.{Counted}
+use Rattle.counted.proofs.Laws.{counted-wrote}
 use Rattle.explain.specs.declared.Verdict.{Verdict}
 use Rattle.explain.specs.Told.{textAnswer}
 use Rattle.explain.specs.Wording.{verdictOf, lineOf}
 use Rattle.explain.proofs.Laws.{inBrief, day-verdict, no-day-verdict, explanation-is}
+use Rattle.explain.proofs.Wording.{line-most}
 
 -- ---- the day and the file
 
@@ -90,12 +93,9 @@ module _ (sheet today : ℕ) (f o : List ℕ) (v : Verdict) (n : ℕ) where
     unfolding writtenIn pick
     full-answer h = rw (is, ← long, le-ltb (length o) n h)
 
-    pub full-output : n ≤ length o → (o1 : List ℕ) (r : ℕ) → Wrote o 0 (lineOf v) o1 r → o1 ≡ outputAfter o (explanation sheet today f)
+    pub full-output : n ≤ length o → (o1 : List ℕ) (r : ℕ) → Counted o 0 (lineOf v) o1 r → o1 ≡ outputAfter o (explanation sheet today f)
     unfolding outputAfter pick
-    full-output h o1 r w = w .left ∙ put-front o (lineOf v) ∙ rw (is, ← long, le-ltb (length o) n h)
+    full-output h o1 r w =
+        counted-wrote w (omega (arith, line-most v)) (omega arith) .left ∙ put-front o (lineOf v) ∙ rw (is, ← long, le-ltb (length o) n h)
 
--- room for the line
-pub line-fits : (v : Verdict) (n m : ℕ) → n ≡ length (lineOf v) → n ≤ m → 0 + length (lineOf v) ≤ m
-line-fits v n m e h = omega arith
-
-pub ruleset outputs = (short-answer, short-output, full-answer, full-output, line-fits)
+pub ruleset outputs = (short-answer, short-output, full-answer, full-output)

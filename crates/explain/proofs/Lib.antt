@@ -5,5 +5,5 @@ pub mod Many
 pub mod Laws
 pub mod Determined
 pub mod Examples
-mod Wording
+pub mod Wording
 mod Exits

@@ -1,17 +1,18 @@
--- The lines by their parts: how long they are, room for each part, and the line where the parts are written. Assumes nothing.
-use mathlib.Core.Path.{_≡_, refl, sym, ap, _∙_}
+-- The lines by their parts, counted one after another, and how long they are. Assumes nothing.
+use mathlib.Core.Path.{_≡_, refl}
 use mathlib.Core.List.{List, [], _∷_, _++_}
-use Prim.Native.Nat.{ℕ, _+_, _≤_, _<_}
+use Prim.Native.Nat.{ℕ, _+_, _≤_}
 use native.Mathlib.Omega.{arith}
+use lib.Dec.{eqb}
 use lib.ListN.{length, length-append}
 use borrow.Author.Tests.{eq-eqb, ne-eqb}
-use Rattle.base.specs.Put.{Wrote}
-use Rattle.base.proofs.Put.{_then_}
-use Rattle.base.proofs.Cases.{pick-true, pick-false}
-use Rattle.put.proofs.Room.{room-first, room-then}
+use Rattle.base.proofs.Cases.{either, pick-true, pick-false}
 use Rattle.paper.specs.Bytes.{bytes}
 use Rattle.paper.specs.Numerals.{decimal}
 use Rattle.paper.specs.Explaining.{refusedLine, acceptedLine}
+use Rattle.counted.specs.Counted.{Counted}
+use Rattle.counted.proofs.Laws.{_counted-then_}
+use Rattle.linelen.proofs.Lengths.{decimal-twenty}
 use Rattle.explain.specs.declared.Verdict.{Verdict}
 use Rattle.explain.specs.Wording.{lineOf}
 
@@ -26,47 +27,26 @@ module _ (n l p : ℕ) where
   unfolding refusedLine
   refused-is = refl
 
-  -- refused_len: a, b, c are what `width` answered
-  pub refused-long : (a b c : ℕ) → a ≡ length (decimal n) → b ≡ length (decimal l) → c ≡ length (decimal p) → 21 + a + b + c ≡ length (refusedLine n l p)
-  refused-long a b c e f g =
+  -- put_refused
+  pub then-refused : {o o1 o2 o3 o4 : List ℕ} {at e f g r : ℕ} → Counted o at (said (bytes "refused ") n) o1 e
+      → Counted o1 e (said (bytes " line ") l) o2 f → Counted o2 f (said (bytes " byte ") p) o3 g → Counted o3 g (10 ∷ []) o4 r
+      → Counted o at (refusedLine n l p) o4 r
+  then-refused w v u t = rw refused-is (w counted-then v counted-then u counted-then t)
+
+  -- by the digits of its numbers,
+  pub refused-length : length (refusedLine n l p) ≡ 21 + length (decimal n) + length (decimal l) + length (decimal p)
+  unfolding refusedLine
+  refused-length =
       omega (
         arith,
-        ap length refused-is,
-        length-append (decimal n) (said (bytes " line ") l ++ (said (bytes " byte ") p ++ (10 ∷ []))),
-        length-append (decimal l) (said (bytes " byte ") p ++ (10 ∷ [])),
+        length-append (decimal n) (bytes " line " ++ (decimal l ++ (bytes " byte " ++ (decimal p ++ (10 ∷ []))))),
+        length-append (decimal l) (bytes " byte " ++ (decimal p ++ (10 ∷ []))),
         length-append (decimal p) (10 ∷ []),
       )
 
-  -- put_refused
-  module _ (o : List ℕ) (at : ℕ) (room : at + length (refusedLine n l p) ≤ length o) where
-    all-room : at + length (said (bytes "refused ") n ++ (said (bytes " line ") l ++ (said (bytes " byte ") p ++ (10 ∷ [])))) ≤ length o
-    all-room = rw refused-is at room
-
-    pub refused-room : at + length (said (bytes "refused ") n) ≤ length o
-    refused-room = room-first (said (bytes "refused ") n) _ at (length o) all-room
-
-    module _ {o1 : List ℕ} {e : ℕ} (w : Wrote o at (said (bytes "refused ") n) o1 e) where
-      line-rest : e + length (said (bytes " line ") l ++ (said (bytes " byte ") p ++ (10 ∷ []))) ≤ length o1
-      line-rest = room-then _ w all-room
-
-      pub line-room : e + length (said (bytes " line ") l) ≤ length o1
-      line-room = room-first (said (bytes " line ") l) _ e (length o1) line-rest
-
-      module _ {o2 : List ℕ} {f : ℕ} (v : Wrote o1 e (said (bytes " line ") l) o2 f) where
-        byte-rest : f + length (said (bytes " byte ") p ++ (10 ∷ [])) ≤ length o2
-        byte-rest = room-then _ v line-rest
-
-        pub byte-room : f + length (said (bytes " byte ") p) ≤ length o2
-        byte-room = room-first (said (bytes " byte ") p) _ f (length o2) byte-rest
-
-        pub refused-end : {o3 : List ℕ} {g : ℕ} → Wrote o2 f (said (bytes " byte ") p) o3 g → g < length o3
-        refused-end {o3} {g} u = omega (arith, room-then (10 ∷ []) u byte-rest)
-
-  pub then-refused : {o o1 o2 o3 o4 : List ℕ} {at e f g r : ℕ} → Wrote o at (said (bytes "refused ") n) o1 e → Wrote o1 e (said (bytes " line ") l) o2 f
-      → Wrote o2 f (said (bytes " byte ") p) o3 g → Wrote o3 g (10 ∷ []) o4 r → Wrote o at (refusedLine n l p) o4 r
-  then-refused w v u t = rw refused-is (w then v then u then t)
-
-pub ruleset refusals = (refused-long, refused-room, line-room, byte-room, refused-end, then-refused)
+  -- and whatever they are
+  pub refused-most : length (refusedLine n l p) ≤ 81
+  refused-most = omega (arith, refused-length, decimal-twenty n, decimal-twenty l, decimal-twenty p)
 
 -- ---- an accepted file
 
@@ -75,69 +55,50 @@ module _ (rows warnings : ℕ) where
   unfolding acceptedLine
   accepted-is = refl
 
-  -- accepted_len: a and b are what `width` answered
-  pub accepted-long : (a b : ℕ) → a ≡ length (decimal rows) → b ≡ length (decimal warnings) → 25 + a + b ≡ length (acceptedLine rows warnings)
-  accepted-long a b e f =
+  -- put_accepted
+  pub then-accepted : {o o1 o2 o3 : List ℕ} {at e f r : ℕ} → Counted o at (said (bytes "accepted rows ") rows) o1 e
+      → Counted o1 e (said (bytes " warnings ") warnings) o2 f → Counted o2 f (10 ∷ []) o3 r → Counted o at (acceptedLine rows warnings) o3 r
+  then-accepted w v u = rw accepted-is (w counted-then v counted-then u)
+
+  pub accepted-most : length (acceptedLine rows warnings) ≤ 65
+  unfolding acceptedLine
+  accepted-most =
       omega (
         arith,
-        ap length accepted-is,
-        length-append (decimal rows) (said (bytes " warnings ") warnings ++ (10 ∷ [])),
+        decimal-twenty rows,
+        decimal-twenty warnings,
+        length-append (decimal rows) (bytes " warnings " ++ (decimal warnings ++ (10 ∷ []))),
         length-append (decimal warnings) (10 ∷ []),
       )
-
-  -- put_accepted
-  module _ (o : List ℕ) (at : ℕ) (room : at + length (acceptedLine rows warnings) ≤ length o) where
-    whole-room : at + length (said (bytes "accepted rows ") rows ++ (said (bytes " warnings ") warnings ++ (10 ∷ []))) ≤ length o
-    whole-room = rw accepted-is at room
-
-    pub rows-room : at + length (said (bytes "accepted rows ") rows) ≤ length o
-    rows-room = room-first (said (bytes "accepted rows ") rows) _ at (length o) whole-room
-
-    module _ {o1 : List ℕ} {e : ℕ} (w : Wrote o at (said (bytes "accepted rows ") rows) o1 e) where
-      warnings-rest : e + length (said (bytes " warnings ") warnings ++ (10 ∷ [])) ≤ length o1
-      warnings-rest = room-then _ w whole-room
-
-      pub warnings-room : e + length (said (bytes " warnings ") warnings) ≤ length o1
-      warnings-room = room-first (said (bytes " warnings ") warnings) _ e (length o1) warnings-rest
-
-      pub accepted-end : {o2 : List ℕ} {f : ℕ} → Wrote o1 e (said (bytes " warnings ") warnings) o2 f → f < length o2
-      accepted-end {o2} {f} v = omega (arith, room-then (10 ∷ []) v warnings-rest)
-
-  pub then-accepted : {o o1 o2 o3 : List ℕ} {at e f r : ℕ} → Wrote o at (said (bytes "accepted rows ") rows) o1 e
-      → Wrote o1 e (said (bytes " warnings ") warnings) o2 f → Wrote o2 f (10 ∷ []) o3 r → Wrote o at (acceptedLine rows warnings) o3 r
-  then-accepted w v u = rw accepted-is (w then v then u)
-
-pub ruleset acceptances = (accepted-long, rows-room, warnings-room, accepted-end, then-accepted)
 
 -- ---- any answer
 
 module _ (v : Verdict) where
-  module _ (e : v .number ≡ 0) where
-    accepted-line : lineOf v ≡ acceptedLine (v .rows) (v .warnings)
-    unfolding lineOf
-    accepted-line = pick-true _ _ (eq-eqb (v .number) 0 e)
+  accepted-line : v .number ≡ 0 → lineOf v ≡ acceptedLine (v .rows) (v .warnings)
+  unfolding lineOf
+  accepted-line e = pick-true _ _ (eq-eqb (v .number) 0 e)
 
-    pub line-accepted : (n : ℕ) → n ≡ length (acceptedLine (v .rows) (v .warnings)) → n ≡ length (lineOf v)
-    line-accepted n g = g ∙ ap length (sym accepted-line)
+  refused-line : (v .number ≡ 0 → ⊥) → lineOf v ≡ refusedLine (v .number) (v .line) (v .byte)
+  unfolding lineOf
+  refused-line e = pick-false _ _ (ne-eqb (v .number) 0 e)
 
-    pub accepted-fits : (at m : ℕ) → at + length (lineOf v) ≤ m → at + length (acceptedLine (v .rows) (v .warnings)) ≤ m
-    accepted-fits at m h = rw accepted-line at h
+  -- put_line
+  module _ {o o1 : List ℕ} {at r : ℕ} where
+    pub line-accepted : v .number ≡ 0 → Counted o at (acceptedLine (v .rows) (v .warnings)) o1 r → Counted o at (lineOf v) o1 r
+    line-accepted e w = rw (accepted-line e) w
 
-    pub wrote-accepted : {o o1 : List ℕ} {at r : ℕ} → Wrote o at (acceptedLine (v .rows) (v .warnings)) o1 r → Wrote o at (lineOf v) o1 r
-    wrote-accepted w = rw accepted-line w
+    pub line-refused : (v .number ≡ 0 → ⊥) → Counted o at (refusedLine (v .number) (v .line) (v .byte)) o1 r → Counted o at (lineOf v) o1 r
+    line-refused e w = rw (refused-line e) w
 
-  module _ (e : v .number ≡ 0 → ⊥) where
-    refused-line : lineOf v ≡ refusedLine (v .number) (v .line) (v .byte)
-    unfolding lineOf
-    refused-line = pick-false _ _ (ne-eqb (v .number) 0 e)
+  pub line-most : length (lineOf v) ≤ 81
+  unfolding lineOf
+  line-most =
+      either (λ (s : List ℕ). length s ≤ 81) (eqb (v .number) 0)
+      (λ _. omega (arith, accepted-most (v .rows) (v .warnings)))
+      (λ _. refused-most (v .number) (v .line) (v .byte))
 
-    pub line-refused : (n : ℕ) → n ≡ length (refusedLine (v .number) (v .line) (v .byte)) → n ≡ length (lineOf v)
-    line-refused n g = g ∙ ap length (sym refused-line)
+  -- line_len
+  pub line-counted : {o o1 : List ℕ} {r : ℕ} → Counted o 0 (lineOf v) o1 r → r ≡ length (lineOf v)
+  line-counted w = omega (arith, w .next (omega (arith, line-most)))
 
-    pub refused-fits : (at m : ℕ) → at + length (lineOf v) ≤ m → at + length (refusedLine (v .number) (v .line) (v .byte)) ≤ m
-    refused-fits at m h = rw refused-line at h
-
-    pub wrote-refused : {o o1 : List ℕ} {at r : ℕ} → Wrote o at (refusedLine (v .number) (v .line) (v .byte)) o1 r → Wrote o at (lineOf v) o1 r
-    wrote-refused w = rw refused-line w
-
-pub ruleset lines = (line-accepted, accepted-fits, wrote-accepted, line-refused, refused-fits, wrote-refused)
+pub ruleset lines = (line-accepted, line-refused, line-counted)

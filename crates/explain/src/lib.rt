@@ -1,12 +1,10 @@
-// A judged file in a line of text. Which answer it is (`Verdict`) is known apart from how it is worded (`line_len`, `put_line`).
+// A judged file in a line of text. Which answer it is (`Verdict`) is known apart from how it is worded (`put_line`).
 use reading::FileJudged;
 use sheet::Known;
 use sheet::Sheet;
 ghost use mathlib.Core.Path.{_≡_};
 ghost use mathlib.Core.List.{_++_};
-ghost use Prim.Native.Nat.{_+_, _≤_};
 ghost use lib.ListN.{length};
-ghost use Rattle.base.specs.Put.{Wrote};
 ghost use Rattle.sheet.specs.declared.Known.the-variants as known;
 ghost use Rattle.sheet.specs.Sheets.{sheetOf};
 ghost use Rattle.sheet.proofs.Laws.{Sane};
@@ -14,6 +12,7 @@ ghost use Rattle.paper.specs.Numerals.{decimal};
 ghost use Rattle.paper.specs.Reading.{readWith};
 ghost use Rattle.paper.specs.Writing.{writtenIn, outputAfter};
 ghost use Rattle.paper.specs.Explaining.{refusedLine, acceptedLine, explanation};
+ghost use Rattle.counted.specs.Counted.{Counted};
 ghost use Rattle.explain.specs.Told.{textAnswer, told};
 ghost use Rattle.explain.specs.Wording.{verdictOf, lineOf};
 
@@ -90,69 +89,49 @@ pub fn verdict_for(file: &[u8], sheet: u64, today: u64) -> Verdict
 
 // ---- how it is worded
 
-// How many bytes the line of a refusal has.
-pub fn refused_len(number: u64, line: u64, byte: u64) -> usize
-    ensures { λ r. ⌜ (r ≡ length (refusedLine number line byte)) × (r ≤ 81) ⌝ }
-{
-    21 + numeral::width(number) + numeral::width(line) + numeral::width(byte)
-}
-
-// How many bytes the line of an accepted file has.
-pub fn accepted_len(rows: u64, warnings: u64) -> usize
-    ensures { λ r. ⌜ (r ≡ length (acceptedLine rows warnings)) × (r ≤ 65) ⌝ }
-{
-    25 + numeral::width(rows) + numeral::width(warnings)
-}
-
-// How many bytes the line has.
-pub fn line_len(v: Verdict) -> usize
-    ensures { λ r. ⌜ (r ≡ length (lineOf v)) × (r ≤ 81) ⌝ }
-{
-    if v.number == 0 {
-        return accepted_len(v.rows, v.warnings);
-    }
-    refused_len(v.number, v.line, v.byte)
-}
-
-// Writes a word and a number behind it.
+// A word and a number behind it.
 fn put_said(out: &mut [u8], at: usize, word: &[u8], n: u64) -> usize
-    requires { ⌜ at + length (now word ++ decimal n) ≤ length (now out) ⌝ }
-    ensures { λ r. ⌜ Wrote (now (out .entry)) at (now (word .entry) ++ decimal n) (now (out .exit)) r ⌝ }
+    ensures { λ r. ⌜ Counted (now (out .entry)) at (now (word .entry) ++ decimal n) (now (out .exit)) r ⌝ }
 {
-    let e = put::put_bytes(out, at, word);
-    numeral::put_number(out, e, n)
+    let e = counted::put_bytes(out, at, word);
+    counted::put_number(out, e, n)
 }
 
-// Writes the line of a refusal.
+// The line of a refusal.
 pub fn put_refused(out: &mut [u8], at: usize, number: u64, line: u64, byte: u64) -> usize
-    requires { ⌜ at + length (refusedLine number line byte) ≤ length (now out) ⌝ }
-    ensures { λ r. ⌜ Wrote (now (out .entry)) at (refusedLine number line byte) (now (out .exit)) r ⌝ }
+    ensures { λ r. ⌜ Counted (now (out .entry)) at (refusedLine number line byte) (now (out .exit)) r ⌝ }
 {
     let e = put_said(out, at, b"refused ", number);
     let f = put_said(out, e, b" line ", line);
     let g = put_said(out, f, b" byte ", byte);
-    put::put_byte(out, g, 10)
+    counted::put_byte(out, g, 10)
 }
 
-// Writes the line of an accepted file.
-pub fn put_accepted(out: &mut [u8], at: usize, rows: u64, warnings: u64) -> usize
-    requires { ⌜ at + length (acceptedLine rows warnings) ≤ length (now out) ⌝ }
-    ensures { λ r. ⌜ Wrote (now (out .entry)) at (acceptedLine rows warnings) (now (out .exit)) r ⌝ }
+// The line of an accepted file.
+fn put_accepted(out: &mut [u8], at: usize, rows: u64, warnings: u64) -> usize
+    ensures { λ r. ⌜ Counted (now (out .entry)) at (acceptedLine rows warnings) (now (out .exit)) r ⌝ }
 {
     let e = put_said(out, at, b"accepted rows ", rows);
     let f = put_said(out, e, b" warnings ", warnings);
-    put::put_byte(out, f, 10)
+    counted::put_byte(out, f, 10)
 }
 
-// Writes the line.
-pub fn put_line(out: &mut [u8], at: usize, v: Verdict) -> usize
-    requires { ⌜ at + length (lineOf v) ≤ length (now out) ⌝ }
-    ensures { λ r. ⌜ Wrote (now (out .entry)) at (lineOf v) (now (out .exit)) r ⌝ }
+// The line.
+fn put_line(out: &mut [u8], at: usize, v: Verdict) -> usize
+    ensures { λ r. ⌜ Counted (now (out .entry)) at (lineOf v) (now (out .exit)) r ⌝ }
 {
     if v.number == 0 {
         return put_accepted(out, at, v.rows, v.warnings);
     }
     put_refused(out, at, v.number, v.line, v.byte)
+}
+
+// How many bytes the line has: it is put where nothing is lent.
+fn line_len(v: Verdict) -> usize
+    ensures { λ r. ⌜ r ≡ length (lineOf v) ⌝ }
+{
+    let mut nothing = [0; 0];
+    put_line(&mut nothing, 0, v)
 }
 
 // ---- both

@@ -2,7 +2,7 @@
 use mathlib.Core.Path.{_≡_, sym, ap, _∙_}
 use mathlib.Core.Bool.{true}
 use mathlib.Core.List.{List}
-use Prim.Native.Nat.{ℕ, _+_, _*_, _-_, _≤_}
+use Prim.Native.Nat.{ℕ, _*_, _-_, _≤_}
 use native.Mathlib.Omega.{arith}
 use lib.ListN.{length, take, drop, length-drop}
 use Rattle.base.specs.Put.{Wrote}
@@ -22,13 +22,15 @@ use Rattle.request.specs.declared.Request.{Request}
 use Rattle.request.specs.declared.Request.the-variants as request
 use Rattle.request.specs.Asked.{answer, Sound}
 use Rattle.bounds.specs.Most.{mostInput, mostRows, mostOutput}
-use Rattle.bounds.proofs.Explained.{refused-most}
+use Rattle.counted.specs.Counted.{Counted}
+use Rattle.counted.proofs.Laws.{counted-wrote}
+use Rattle.explain.proofs.Wording.{refused-most}
 use Rattle.rewriting.proofs.Front.{wrote-same}
 use Rattle.rewriting.proofs.Read.{Outcome, refuses, accepts, outcome}
 
--- a refusal's line has room
-pub line-room : (n l p : ℕ) (o : List ℕ) → mostOutput ≤ length o → 0 + length (refusedLine n l p) ≤ length o
-line-room n l p o h = omega (arith, refused-most n l p)
+-- a refusal's line has room, so that what was counted was written
+pub line-wrote : (n l p : ℕ) {o o′ : List ℕ} {r : ℕ} → mostOutput ≤ length o → Counted o 0 (refusedLine n l p) o′ r → Wrote o 0 (refusedLine n l p) o′ r
+line-wrote n l p h w = counted-wrote w (omega (arith, refused-most n l p)) (omega (arith, refused-most n l p))
 
 -- ---- rewrite_file: a is what read_file answered, left the rows behind it
 
@@ -70,7 +72,7 @@ module _ (sh : Sheet) (today : ℕ) (f : List ℕ)
     pub refused-line : (a .number ≡ 0 → ⊥) → Wrote o 0 (refusedLine (a .number) (a .line) (a .byte)) o′ r → Wrote o 0 (rewritten sh (judge sh today f)) o′ r
     refused-line z w = line z out w
 
-pub ruleset files = (line-room, rows-few, written-back, refused-line)
+pub ruleset files = (line-wrote, rows-few, written-back, refused-line)
 
 -- ---- rewrite: q is the request
 
@@ -100,4 +102,4 @@ module _ (f : List ℕ) (q : Request) (g : answer f q ≡ rewriting f) (sound : 
         let v : Wrote o 0 (rewritten sh (judge sh today (drop at f))) o′ r = rw (rest-whole f at) at w in
         wrote-same o (rewritten sh (judge sh today (drop at f))) (rewriting f) o′ r h v
 
-pub ruleset requests = (line-room, no-file, file-place, file-sheet, file-day, file-small, file-rewritten)
+pub ruleset requests = (line-wrote, no-file, file-place, file-sheet, file-day, file-small, file-rewritten)

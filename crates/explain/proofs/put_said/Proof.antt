@@ -1,20 +1,20 @@
--- `put_said` writes a word and a number behind it.
+-- `put_said` puts a word and a number behind it.
 use borrow.Author.Needs.{needs}
-use Rattle.put.proofs.Room.{rooms}
+use Rattle.counted.proofs.Laws.{_counted-then_}
 use Rattle.explain.proofs.put_said.Statement.{statement}
 use Rattle.explain.proofs.put_said.Tie as tie
 
 put-bytes-requires : tie.Need-put-bytes-requires
-put-bytes-requires c κs = search (rooms, needs)
+put-bytes-requires c κs = search needs
 
 put-number-requires : tie.Need-put-number-requires
-put-number-requires c κs = search (rooms, needs)
+put-number-requires c κs = search needs
 
 same-length : tie.Need-same-length
 same-length c = search needs
 
 returns : tie.Need-returns
-returns c = search rooms
+returns c = search (_counted-then_)
 
 pub put-said-spec : {M : Type 1} → statement M
 put-said-spec = tie.close (tie.spec put-bytes-requires put-number-requires same-length returns)
