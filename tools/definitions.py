@@ -75,8 +75,8 @@ WRONG = [
         "a whole file, read",
         "15 would come at account file 1,000",
         "Judge",
-        "isFull sh (atFile h fs w) k = leb 1000 (length fs)",
-        "isFull sh (atFile h fs w) k = leb 999 (length fs)",
+        "isFull sh (atFile x) k = leb 1000 (length (x .files))",
+        "isFull sh (atFile x) k = leb 999 (length (x .files))",
         "exact",
     ),
     # ---- reading: fields

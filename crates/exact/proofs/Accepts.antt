@@ -8,7 +8,7 @@ use Rattle.sheet.specs.declared.Sheet.{Sheet}
 use Rattle.paper.specs.Batch.{Batch, Header}
 use Rattle.paper.specs.Lines.{Line}
 use Rattle.paper.specs.Spells.{itemDues, groupDues, fileDues, dues, fileItems}
-use Rattle.paper.specs.Judge.{Accepted, revOn, State, atFirst, atFile, atGroup, atItem, stop, step, endOf, run}
+use Rattle.paper.specs.Judge.{Accepted, State, atFirst, atFile, atGroup, atItem, stop, step, endOf, run}
 use Rattle.paper.proofs.Lists.{null-some, some-null}
 use Rattle.exact.proofs.Moves.{Next, on, halted, stays, next}
 use Rattle.exact.proofs.Completes.{refused, Completes, back, forth}

@@ -44,15 +44,15 @@ module _ (sh : Sheet) (today : ℕ) (h : Header) (b : Batch) (w : ℕ) where
       × (b ≡ revOn (x .files) (fileOf (x .opening) (revOn (x .groups) (groupOf (x .head) (revOn (x .items) mx) ∷ mg)) ∷ mf))
       × (w ≡ x .warnings + differs (x .head .total) (sum (revOn (x .items) mx)) + m)
       × Each sh today ts
-        (itemDues (contextOf (atItem x)) mx
-        (groupDues (x .opening .kind) mg (fileDues (x .header) (series (x .opening .number) ∷ seen (x .files)) mf))) m
+      (itemDues (contextOf (atItem x)) mx
+      (groupDues (x .opening .kind) mg (fileDues (x .header) (series (x .opening .number) ∷ seen (x .files)) mf))) m
       × (1 ≤ length (x .items) + length mx) × (sum (revOn (x .items) mx) ≤ most14)
       × (sh .strict ≡ true → x .head .total ≡ sum (revOn (x .items) mx))
       × (length (x .items) + groupItems (x .groups) + (length mx + groupItems mg) ≤ max (length (x .items) + groupItems (x .groups)) 99999)
       × GroupRules mg
       × (suc (length (x .files)) + length mf ≤ max (suc (length (x .files))) 1000)
       × (length (x .items) + groupItems (x .groups) + fileItems (x .files) + (length mx + groupItems mg + fileItems mf)
-        ≤ max (length (x .items) + groupItems (x .groups) + fileItems (x .files)) (sh .fileitems))
+      ≤ max (length (x .items) + groupItems (x .groups) + fileItems (x .files)) (sh .fileitems))
       × FileRules mf
   Completes ts (stop a) = a ≡ Accepted h b w
 

@@ -30,7 +30,7 @@ module _ (sh : Sheet) (today : ℕ) where
     begins : {x : InFile} {payer : Account} {total date v at : ℕ}
         → readLine sh today (contextOf (atGroup x)) (t .bytes) ≡ got (group payer total date) v (at ∷ [])
         → Moves k t (atGroup x)
-          (atItem (groupOpened x (record { payer = payer; date = date; total = total; line = k; byte = t .start + at }) v))
+        (atItem (groupOpened x (record { payer = payer; date = date; total = total; line = k; byte = t .start + at }) v))
     more : {x : InGroup} {v : ℕ} {i : Item}
         → isFull sh (atItem x) itemLine ≡ false
         → Follows sh today t (atItem x) (item i) v

@@ -2,6 +2,7 @@
 use division::first_part;
 use division::next_part;
 use field::Run;
+use field_account::Account;
 use itemline::Fields;
 use sheet::Sheet;
 use sheet::Style;
@@ -11,7 +12,6 @@ use span::Spans;
 use span::gather;
 use span::one_part;
 use span::part_at;
-use field_account::Account;
 use text::Begun;
 use text::begin_text;
 use text::name_at;

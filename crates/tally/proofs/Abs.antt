@@ -1,16 +1,13 @@
 -- Counts of lists that were kept last one first, and of the rows of a batch. Assumes nothing.
-use mathlib.Core.Path.{_≡_, refl, sym, _∙_}
+use mathlib.Core.Path.{_≡_, refl}
 use mathlib.Core.Bool.{Bool, true, false}
 use mathlib.Core.List.{List, [], _∷_}
 use Prim.Native.Nat.{_+_}
 use native.Mathlib.Omega.{arith}
-use lib.Dec.{eqb}
 use lib.ListN.{length}
 use Rattle.base.specs.Pick.{pick}
-use Rattle.paper.specs.Bytes.{null}
 use Rattle.paper.specs.Batch.{Item, Group, AccountFile, Batch, Thing, sum, itemThings, groupThings, things}
 use Rattle.paper.specs.Judge.{revOn}
-use Rattle.paper.proofs.Lists.{empty-null, length-rev}
 use Rattle.tally.specs.Abs.{groupRows, fileRows}
 
 pub map-pick : {A B : Type 0} (f : A → B) (t : Bool) (a b : A) → f (pick t a b) ≡ pick t (f a) (f b)

@@ -65,8 +65,8 @@ module _ (sh : Sheet) (k at : ℕ) where
   closes : (y : InGroup) (v : ℕ)
       → abs (judge.closed sh y v)
       ≡ numbers.closed sh
-        (openBook (y .header) (y .files) (y .opening) (length (y .items) + groupItems (y .groups)) (groupRows (y .groups) + 1 + length (y .items)) (y .warnings))
-        (openShelf (length (y .items) + groupItems (y .groups)) (y .groups)) (openGroup (y .head) (y .items)) v
+      (openBook (y .header) (y .files) (y .opening) (length (y .items) + groupItems (y .groups)) (groupRows (y .groups) + 1 + length (y .items)) (y .warnings))
+      (openShelf (length (y .items) + groupItems (y .groups)) (y .groups)) (openGroup (y .head) (y .items)) v
   unfolding abs judge.closed numbers.closed brief sum groupItems groupRows
   closes y v =
       let xs = y .items in

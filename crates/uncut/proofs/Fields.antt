@@ -20,7 +20,7 @@ use Rattle.paper.specs.Accounts.{Account, twoParts, onePart, readAccount, readP
 use Rattle.paper.specs.Days.{dayNumber, shortDay, readDay, past, dueAllowed, readDue}
 use Rattle.paper.specs.Amounts.{readAmount, amountProper, readItemAmount}
 use Rattle.paper.specs.FileLine.{readKind, readNumber, readCode}
-use Rattle.uncut.proofs.Tests.{easier, besides}
+use Rattle.uncut.proofs.Tests.{besides}
 use Rattle.uncut.proofs.Takes.{Takes, alike, refused, read-on, not-on}
 
 -- a value is kept only where the second sheet's test is passed too

@@ -1,6 +1,6 @@
 -- On a sheet without a header (C), none is looked at: what writing does is the same with any. Assumes nothing.
 use mathlib.Core.Path.{_≡_, refl, sym, ap, _∙_}
-use mathlib.Core.Bool.{Bool, true, false}
+use mathlib.Core.Bool.{true, false}
 use mathlib.Core.List.{List, [], _∷_, _++_}
 use Prim.Native.Nat.{ℕ, suc}
 use Rattle.base.proofs.Cases.{by-test, pick-true, pick-false}
