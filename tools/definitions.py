@@ -37,7 +37,7 @@ WRONG = [
         "FirstLine",
         "pick (eqb n 12) true",
         "pick (eqb n 11) true",
-        "lineback",
+        "roundtrip",
     ),
     (
         "an account file's line, read",
@@ -53,7 +53,7 @@ WRONG = [
         "GroupLine",
         "(leb 3 (spaceCount s))",
         "(leb 2 (spaceCount s))",
-        "lineback",
+        "roundtrip",
     ),
     (
         "an item's line, read",
@@ -143,7 +143,7 @@ WRONG = [
         "FirstLine",
         "(fixed 3 (h .from) ++ (fixed 3 (h .to) ++ fixed 12 0))",
         "(fixed 3 (h .to) ++ (fixed 3 (h .from) ++ fixed 12 0))",
-        "lineback",
+        "roundtrip",
     ),
     (
         "an account file's line, canonical",
@@ -159,7 +159,7 @@ WRONG = [
         "GroupLine",
         "(pick always (32 ∷ []) [])",
         "(pick always [] (32 ∷ []))",
-        "lineback",
+        "roundtrip",
     ),
     (
         "an item's line, canonical",
@@ -175,7 +175,7 @@ WRONG = [
         "ClosingLine",
         "spellClose digit = digit ∷ 32 ∷ 43 ∷ []",
         "spellClose digit = digit ∷ 43 ∷ []",
-        "lineback",
+        "roundtrip",
     ),
     (
         "a number, canonical",
@@ -232,7 +232,7 @@ WRONG = [
         "Carried",
         "priorityCarried (sh .priority) (x .priority)",
         "priorityCarried true (x .priority)",
-        "linesound",
+        "roundtrip",
     ),
     (
         "an account file, carried",
@@ -240,7 +240,7 @@ WRONG = [
         "Carried",
         "(series number ∷ seen) ts))",
         "seen ts))",
-        "whole",
+        "roundtrip",
     ),
     (
         "the rules of rows, listed",
@@ -248,7 +248,7 @@ WRONG = [
         "FirstWrong",
         "ltb (length (itemsOfFile before)) 99999",
         "ltb (length (itemsOfFile before)) 100000",
-        "firstwrong",
+        "outcomes",
     ),
     (
         "the order of rules, listed",
@@ -256,7 +256,7 @@ WRONG = [
         "FirstWrong",
         "    ∷ rule k 1 (itemPayerProper (inSingle before) (x .payer))\n    ∷ rule k 3 (accountProper (x .payee))\n",
         "    ∷ rule k 3 (accountProper (x .payee))\n    ∷ rule k 1 (itemPayerProper (inSingle before) (x .payer))\n",
-        "firstwrong",
+        "outcomes",
     ),
     (
         "a group's sum, in rows",
@@ -264,7 +264,7 @@ WRONG = [
         "Proper",
         "items = b .items; single = isNobody payer; sum = 0 }",
         "items = b .items; single = isNobody payer; sum = b .sum }",
-        "firstwrong",
+        "roundtrip",
     ),
 ]
 
@@ -300,7 +300,7 @@ class Fallen:
         """What the prover says of the crate and all below it, each from its source."""
         words = ["--incremental", str(kept)]
         for name in below(self.crate)[1:]:
-            words += ["--lib", f"{name}:{','.join(filter(is_ours, stands_on(name)))}={tree / name / 'src/lib.rt'}"]
+            words += ["--lib", f"{name}:{','.join(('std', *filter(is_ours, stands_on(name))))}={tree / name / 'src/lib.rt'}"]
         status, said = rt_check(tree / self.crate, *words)
         return status, said.replace(f"{tree}/", "")
 

@@ -5,7 +5,8 @@ what `rt must-fail` takes, which proves the whole crate for each edit. The last 
 
   tools/edits.py                  all edits of more-edits/, one check for each processor at a time (RT_JOBS says otherwise)
   tools/edits.py read write       those of these crates
-  tools/edits.py --most 2         at most so many of each crate, in one check, those of public functions first: what the gate has time for
+  tools/edits.py --most 2         at most so many of each module, those of a crate in one check, those of public functions first: what the
+                                  gate has time for
   tools/edits.py --all            those of must-fail/ too, which `rt ci` tries by itself
   tools/edits.py --keep FOLDER    what the prover said stays there
   tools/edits.py --list           tries none, and says for each public function which edits of both folders change it
@@ -52,21 +53,28 @@ def function_at(source, place):
     return None
 
 
-def proved_with(crate, name):
-    """What a function's proof is called: its name, or for functions that call each other the folder of their common proof, +NAME+NAME."""
-    for folder in (ROOT / "crates" / crate / "proofs").glob("+*"):
+def module_of(crate, file):
+    """The module of the code that a file of src/ or proofs/ belongs to; none is the crate's root."""
+    name = file.split("/")[1].removesuffix(".rt")
+    return name if name not in ("lib", "main") and (ROOT / "crates" / crate / f"src/{name}.rt").is_file() else ""
+
+
+def proved_with(crate, module, name):
+    """What a function's proof is called below proofs/: its name, or for functions that call each other the folder of their common proof,
+    +NAME+NAME; that of a module's function lies in the module's folder."""
+    for folder in (ROOT / "crates" / crate / "proofs" / module).glob("+*"):
         if name in folder.name.split("+"):
-            return folder.name
-    return name
+            return f"{module}/{folder.name}"
+    return f"{module}/{name}"
 
 
-def function_of(place, source):
+def function_of(place, crate):
     """The function that a complaint at that place is of: that of the proof's folder, or the one in whose lines of the source it is."""
     path, row = place.split(":")[:2]
     if not path.startswith("src/"):
         return path.split("/")[-2]
     name = None
-    for number, line in enumerate(source.splitlines(), 1):
+    for number, line in enumerate((crate / path).read_text(encoding="utf-8").splitlines(), 1):
         found = FUNCTION.match(line)
         name = found.group(2) if found else name
         # a function's attributes stand above its name
@@ -80,7 +88,7 @@ class Edit:
 
     def __init__(self, path):
         self.path, self.crate, self.label = path, path.parent.parent.name, path.stem
-        self.pairs, self.wrong, self.function, self.proof = [], None, None, None
+        self.pairs, self.wrong, self.module, self.function, self.proof = [], None, "", None, None
         file = old = None
         for line in path.read_text(encoding="utf-8").splitlines():
             if line.startswith("file: "):
@@ -94,23 +102,24 @@ class Edit:
             self.wrong = "it has no 'old:' and 'new:'"
         functions = {self.place(file, old) for file, old, _ in self.pairs}
         if len(functions) == 1:
-            self.function = functions.pop()
-            self.proof = self.function and proved_with(self.crate, self.function)
+            self.module, self.function = functions.pop()
+            self.proof = self.function and proved_with(self.crate, self.module, self.function)
 
     def place(self, file, old):
-        """The function that a replacement is in; sets what is wrong with it."""
+        """The module and the function that a replacement is in; sets what is wrong with it."""
         path = ROOT / "crates" / self.crate / (file or "")
         parts = (file or "").split("/")
         if parts[0] not in PARTS or ".." in parts or not path.is_file():
             self.wrong = f"{file} is no file of the crate"
-            return None
+            return "", None
+        module = module_of(self.crate, file)
         text = path.read_text(encoding="utf-8")
         if not old or text.count(old) != 1:
             self.wrong = f"what it takes out stands {text.count(old) if old else 0} times in {file}: {(old or '').strip()}"
-            return None
+            return module, None
         if parts[0] == "proofs":
-            return parts[-2].split("+")[-1]
-        return function_at(text, text.index(old) + len(old) - len(old.lstrip())) if parts[0] == "src" else None
+            return module, parts[-2].split("+")[-1]
+        return module, function_at(text, text.index(old) + len(old) - len(old.lstrip())) if parts[0] == "src" else None
 
 
 def apply(edits, crate):
@@ -124,17 +133,20 @@ def apply(edits, crate):
 
 
 def is_public(edit):
-    source = ROOT / "crates" / edit.crate / "src/lib.rt"
+    source = ROOT / "crates" / edit.crate / f"src/{edit.module or 'lib'}.rt"
     return edit.function is not None and re.search(rf"^ *pub (extern \"C\" )?fn {edit.function}\b", source.read_text(), re.M) is not None
 
 
 def chosen(edits, most):
-    """At most so many of a crate's edits that can be tried together, those of public functions first."""
-    rest = sorted(edits, key=lambda e: (e.proof is None, not is_public(e)))
-    found = rest[:1]
-    for edit in rest[1:]:
-        if len(found) < most and edit.proof and edit.proof not in [e.proof for e in found]:
-            found.append(edit)
+    """At most so many edits of each module that can be tried together, those of public functions first; one if none can."""
+    found = []
+    for module in sorted({e.module for e in edits}):
+        rest = sorted((e for e in edits if e.module == module), key=lambda e: (e.proof is None, not is_public(e)))
+        here = rest[:1]
+        for edit in rest[1:]:
+            if len(here) < most and edit.proof and edit.proof not in [e.proof for e in here]:
+                here.append(edit)
+        found += here
     return found
 
 
@@ -171,8 +183,7 @@ class Crate:
         apply(edits, crate)
         shutil.copytree(self.kept, place / "kept")
         status, said = self.ask(crate, place / "kept")
-        source = (crate / "src/lib.rt").read_text(encoding="utf-8")
-        found = [(proved_with(self.name, function_of(at, source)), at, words) for at, words in complaints(said)]
+        found = [(proved_with(self.name, module_of(self.name, at.split(":")[0]), function_of(at, crate)), at, words) for at, words in complaints(said)]
         if self.keep:
             (self.keep / f"{self.name}.{label}.log").write_text(said)
         shutil.rmtree(place)
@@ -230,16 +241,17 @@ class Crate:
 
 
 def listed(edits):
-    """Prints for each public function, and for each crate without code, its edits."""
-    for source in sorted((ROOT / "crates").glob("*/src/lib.rt")):
-        crate = source.parent.parent.name
+    """Prints for each public function, and for each module without code, its edits."""
+    for source in sorted((ROOT / "crates").glob("*/src/*.rt")):
+        crate, module = source.parent.parent.name, module_of(source.parent.parent.name, f"src/{source.name}")
+        title = f"{crate}::{module}" if module else crate
         names = [m.group(2) for m in map(FUNCTION.match, source.read_text().splitlines()) if m and "pub " in m.group(0)]
-        own = [e for e in edits if e.crate == crate]
+        own = [e for e in edits if e.crate == crate and e.module == module]
         for name in names:
-            print(f"{crate}::{name}: {' '.join(e.label for e in own if e.function == name) or '-'}")
+            print(f"{title}::{name}: {' '.join(e.label for e in own if e.function == name) or '-'}")
         others = [f"{e.label} ({e.function or 'definition'})" for e in own if e.function not in names]
         if others:
-            print(f"{crate}, inside: {' '.join(others)}")
+            print(f"{title}, inside: {' '.join(others)}")
 
 
 def main():

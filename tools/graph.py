@@ -1,43 +1,47 @@
 #!/usr/bin/env python3
-"""Draws the crates as crates.txt has them: python3 tools/graph.py >docs/CRATES.md (the gate looks that the page is up to date).
+"""Draws the rooms and crates as crates.txt has them: python3 tools/graph.py >docs/CRATES.md (the gate looks that the page is up to date).
 
-What a crate reaches through another one is left out, so that an arrow is a step that cannot be taken away.
+A heading of crates.txt is a room: its name, and what it holds. What a crate or room reaches through another one is left out, so that an
+arrow is a step that cannot be taken away.
 """
+import functools
 import pathlib
 import re
 
 ROOT = pathlib.Path(__file__).resolve().parent.parent
 
 
-def read_list():
-    """Groups of crates.txt as (title, crates), and what each crate stands on, the kit's libraries apart."""
-    groups, below = [], {}
+def rooms():
+    """The headings of crates.txt in order: a room's name, what it holds, and its crates."""
+    found = []
     for line in (ROOT / "crates.txt").read_text().splitlines():
-        if line.startswith("# "):
-            groups.append((line[2:], []))
-        elif line:
-            name, rest = line.split(":")
-            groups[-1][1].append(name)
-            below[name] = rest.split()
-    return [g for g in groups if g[1]], {n: [d for d in ds if d in below] for n, ds in below.items()}
+        head = re.match(r"# (\w+): (.*)$", line)
+        if head:
+            found.append((head.group(1), head.group(2), []))
+        elif line and not line.startswith("#"):
+            found[-1][2].append(line.split(":")[0])
+    return found
 
 
-def reached(name, below, memo):
-    if name not in memo:
-        memo[name] = set()
-        for other in below[name]:
-            memo[name] |= {other} | reached(other, below, memo)
-    return memo[name]
+def stands():
+    """What each crate stands on, the kit's libraries apart."""
+    lines = [line.split(":") for line in (ROOT / "crates.txt").read_text().splitlines() if line and not line.startswith("#")]
+    names = {name for name, _ in lines}
+    return {name: [d for d in rest.split() if d in names] for name, rest in lines}
 
 
-def steps(name, below, memo):
-    """What the crate stands on and does not reach through another one."""
-    return [d for d in below[name] if not any(d in reached(o, below, memo) for o in below[name] if o != d)]
+def steps(below):
+    """What stands right below each: what is not reached through another one."""
+
+    @functools.cache
+    def reached(name):
+        return set(below[name]).union(*map(reached, below[name]))
+
+    return {name: [d for d in names if not any(d in reached(o) for o in names if o != d)] for name, names in below.items()}
 
 
-def holds(name):
-    """The first sentence of the crate's source."""
-    path = next(p for p in (ROOT / f"crates/{name}/src").iterdir() if p.name in ("lib.rt", "main.rt"))
+def holds(path):
+    """The first sentence of a source."""
     said = []
     for line in path.read_text().splitlines():
         if not line.startswith("// "):
@@ -46,45 +50,42 @@ def holds(name):
     return re.split(r"(?<=\.)\s", " ".join(said))[0].replace("|", "\\|")
 
 
-def main():
-    groups, below = read_list()
-    memo = {}
-    home = {name: i for i, (_, names) in enumerate(groups) for name in names}
-    print("# The crates\n")
-    print("Drawn from crates.txt by tools/graph.py; the gate looks that it is true. Arrows lead from a crate or group to what it stands on; what is")
-    print("reached through another one is left out.\n")
-    print("## The groups\n")
+def sources(name):
+    """The crate's root, and its modules in the order in which it declares them."""
+    folder = ROOT / f"crates/{name}/src"
+    root = next(folder / file for file in ("lib.rt", "main.rt") if (folder / file).exists())
+    return [root, *(folder / f"{module}.rt" for module in re.findall(r"^pub mod (\w+);", root.read_text(), re.M))]
+
+
+def flow(below):
     print("```mermaid\nflowchart TD")
-    for i, (title, _) in enumerate(groups):
-        print(f'  g{i}["{title}"]')
-    over = {i: sorted({home[d] for n in names for d in below[n]} - {i}) for i, (_, names) in enumerate(groups)}
-    far = {}
-
-    def groups_below(i, path=()):
-        if i not in far:
-            far[i] = set()
-            for j in over[i]:
-                if j not in path:
-                    far[i] |= {j} | groups_below(j, path + (i,))
-        return far[i]
-
-    for i in over:
-        for j in over[i]:
-            if not any(j in groups_below(k) for k in over[i] if k != j):
-                print(f"  g{i} --> g{j}")
+    for name, others in steps(below).items():
+        for other in others:
+            print(f"  {name} --> {other}")
     print("```\n")
-    for title, names in groups:
-        print(f"## {title[0].upper()}{title[1:]}\n")
+
+
+def main():
+    below = stands()
+    right = steps(below)
+    home = {name: room for room, _, names in rooms() for name in names}
+    print("# The rooms and their crates\n")
+    print("Drawn from crates.txt by tools/graph.py; the gate looks that it is true. A room is a heading of that file. Arrows lead from a room or crate to")
+    print("what it stands on; what is reached through another one is left out. `crate::module` is `crates/crate/src/module.rt`, with its definitions in")
+    print("`specs/module` and its proofs in `proofs/module`.\n")
+    flow({room: sorted({home[d] for n in names for d in below[n]} - {room}) for room, _, names in rooms()})
+    for room, words, names in rooms():
+        print(f"## {room[0].upper()}{room[1:]}: {words}\n")
         print("| crate | what it holds | stands on |\n|---|---|---|")
         for name in names:
-            print(f"| {name} | {holds(name)} | {', '.join(steps(name, below, memo)) or '-'} |")
+            root, *others = sources(name)
+            print(f"| `{name}` | {holds(root)} | {', '.join(right[name]) or '-'} |")
+            for path in others:
+                print(f"| `{name}::{path.stem}` | {holds(path)} | |")
         print()
-    print("## Every step\n\n```mermaid\nflowchart TD")
-    for _, names in groups:
-        for name in names:
-            for other in steps(name, below, memo):
-                print(f"  {name} --> {other}")
-    print("```")
+    print("## Every step\n")
+    flow(below)
 
 
-main()
+if __name__ == "__main__":
+    main()

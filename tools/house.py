@@ -1,9 +1,9 @@
 #!/usr/bin/env python3
 """Looks whether the house is in order, by rules that a reader can check by hand. The last line is 'N passed, M failed'.
 
-  - crates.txt, crates/ and README's table name the same crates, and a crate names only crates above it
+  - crates.txt and crates/ name the same crates; a crate stands on crates above it only, and names each; README's table has the rooms of crates.txt
   - docs/CRATES.md draws the crates as crates.txt has them (tools/graph.py writes it)
-  - each file of code, definitions or proofs says in its first line what it holds; lists of modules (Lib.antt) need not
+  - each file of code, definitions or proofs says in its first line what it holds; lists of modules (Lib.antt, and a module's beside it) need not
   - a function has at most 40 lines without its contract, and at most one loop
   - a file of definitions or proofs has at most 400 lines
   - each file of code, definitions or proofs is laid out as `rt fmt` lays it out
@@ -56,6 +56,12 @@ def listed():
     return crates
 
 
+def named(crate, other):
+    """Does a file of the crate name something of the other one?"""
+    texts = (path.read_text() for path in (ROOT / "crates" / crate).rglob("*") if path.suffix in (".rt", ".antt"))
+    return any(re.search(rf"(?<![\w:]){other}::|Rattle\.{other}\.", text) for text in texts)
+
+
 def the_list():
     crates = listed()
     there = {p.name for p in (ROOT / "crates").iterdir() if p.is_dir()}
@@ -65,11 +71,13 @@ def the_list():
     done = set(KIT)
     for name, below in crates.items():
         for other in below:
-            check(other in done or other in crates, f"{name} stands on {other}, which is no crate")
+            check(other in done, f"{name} stands on {other}, which is no crate above it")
+            check(other in KIT or named(name, other), f"{name} stands on {other}, and does not name it")
         done.add(name)
-    table = "\n".join(l for l in (ROOT / "README.md").read_text().splitlines() if l.startswith("|"))
-    for name in crates:
-        check(re.search(rf"`(crates/)?{name}`", table), f"README's table does not name {name}")
+    heads = re.findall(r"^# (\w+): (.*)$", (ROOT / "crates.txt").read_text(), re.M)
+    rows = re.findall(r"^\| (\w+) \| (.*) \|$", (ROOT / "README.md").read_text().split("| room of `crates/` |")[-1], re.M)
+    check(len(heads) == 10, f"crates.txt has {len(heads)} rooms")
+    check(rows == heads, "README's table does not have the rooms as crates.txt heads them")
 
 
 def the_drawing():
@@ -80,7 +88,7 @@ def the_drawing():
 
 def first_lines():
     for path in sorted((ROOT / "crates").rglob("*")):
-        if path.suffix in (".rt", ".antt") and path.name != "Lib.antt":
+        if path.suffix in (".rt", ".antt") and not laws.is_list(path):
             first = path.read_text().split("\n", 1)[0]
             check(re.match(r"(//|--) \S", first), f"{path.relative_to(ROOT)} does not say in its first line what it holds")
 
@@ -204,7 +212,7 @@ def unused():
 def modules(*crates):
     """The files of definitions of these crates, by the names of their modules."""
     specs = (path for crate in crates for path in sorted((ROOT / f"crates/{crate}/specs").glob("*.antt")))
-    return {path.stem: laws.File(path) for path in specs if path.name != "Lib.antt"}
+    return {path.stem: laws.File(path) for path in specs if not laws.is_list(path)}
 
 
 def the_rules():

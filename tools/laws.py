@@ -26,13 +26,13 @@ STANDING = {
     "bank/proofs/Edges": "*",
     "calendar/proofs/Examples": "*",
     "explain/proofs/Examples": "*",
-    "wording/proofs/Examples": "*",
+    "text/proofs/wording/Examples": "*",
     # what docs/PROOFS.md says of days and sheets: a definition that computes is what the document names
     "calendar/proofs/Next": ("next-number", "next-real"),
     "calendar/proofs/Order": ("order", "one-day"),
     "sheet/proofs/Laws": ("letter-same",),
     # each verdict of 20 and of 21 by itself; the demands speak of writing's whole answer
-    "firstwrong/proofs/Main": ("header-proper", "rows-proper", "header-carried", "rows-carried"),
+    "outcomes/proofs/firstwrong/Main": ("header-proper", "rows-proper", "header-carried", "rows-carried"),
     # contracts that are no equations leave one answer all the same
     "reader/proofs/Determined": ("finds-one",),
     "rewriting/proofs/Front": ("determined",),
@@ -146,10 +146,15 @@ def key_of(module):
     return f"{found.group(1)}/{found.group(2)}/{found.group(3).replace('.', '/')}" if found else None
 
 
+def is_list(path):
+    """A list of modules: Lib.antt, or beside it the file of a module of the code."""
+    return path.suffix == ".antt" and (path.stem == "Lib" or (path.parent.parent / f"src/{path.stem}.rt").exists())
+
+
 def load():
     files = {}
     for path in sorted(CRATES.rglob("*")):
-        if path.suffix in (".antt", ".rt") and path.name != "Lib.antt":
+        if path.suffix in (".antt", ".rt") and not is_list(path):
             file = File(path)
             files[file.key + path.suffix * file.code] = file
     return files

@@ -5,7 +5,7 @@
   tools/dev/proofs.py NAME F .. --again   the code has changed: the offered file, with the old answers where their names are the same
   tools/dev/proofs.py NAME F .. --fill    the holes of the files that stand, without rt dev
 
-F is the folder's name below proofs/, as total or +files+groups. Invariants and measures stay holes. Other holes become
+F is the folder's name below proofs/, as total or +files+groups, or m/total of a module m. Invariants and measures stay holes. Other holes become
 
   search needs                 if nothing is said; a hole with --holes, TEXT with --answer TEXT
   search (A, B, needs)         with --rules A,B; at a return `search (A, B)`, with --depth N so deep
@@ -64,7 +64,7 @@ def brought(crate, said):
 
 def module_of(crate, name):
     declared = re.compile(rf"^(?:\w+ )*{re.escape(name)} (?::|=)", re.M)
-    files = (p for p in sorted(glob.glob("crates/*/specs/**/*.antt", recursive=True) + glob.glob("crates/*/proofs/*.antt")))
+    files = (p for p in sorted(glob.glob("crates/*/specs/**/*.antt", recursive=True) + [p for p in glob.glob("crates/*/proofs/**/*.antt", recursive=True) if not p.endswith("/Proof.antt")]))
     places = [p[: -len(".antt")].split("/", 3)[1:] for p in files if declared.search(open(p).read())]
     places = [p for p in places if p[0] == crate] or places
     if len(places) != 1:
@@ -222,7 +222,7 @@ def main():
         return
     files, rest = offered(o.crate)
     for path, lines in files.items():
-        if o.functions and os.path.basename(os.path.dirname(path)) not in o.functions or os.path.exists(path):
+        if o.functions and not any(os.path.dirname(path).endswith(f"/{f}") for f in o.functions) or os.path.exists(path):
             continue
         lines = together(*parts(filled(o, shorter(lines) if "/+" in path else lines, function(path))))
         old = path + ".old"

@@ -56,8 +56,18 @@ def lent_in_two_words(call):
     return head + "{\n" + slices + body
 
 
+def joined(name):
+    """The crate's root with its modules inside, each path from the top of all crates."""
+    folder = ROOT / "crates" / name / "src"
+    source = (folder / "lib.rt").read_text()
+    inner = re.findall(r"(?m)^pub mod (\w+);\n", source)
+    source = re.sub(r"(?m)^pub mod \w+;\n", "", source)
+    source += "".join(f"pub mod {module} {{\n{(folder / f'{module}.rt').read_text()}\n}}\n" for module in inner)
+    return source.replace("crate::", f"{name}::")
+
+
 def translated(name, names):
-    source = untested_indices(without_contracts((ROOT / "crates" / name / "src/lib.rt").read_text()))
+    source = untested_indices(without_contracts(joined(name)))
     source = source.replace("std::num::", "crate::num::")
     source = re.sub(rf"(?<![\w:.])({'|'.join(names)})::", r"crate::\1::", source)
     source = re.sub(r"(?m)^(pub )?(struct|enum) ", r"#[derive(Clone, Copy)] \1\2 ", source)

@@ -12,7 +12,7 @@ use Rattle.base.specs.Pick.{pick}
 use Rattle.base.specs.Seek.{all, seek, before, Free}
 use Rattle.base.proofs.Cases.{by-eq, either, pick-true, pick-false}
 use Rattle.base.proofs.Seek.{seek-join}
-use Rattle.given.proofs.Given.{given-on}
+use Rattle.numeral.proofs.given.Given.{given-on}
 use Rattle.numeral.proofs.Plain.{digit-free, decimal-plain}
 use Rattle.numeral.proofs.Long.{decimal-most, decimal-least}
 use Rattle.numeral.proofs.Back.{decimal-back-from, decimal-back}

@@ -10,7 +10,7 @@ use lib.ListN.{length, take, drop}
 use Rattle.base.specs.Pick.{pick}
 use Rattle.base.specs.Seek.{seek, before}
 use Rattle.base.proofs.Cases.{by-test, either}
-use Rattle.given.proofs.Says.{Says, of-value, of-fault, says, says-value, says-fault, says-given}
+use Rattle.numeral.proofs.given.Says.{Says, of-value, of-fault, says, says-value, says-fault, says-given}
 use Rattle.numeral.proofs.Sound.{digits-sound, digits-fault}
 use Rattle.paper.specs.Read.{value, fault}
 use Rattle.paper.specs.Bytes.{dash, null}

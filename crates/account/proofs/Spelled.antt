@@ -8,7 +8,7 @@ use borrow.Author.Tests.{eq-eqb, ne-eqb}
 use Rattle.base.specs.Put.{Wrote}
 use Rattle.base.proofs.Put.{_then_}
 use Rattle.base.proofs.Cases.{pick-true, pick-false}
-use Rattle.put.proofs.Room.{wrote-length}
+use Rattle.out.proofs.put.Room.{wrote-length}
 use Rattle.paper.specs.Numerals.{decimal}
 use Rattle.paper.specs.Accounts.{account, spellAccount}
 

@@ -10,7 +10,7 @@ use Rattle.base.specs.Pick.{pick}
 use Rattle.base.specs.Seek.{all, seek, before}
 use Rattle.base.proofs.Cases.{by-test, either, pick-both, pick-false}
 use Rattle.base.proofs.Seek.{never, all-head, all-tail, all-take, all-drop}
-use Rattle.given.proofs.Given.{value-fault, value-same, given-value}
+use Rattle.numeral.proofs.given.Given.{value-fault, value-same, given-value}
 use Rattle.paper.specs.Read.{value, fault}
 use Rattle.paper.specs.Bytes.{isDigit, dash, null}
 use Rattle.paper.specs.Numerals.{digitsOn, digits}

@@ -1,4 +1,6 @@
 // Accounts: the rule of their digits, zeros that stand for nobody, and their one spelling.
+pub mod at;
+
 ghost use mathlib.Core.Path.{_≡_};
 ghost use mathlib.Core.Bool.{false};
 ghost use Prim.Native.Nat.{_+_, _≤_, _<_};
@@ -135,7 +137,7 @@ pub fn only_zeros(f: &[u8], allzero: bool) -> bool
         return false;
     }
     let n = f.len();
-    let d = find::find_byte(f, 0, 45);
+    let d = scan::find::find_byte(f, 0, 45);
     if n <= d {
         return some_zeros(f, 17);
     }
@@ -166,6 +168,6 @@ pub fn put_account(out: &mut [u8], at: usize, prefix: u64, base: u64) -> usize
         return numeral::put_number(out, at, base);
     }
     let p = numeral::put_number(out, at, prefix);
-    let q = put::put_byte(out, p, 45);
+    let q = out::put::put_byte(out, p, 45);
     numeral::put_number(out, q, base)
 }

@@ -17,7 +17,7 @@ use Rattle.paper.specs.Bytes.{comma}
 use Rattle.paper.specs.Numerals.{digits}
 use Rattle.paper.specs.Amounts.{withComma, readAmount, readTotal, amountProper, readItemAmount}
 use Rattle.numeral.proofs.Sound.{digits-sound, digits-fault}
-use Rattle.given.proofs.Says.{Says, of-value, of-fault, says, says-given, says-map, says-value}
+use Rattle.numeral.proofs.given.Says.{Says, of-value, of-fault, says, says-given, says-map, says-value}
 
 -- what an item's amount is: above zero and within its limit
 pub record Payable (max v : ℕ) : Type 0 where

@@ -1,4 +1,6 @@
 // Amounts in haléř: what an item's amount may be, and laws of reading amounts.
+pub mod at;
+
 ghost use mathlib.Core.Path.{_≡_};
 ghost use Rattle.paper.specs.Amounts.{amountProper};
 

@@ -14,7 +14,7 @@ use Rattle.paper.specs.Numerals.{digits}
 use Rattle.paper.specs.BankField.{Bank, ninth, readBank, bankProper, priorityProper, priorityCarried}
 use Rattle.numeral.proofs.Sound.{digits-sound, digits-fault}
 use Rattle.bank.proofs.Range.{bank-in, priority-in}
-use Rattle.given.proofs.Says.{Says, of-value, of-fault, says, says-given, says-value}
+use Rattle.numeral.proofs.given.Says.{Says, of-value, of-fault, says, says-given, says-value}
 
 -- what the field's values are; `ranked`: it holds the priority
 pub record Proper (ranked : Bool) (x : Bank) : Type 0 where

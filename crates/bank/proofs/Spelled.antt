@@ -10,7 +10,7 @@ use Rattle.base.specs.Pick.{pick}
 use Rattle.base.specs.Put.{Wrote}
 use Rattle.base.proofs.Cases.{by-eq}
 use Rattle.base.proofs.Put.{_then_}
-use Rattle.put.proofs.Room.{wrote-length, wrote-none}
+use Rattle.out.proofs.put.Room.{wrote-length, wrote-none}
 use Rattle.paper.specs.Numerals.{fixedOn, fixed}
 use Rattle.paper.specs.BankField.{spellBank}
 use Rattle.numeral.proofs.Fixed.{fixed-length}

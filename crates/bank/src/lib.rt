@@ -1,4 +1,6 @@
 // The field of an item that holds payee bank, constant symbol and priority: what its values may be, and writing it.
+pub mod at;
+
 ghost use mathlib.Core.Path.{_≡_};
 ghost use mathlib.Core.List.{[]};
 ghost use Prim.Native.Nat.{ℕ, _+_, _≤_};
@@ -57,8 +59,8 @@ fn put_priority(out: &mut [u8], at: usize, p: u64) -> usize
     if p == 5 {
         return at;
     }
-    let e = put::put_byte(out, at, 48);
-    put::put_byte(out, e, 48 + p as u8)
+    let e = out::put::put_byte(out, at, 48);
+    out::put::put_byte(out, e, 48 + p as u8)
 }
 
 // Writes the field at `at`, and returns the place behind it.

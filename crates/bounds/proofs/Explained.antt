@@ -17,8 +17,8 @@ use Rattle.paper.specs.Reading.{ReadAnswer, refusedAt, needs, acceptedAs, rowCo
 use Rattle.paper.specs.Writing.{WriteAnswer, drafted, writtenIn}
 use Rattle.paper.specs.Explaining.{refusedLine, explained, explanation}
 use Rattle.numeral.proofs.Long.{decimal-most}
-use Rattle.named.proofs.Main.{judge-named}
-use Rattle.linelen.proofs.Lengths.{decimal-twenty}
+use Rattle.exact.proofs.named.Main.{judge-named}
+use Rattle.spelling.proofs.linelen.Lengths.{decimal-twenty}
 use Rattle.explain.proofs.Wording.{refused-length, accepted-most}
 
 -- ---- a refusal's line with a number of two digits

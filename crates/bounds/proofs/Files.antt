@@ -22,12 +22,12 @@ use Rattle.paper.specs.Canonical.{canon}
 use Rattle.paper.proofs.Trees.{batch-things}
 use Rattle.paper.proofs.Verdicts.{headed}
 use Rattle.calendar.proofs.Back.{spell-day-length}
-use Rattle.linesound.proofs.Rows.{file-proper, group-proper, item-proper, strange-proper}
-use Rattle.flat.specs.Count.{groupFront, groupClosing, fileClosing, count}
-use Rattle.flat.proofs.Lengths.{canon-length}
-use Rattle.whole.specs.Carries.{FourParts, Carries}
-use Rattle.whole.proofs.Main.{sound}
-use Rattle.linelen.proofs.Lengths.{decimal-twenty, first-full, file-long}
+use Rattle.roundtrip.proofs.linesound.Rows.{file-proper, group-proper, item-proper, strange-proper}
+use Rattle.roundtrip.specs.flat.Count.{groupFront, groupClosing, fileClosing, count}
+use Rattle.roundtrip.proofs.flat.Lengths.{canon-length}
+use Rattle.roundtrip.specs.whole.Carries.{FourParts, Carries}
+use Rattle.roundtrip.proofs.whole.Main.{sound}
+use Rattle.spelling.proofs.linelen.Lengths.{decimal-twenty, first-full, file-long}
 use Rattle.explain.proofs.Many.{count-eighth}
 use Rattle.bounds.specs.Most.{mostInput, mostRows, mostOutput}
 use Rattle.bounds.proofs.Items.{Within, proper-short, payer-most, item-most}

@@ -18,8 +18,8 @@ use Rattle.paper.specs.Proper.{Verdict, fine, itemProper}
 use Rattle.paper.specs.ItemLine.{spellTail, spellItem}
 use Rattle.paper.proofs.Verdicts.{name-short}
 use Rattle.bank.proofs.Spelled.{spell-bank-most}
-use Rattle.linesound.proofs.Items.{tested}
-use Rattle.linelen.proofs.Lengths.{decimal-twenty, account-most}
+use Rattle.roundtrip.proofs.linesound.Items.{tested}
+use Rattle.spelling.proofs.linelen.Lengths.{decimal-twenty, account-most}
 use Rattle.bounds.proofs.Texts.{Short, parts-short, text-most}
 
 -- an item that passes refusal 20 has short texts

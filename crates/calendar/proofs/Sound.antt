@@ -11,7 +11,7 @@ use Rattle.base.proofs.Cases.{either}
 use Rattle.paper.specs.Numerals.{digits}
 use Rattle.paper.specs.Read.{value}
 use Rattle.paper.specs.Days.{realDay, real, shortDay, longDay, readDay, dueAllowed, readDue}
-use Rattle.given.proofs.Says.{Says, says, of-value, of-fault, says-value, says-given}
+use Rattle.numeral.proofs.given.Says.{Says, says, of-value, of-fault, says-value, says-given}
 use Rattle.numeral.specs.declared.Num.{Num}
 use Rattle.numeral.specs.declared.Num.the-variants.{Value}
 use Rattle.numeral.proofs.Sound.{digits-fault}

@@ -1,4 +1,6 @@
 // Days: which are real, their numbers, how they are read and written, which days a payment may be due on.
+pub mod at;
+
 ghost use mathlib.Core.Path.{_≡_};
 ghost use mathlib.Core.Bool.{true};
 ghost use Prim.Native.Nat.{_+_, _≤_};

@@ -22,13 +22,13 @@ use Rattle.paper.specs.Writing.{drafted, draftOf, draft, writtenIn}
 use Rattle.paper.specs.Explaining.{refusedLine, acceptedLine, explanation}
 use Rattle.paper.specs.Rewriting.{rewritten, rewriting}
 use Rattle.exact.proofs.Main as exact
-use Rattle.faults.proofs.Main as faults
-use Rattle.named.proofs.Main as places
-use Rattle.whole.specs.Carries.{Carries, headRead, pastWarnings, Exactly}
-use Rattle.whole.proofs.Main as whole
-use Rattle.numbers.specs.Gives.{NoSheet, NoDay, Spelled, FileOf}
-use Rattle.numbers.proofs.Reading as read-numbers
-use Rattle.numbers.proofs.Writing as write-numbers
+use Rattle.exact.proofs.faults.Main as faults
+use Rattle.exact.proofs.named.Main as places
+use Rattle.roundtrip.specs.whole.Carries.{Carries, headRead, pastWarnings, Exactly}
+use Rattle.roundtrip.proofs.whole.Main as whole
+use Rattle.outcomes.specs.numbers.Gives.{NoSheet, NoDay, Spelled, FileOf}
+use Rattle.outcomes.proofs.numbers.Reading as read-numbers
+use Rattle.outcomes.proofs.numbers.Writing as write-numbers
 use Rattle.bounds.proofs.Explained as explained
 use Rattle.bounds.proofs.Input as input
 use Rattle.uncut.specs.Severe.{severe}

@@ -27,12 +27,12 @@ use Rattle.demands.proofs.line_twice.Met as line-twice-call
 use Rattle.demands.proofs.write_and_read.Statement as write-and-read-contract
 use Rattle.demands.proofs.write_and_read.Met as write-and-read-call
 use Rattle.exact.proofs.Main as exact
-use Rattle.shown.proofs.Main as shown
+use Rattle.reader.proofs.shown.Main as shown
 use Rattle.outcomes.proofs.Reading as reading
 use Rattle.outcomes.proofs.Written as written
 use Rattle.outcomes.proofs.Kept as kept
-use Rattle.numbers.proofs.Reading as read-numbers
-use Rattle.numbers.proofs.Writing as write-numbers
+use Rattle.outcomes.proofs.numbers.Reading as read-numbers
+use Rattle.outcomes.proofs.numbers.Writing as write-numbers
 
 -- ---- Demand 1: every call meets its contract for every input, made twice it answers alike, and a refusal changes nothing that was lent
 

@@ -18,12 +18,12 @@ use Rattle.paper.specs.Reading.{refusedAt, readWith}
 use Rattle.paper.specs.Writing.{drafted, writtenIn, outputAfter}
 use Rattle.paper.specs.Explaining.{explanation}
 use Rattle.tally.specs.Tally.{No, Yes, tally}
-use Rattle.reading.specs.declared.Head.{Head}
-use Rattle.reading.specs.declared.FileJudged.{FileJudged}
-use Rattle.reading.specs.declared.FileJudged.the-variants as judged
-use Rattle.reading.specs.Answer as reading
-use Rattle.counted.specs.Counted.{Counted}
-use Rattle.counted.proofs.Laws.{counted-wrote}
+use Rattle.judge.specs.declared.file.Head.{Head}
+use Rattle.judge.specs.declared.file.FileJudged.{FileJudged}
+use Rattle.judge.specs.declared.file.FileJudged.the-variants as judged
+use Rattle.judge.specs.file.Answer as reading
+use Rattle.numeral.specs.counted.Counted.{Counted}
+use Rattle.numeral.proofs.counted.Laws.{counted-wrote}
 use Rattle.explain.specs.declared.Verdict.{Verdict}
 use Rattle.explain.specs.Told.{textAnswer}
 use Rattle.explain.specs.Wording.{verdictOf, lineOf}

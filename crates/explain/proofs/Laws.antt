@@ -18,7 +18,7 @@ use Rattle.paper.specs.Writing.{drafted}
 use Rattle.paper.specs.Explaining.{refusedLine, acceptedLine, explained, explanation}
 use Rattle.tally.specs.Tally.{Brief, No, Yes, brief, tally}
 use Rattle.tally.proofs.Same.{tally-is}
-use Rattle.named.proofs.Main.{judge-named}
+use Rattle.exact.proofs.named.Main.{judge-named}
 use Rattle.explain.specs.declared.Verdict.{Verdict}
 use Rattle.explain.specs.Wording.{verdictOf, lineOf}
 use Rattle.explain.proofs.Many.{count-within}

@@ -18,7 +18,7 @@ use Rattle.paper.specs.FileLine.{readKind, readNumber}
 use Rattle.paper.specs.Rows.{entryRow, lineRow}
 use Rattle.paper.proofs.LineSays.{LineSays, no-header, a-header, a-file, a-group, an-item, a-group-end, a-file-end, refused}
 use Rattle.numeral.proofs.Sound.{digits-least}
-use Rattle.given.proofs.Given.{given-value}
+use Rattle.numeral.proofs.given.Given.{given-value}
 
 -- ---- how long fields are
 

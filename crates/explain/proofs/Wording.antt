@@ -10,9 +10,9 @@ use Rattle.base.proofs.Cases.{either, pick-true, pick-false}
 use Rattle.paper.specs.Bytes.{bytes}
 use Rattle.paper.specs.Numerals.{decimal}
 use Rattle.paper.specs.Explaining.{refusedLine, acceptedLine}
-use Rattle.counted.specs.Counted.{Counted}
-use Rattle.counted.proofs.Laws.{_counted-then_}
-use Rattle.linelen.proofs.Lengths.{decimal-twenty}
+use Rattle.numeral.specs.counted.Counted.{Counted}
+use Rattle.numeral.proofs.counted.Laws.{_counted-then_}
+use Rattle.spelling.proofs.linelen.Lengths.{decimal-twenty}
 use Rattle.explain.specs.declared.Verdict.{Verdict}
 use Rattle.explain.specs.Wording.{lineOf}
 

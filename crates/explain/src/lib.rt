@@ -1,5 +1,5 @@
 // A judged file in a line of text. Which answer it is (`Verdict`) is known apart from how it is worded (`put_line`).
-use reading::FileJudged;
+use judge::file::FileJudged;
 use sheet::Known;
 use sheet::Sheet;
 ghost use mathlib.Core.Path.{_≡_};
@@ -12,7 +12,7 @@ ghost use Rattle.paper.specs.Numerals.{decimal};
 ghost use Rattle.paper.specs.Reading.{readWith};
 ghost use Rattle.paper.specs.Writing.{writtenIn, outputAfter};
 ghost use Rattle.paper.specs.Explaining.{refusedLine, acceptedLine, explanation};
-ghost use Rattle.counted.specs.Counted.{Counted};
+ghost use Rattle.numeral.specs.counted.Counted.{Counted};
 ghost use Rattle.explain.specs.Told.{textAnswer, told};
 ghost use Rattle.explain.specs.Wording.{verdictOf, lineOf};
 
@@ -40,7 +40,7 @@ fn verdict_on(file: &[u8], sh: Sheet, today: u64) -> Verdict
     ensures { λ r. ⌜ r ≡ verdictOf (readWith (known.Sheet sh) today (now (file .entry)) (length (now (file .entry)))) ⌝ }
 {
     if calendar::real_day(today) {
-        match reading::judge_file(file, sh, today) {
+        match judge::file::judge_file(file, sh, today) {
             FileJudged::Refused(n, line, byte) => Verdict {
                 number: n,
                 line,
@@ -93,8 +93,8 @@ pub fn verdict_for(file: &[u8], sheet: u64, today: u64) -> Verdict
 fn put_said(out: &mut [u8], at: usize, word: &[u8], n: u64) -> usize
     ensures { λ r. ⌜ Counted (now (out .entry)) at (now (word .entry) ++ decimal n) (now (out .exit)) r ⌝ }
 {
-    let e = counted::put_bytes(out, at, word);
-    counted::put_number(out, e, n)
+    let e = numeral::counted::put_bytes(out, at, word);
+    numeral::counted::put_number(out, e, n)
 }
 
 // The line of a refusal.
@@ -104,7 +104,7 @@ pub fn put_refused(out: &mut [u8], at: usize, number: u64, line: u64, byte: u64)
     let e = put_said(out, at, b"refused ", number);
     let f = put_said(out, e, b" line ", line);
     let g = put_said(out, f, b" byte ", byte);
-    counted::put_byte(out, g, 10)
+    numeral::counted::put_byte(out, g, 10)
 }
 
 // The line of an accepted file.
@@ -113,7 +113,7 @@ fn put_accepted(out: &mut [u8], at: usize, rows: u64, warnings: u64) -> usize
 {
     let e = put_said(out, at, b"accepted rows ", rows);
     let f = put_said(out, e, b" warnings ", warnings);
-    counted::put_byte(out, f, 10)
+    numeral::counted::put_byte(out, f, 10)
 }
 
 // The line.

@@ -10,12 +10,12 @@ use Rattle.sheet.specs.Sheets.{kindAllowed, bankAllowed}
 use Rattle.paper.specs.Read.{value, fault}
 use Rattle.paper.specs.Numerals.{digits}
 use Rattle.paper.specs.FileLine.{readKind, readNumber, readCode}
-use Rattle.field.specs.At.{At, found, missed, fieldAt}
-use Rattle.field.specs.declared.NumAt.{NumAt}
-use Rattle.field.specs.declared.NumAt.the-variants.{Value}
-use Rattle.field.specs.Told.{told}
-use Rattle.field.proofs.Steps.{number-below}
-use Rattle.field.proofs.Onward.{onward, given-at, on-value, ends-value, ends-fault, ends-on, ends-off}
+use Rattle.numeral.specs.field.At.{At, found, missed, fieldAt}
+use Rattle.numeral.specs.declared.field.NumAt.{NumAt}
+use Rattle.numeral.specs.declared.field.NumAt.the-variants.{Value}
+use Rattle.numeral.specs.field.Told.{told}
+use Rattle.numeral.proofs.field.Steps.{number-below}
+use Rattle.numeral.proofs.field.Onward.{onward, given-at, on-value, ends-value, ends-fault, ends-on, ends-off}
 
 module _ (r : At ℕ) (sh : Sheet) (s : List ℕ) (at : ℕ) where
   pub kind-field : r ≡ onward (fieldAt (digits 4 4) s at) (λ k. pick (kindAllowed sh k) (value k) (fault 7)) → r ≡ fieldAt (readKind sh) s at

@@ -12,12 +12,12 @@ use Rattle.base.proofs.Seek.{never, seek-over}
 use Rattle.paper.specs.Read.{value}
 use Rattle.paper.specs.Bytes.{isDigit, space, fieldOf, null}
 use Rattle.paper.specs.Numerals.{digits}
-use Rattle.placed.specs.Placed.{Placed}
-use Rattle.placed.proofs.Bytes.{placed-four}
-use Rattle.field.specs.At.{found, ending, fieldAt}
-use Rattle.field.specs.Digits.{Worth}
-use Rattle.field.proofs.Front.{field-ends}
-use Rattle.field.proofs.Turns.{is-digit}
+use Rattle.numeral.specs.placed.Placed.{Placed}
+use Rattle.numeral.proofs.placed.Bytes.{placed-four}
+use Rattle.numeral.specs.field.At.{found, ending, fieldAt}
+use Rattle.numeral.specs.field.Digits.{Worth}
+use Rattle.numeral.proofs.field.Front.{field-ends}
+use Rattle.numeral.proofs.field.Turns.{is-digit}
 
 -- ---- the test: what each byte is worth
 

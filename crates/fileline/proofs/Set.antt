@@ -5,7 +5,7 @@ use mathlib.Core.List.{List}
 use Prim.Native.Nat.{ℕ}
 use Rattle.paper.specs.Batch.{Header}
 use Rattle.paper.specs.FileLine.{series, numberFault}
-use Rattle.seen.specs.Bits.{Holds}
+use Rattle.fileline.specs.seen.Bits.{Holds}
 use Rattle.fileline.specs.Fault.{faultIn}
 
 pub same-fault : (interval : Bool) (h : Header) (words seen : List ℕ) → Holds words seen → faultIn interval (h .from) (h .to) words ≡ numberFault interval h seen

@@ -6,7 +6,7 @@ use mathlib.Core.List.{List}
 use lib.Dec.{leb}
 use Rattle.base.specs.Pick.{pick}
 use Rattle.paper.specs.FileLine.{series}
-use Rattle.seen.specs.Bits.{bit}
+use Rattle.fileline.specs.seen.Bits.{bit}
 
 -- K (`interval`): 9 where the first three digits do not lie in the interval, or are in the set; else 0
 unfoldable pub faultIn : Bool → ℕ → ℕ → List ℕ → ℕ → ℕ

@@ -1,3 +1,5 @@
 pub mod Told
 pub mod Fault
 pub mod Ending
+pub mod seen
+pub mod take

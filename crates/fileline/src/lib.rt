@@ -1,6 +1,9 @@
 // The line that begins an account file: `1 KIND NUMBER BANK`.
-use field::NumAt;
-use seen::Seen;
+pub mod seen;
+pub mod take;
+
+use crate::seen::Seen;
+use numeral::field::NumAt;
 use sheet::Sheet;
 ghost use mathlib.Core.Path.{_≡_};
 ghost use mathlib.Core.Bool.{true};
@@ -8,9 +11,9 @@ ghost use Prim.Native.Nat.{_+_, _≤_, _<_};
 ghost use lib.ListN.{length, drop};
 ghost use Rattle.paper.specs.Numerals.{digits};
 ghost use Rattle.paper.specs.FileLine.{readKind, readNumber, readCode, readFile};
-ghost use Rattle.field.specs.At.{fieldAt};
-ghost use Rattle.field.specs.Told as number;
-ghost use Rattle.placed.specs.Placed.{Placed};
+ghost use Rattle.numeral.specs.field.At.{fieldAt};
+ghost use Rattle.numeral.specs.field.Told as number;
+ghost use Rattle.numeral.specs.placed.Placed.{Placed};
 ghost use Rattle.fileline.specs.Fault.{faultIn};
 ghost use Rattle.fileline.specs.Ending.{codeAndEnd};
 ghost use Rattle.fileline.specs.Told.{told};
@@ -26,16 +29,16 @@ fn four_digits(s: &[u8], at: usize) -> bool
     requires { ⌜ at + 4 ≤ length (now s) ⌝ }
     ensures { λ r. ⌜ (r ≡ true → Placed 4 (now (s .entry)) at) ⌝ }
 {
-    if 9 < field::worth(s[at]) {
+    if 9 < numeral::field::worth(s[at]) {
         return false;
     }
-    if 9 < field::worth(s[at + 1]) {
+    if 9 < numeral::field::worth(s[at + 1]) {
         return false;
     }
-    if 9 < field::worth(s[at + 2]) {
+    if 9 < numeral::field::worth(s[at + 2]) {
         return false;
     }
-    if 9 < field::worth(s[at + 3]) {
+    if 9 < numeral::field::worth(s[at + 3]) {
         return false;
     }
     true
@@ -48,13 +51,13 @@ fn four_at(s: &[u8], at: usize) -> NumAt
 {
     if 4 <= s.len() - at {
         let end = at + 4;
-        if field::ends(s, end) {
+        if numeral::field::ends(s, end) {
             if four_digits(s, at) {
-                return NumAt::Value(placed::four(s, at), end);
+                return NumAt::Value(numeral::placed::four(s, at), end);
             }
         }
     }
-    field::number_at(s, at, 4, 4)
+    numeral::field::number_at(s, at, 4, 4)
 }
 
 // KIND: four digits, one of the sheet's kinds.
@@ -113,7 +116,7 @@ fn serial_at(s: &[u8], at: usize, interval: bool, from: u64, to: u64, seen: Seen
     requires { ⌜ at ≤ length (now s) ⌝ }
     ensures { λ r. ⌜ number.told r ≡ fieldAt (readNumber (faultIn interval from to (seen .words))) (now (s .entry)) at ⌝ }
 {
-    match field::number_at(s, at, 6, 6) {
+    match numeral::field::number_at(s, at, 6, 6) {
         NumAt::Value(n, end) => {
             let fault = number_fault(interval, from, to, seen, n);
             if fault == 0 {

@@ -18,7 +18,7 @@ use Rattle.paper.specs.Days.{shortDay, readDay, realDay}
 use Rattle.paper.specs.Batch.{Header}
 use Rattle.paper.specs.Entries.{Entry, head, file, group, item, closeGroup, closeFile}
 use Rattle.paper.specs.FirstLine.{textField, readTo, readRest, readFirst}
-use Rattle.given.proofs.Given.{value-fault, value-same, given-value}
+use Rattle.numeral.proofs.given.Given.{value-fault, value-same, given-value}
 use Rattle.numeral.proofs.Sound.{digits-sound}
 use Rattle.calendar.proofs.Sound.{day-sound}
 use Rattle.sheet.specs.declared.Sheet.{Sheet}

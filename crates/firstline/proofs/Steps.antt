@@ -19,8 +19,8 @@ use Rattle.paper.specs.FirstLine.{textField, readRest, restLength}
 use Rattle.numeral.specs.declared.Num.{Num}
 use Rattle.numeral.specs.declared.Num.the-variants.{Value, Refused}
 use Rattle.numeral.specs.Told.{told}
-use Rattle.given.proofs.Steps.{steps}
-use Rattle.field.proofs.Steps.{step-place, step-no-place, step-given, step-fault}
+use Rattle.numeral.proofs.given.Steps.{steps}
+use Rattle.numeral.proofs.field.Steps.{step-place, step-no-place, step-given, step-fault}
 use Rattle.firstline.specs.Stages.{restTaken}
 
 -- a line that ends before the date does

@@ -54,7 +54,7 @@ fn read_name(s: &[u8], ordered: bool, short: bool, date: u64) -> FirstRead
     if s.len() < 30 {
         return FirstRead::Refused(4, 10);
     }
-    if seek::all_text(&s[10..30], 0) {
+    if scan::seek::all_text(&s[10..30], 0) {
         return read_client(s, ordered, short, date);
     }
     FirstRead::Refused(4, 10)
@@ -135,7 +135,7 @@ fn rest_taken(s: &[u8], short: bool) -> bool
     ensures { λ r. ⌜ r ≡ restTaken short (drop 46 (now (s .entry))) ⌝ }
 {
     if rest_length(s.len() - 46, short) {
-        return seek::all_text(s, 46);
+        return scan::seek::all_text(s, 46);
     }
     false
 }

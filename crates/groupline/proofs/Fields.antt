@@ -15,11 +15,11 @@ use Rattle.paper.specs.Entries.{group, got}
 use Rattle.paper.specs.GroupLine.{spaceCount, hasPayer}
 use Rattle.amount.proofs.Sound.{total-sound}
 use Rattle.calendar.proofs.Sound.{due-sound}
-use Rattle.field.specs.At.{fieldAt}
-use Rattle.field.specs.declared.NumAt.{NumAt}
-use Rattle.field.specs.declared.NumAt.the-variants as num
-use Rattle.field.specs.Told as number
-use Rattle.field.proofs.Steps.{found-value, number-within, steps}
+use Rattle.numeral.specs.field.At.{fieldAt}
+use Rattle.numeral.specs.declared.field.NumAt.{NumAt}
+use Rattle.numeral.specs.declared.field.NumAt.the-variants as num
+use Rattle.numeral.specs.field.Told as number
+use Rattle.numeral.proofs.field.Steps.{found-value, number-within, steps}
 
 -- ---- whether the payer's field stands in the line
 

@@ -11,13 +11,13 @@ use Rattle.paper.specs.Read.{Field}
 use Rattle.paper.specs.Accounts.{Account, nobody, isNobody, readPayer}
 use Rattle.paper.specs.Entries.{Said, no, field, gap}
 use Rattle.paper.specs.GroupLine.{hasPayer, totalAndDate, readGroup}
-use Rattle.field.specs.At.{fieldAt}
-use Rattle.field.specs.Kept.{keeping}
-use Rattle.field.proofs.Steps.{found-field, step-gap, step-no-gap}
-use Rattle.field.proofs.Kept.{was-found, missed-kept}
-use Rattle.field_account.specs.declared.PayerAt.{PayerAt}
-use Rattle.field_account.specs.declared.PayerAt.the-variants as payers
-use Rattle.field_account.specs.Told.{toldPayer}
+use Rattle.numeral.specs.field.At.{fieldAt}
+use Rattle.numeral.specs.field.Kept.{keeping}
+use Rattle.numeral.proofs.field.Steps.{found-field, step-gap, step-no-gap}
+use Rattle.numeral.proofs.field.Kept.{was-found, missed-kept}
+use Rattle.account.specs.declared.at.PayerAt.{PayerAt}
+use Rattle.account.specs.declared.at.PayerAt.the-variants as payers
+use Rattle.account.specs.at.Told.{toldPayer}
 use Rattle.groupline.specs.declared.GroupRead.{GroupRead}
 use Rattle.groupline.specs.declared.GroupRead.the-variants.{Refused}
 use Rattle.groupline.specs.Told.{told, Marked, Tells}

@@ -1,2 +1,3 @@
 pub mod Told
 pub mod Spaced
+pub mod take

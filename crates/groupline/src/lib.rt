@@ -1,6 +1,8 @@
 // The line that begins a group: `2 TOTAL DATE`, or with the payer's account before TOTAL.
-use field::NumAt;
-use field_account::PayerAt;
+pub mod take;
+
+use account::at::PayerAt;
+use numeral::field::NumAt;
 use sheet::Sheet;
 ghost use mathlib.Core.Path.{_≡_};
 ghost use mathlib.Core.Bool.{true};
@@ -68,7 +70,7 @@ fn third_space(s: &[u8]) -> bool
     if s[0] == 32 {
         return true;
     }
-    line::field_end(s, stop + 1) < s.len()
+    scan::line::field_end(s, stop + 1) < s.len()
 }
 
 // Does the payer's field stand in the line? Where it does not stand always, the line's spaces tell.
@@ -81,7 +83,7 @@ fn has_payer(s: &[u8], always: bool) -> bool
     if is_spaced(s) {
         return third_space(s);
     }
-    3 <= line::spaces(s)
+    3 <= scan::line::spaces(s)
 }
 
 // TOTAL, at `at`, and DATE, behind the payer.
@@ -92,7 +94,7 @@ fn total_and_date(s: &[u8], at: usize, sh: Sheet, today: u64, single: bool) -> G
     ensures { λ r. ⌜ Marked single r ⌝ }
     ensures { λ r. ⌜ Low r ⌝ }
 {
-    match field_amount::total_at(s, at, sh.comma) {
+    match amount::at::total_at(s, at, sh.comma) {
         NumAt::Refused(n) => GroupRead::Refused(n, at),
         NumAt::Value(total, end) => {
             if s.len() <= end {
@@ -100,7 +102,7 @@ fn total_and_date(s: &[u8], at: usize, sh: Sheet, today: u64, single: bool) -> G
             }
             let from = end + 1;
             let limits = sh.limits();
-            match field_day::due_at(s, from, sh.longdate, sh.early, limits.ahead, today) {
+            match calendar::at::due_at(s, from, sh.longdate, sh.early, limits.ahead, today) {
                 NumAt::Refused(n) => GroupRead::Refused(n, from),
                 NumAt::Value(date, last) => {
                     if last < s.len() {
@@ -128,7 +130,7 @@ pub fn group_line(s: &[u8], sh: Sheet, today: u64) -> GroupRead
     ensures { λ r. ⌜ Low r ⌝ }
 {
     if has_payer(s, sh.emptypayer) {
-        match field_account::judge_payer(s, 2, sh.emptypayer, sh.zeropayer, sh.joined, sh.basemin) {
+        match account::at::judge_payer(s, 2, sh.emptypayer, sh.zeropayer, sh.joined, sh.basemin) {
             PayerAt::Refused(n) => GroupRead::Refused(n, 2),
             PayerAt::At(single, end) => {
                 if s.len() <= end {

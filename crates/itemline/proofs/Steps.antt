@@ -10,14 +10,14 @@ use Rattle.paper.specs.Texts.{Texts, readText}
 use Rattle.paper.specs.Entries.{Said, no, onField}
 use Rattle.paper.specs.ItemLine.{tail, readItem}
 use Rattle.paper.specs.ItemLine as lines
-use Rattle.field.proofs.Steps.{step-known, step-unknown}
+use Rattle.numeral.proofs.field.Steps.{step-known, step-unknown}
 use Rattle.text.specs.declared.TextRead.{TextRead}
 use Rattle.text.specs.declared.TextRead.the-variants as text
 use Rattle.text.specs.Told as texts
-use Rattle.span.specs.declared.Spans.{Spans}
-use Rattle.span.specs.Held.{textsAt}
-use Rattle.wording.proofs.Warnings.{text-warnings}
-use Rattle.tail.specs.Told.{tailOf}
+use Rattle.text.specs.declared.span.Spans.{Spans}
+use Rattle.text.specs.span.Held.{textsAt}
+use Rattle.text.proofs.wording.Warnings.{text-warnings}
+use Rattle.itemline.specs.tail.Told.{tailOf}
 use Rattle.itemline.specs.Walk.{spaced, fromBank, fromVariable, fromAmount, fromPayee, payerFirst, walk, itemSaid}
 
 -- ---- the texts

@@ -5,9 +5,9 @@ use Rattle.paper.specs.Accounts.{account}
 use Rattle.paper.specs.Batch.{Item, most14}
 use Rattle.paper.specs.Entries.{item, Said, got}
 use Rattle.paper.specs.ItemLine.{partBytes, places}
-use Rattle.span.specs.declared.Span.{Span}
-use Rattle.span.specs.declared.Spans.{Spans}
-use Rattle.span.specs.Held.{pieceAt, textsAt, Held}
+use Rattle.text.specs.declared.span.Span.{Span}
+use Rattle.text.specs.declared.span.Spans.{Spans}
+use Rattle.text.specs.span.Held.{pieceAt, textsAt, Held}
 use Rattle.itemline.specs.declared.Fields.{Fields}
 
 -- no message and no name

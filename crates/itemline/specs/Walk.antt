@@ -11,7 +11,7 @@ use Rattle.paper.specs.BankField.{Bank, readBank}
 use Rattle.paper.specs.Texts.{Texts}
 use Rattle.paper.specs.Entries.{item, Said, got, field, gap}
 use Rattle.paper.specs.ItemLine.{readSymbol, itemOf, places}
-use Rattle.tail.specs.Told.{tailOf}
+use Rattle.itemline.specs.tail.Told.{tailOf}
 
 -- a field and the space behind it, before the rest of the walk (k)
 unfoldable pub spaced : {A : Type 0} → (List ℕ → Field A) → ℕ → List ℕ → (A → ℕ → List ℕ → Said) → Said

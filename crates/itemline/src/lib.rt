@@ -1,5 +1,9 @@
-// What an item's line says, for its readers: `judgeitem` keeps its amount and warnings, `takeitem` takes its fields. No code: see specs/ and proofs/.
-use span::Spans;
+// What an item's line says, for its readers: `itemline::judge` keeps its amount and warnings, `itemline::take` takes its fields. No code: see specs/ and proofs/.
+pub mod judge;
+pub mod tail;
+pub mod take;
+
+use text::span::Spans;
 
 // The fields of an item, its texts by their places in the line, and how many warnings the line gives. No payer is prefix and base 0.
 pub struct Fields {

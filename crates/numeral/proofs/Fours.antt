@@ -7,7 +7,7 @@ use native.Mathlib.Omega.{arith}
 use lib.ListN.{length, take, drop, length-append}
 use lib.Seq.{length-take-le, take-append-le, take-take, drop-at}
 use Rattle.base.specs.Put.{put, Wrote}
-use Rattle.put.proofs.Room.{wrote-length}
+use Rattle.out.proofs.put.Room.{wrote-length}
 use Rattle.paper.specs.Numerals.{fixed}
 use Rattle.numeral.proofs.Fixed.{fixed-length}
 use Rattle.numeral.proofs.Join.{join-fixed}

@@ -9,7 +9,7 @@ use borrow.Author.Tests.{lt-ltb}
 use Rattle.base.specs.Pick.{pick}
 use Rattle.base.specs.Put.{Wrote}
 use Rattle.base.proofs.Put.{put-sets, _then_}
-use Rattle.put.proofs.Room.{wrote-length, wrote-none}
+use Rattle.out.proofs.put.Room.{wrote-length, wrote-none}
 use Rattle.paper.specs.Numerals.{decOn, decimal, fixedOn, fixed}
 use Rattle.numeral.proofs.Fixed.{fixed-length, decimal-fixed}
 use Rattle.numeral.proofs.Long.{decimal-some}

@@ -1,4 +1,9 @@
 // Numbers in decimal digits: read from a field, counted, and written into a lent output.
+pub mod counted;
+pub mod field;
+pub mod given;
+pub mod placed;
+
 ghost use mathlib.Core.Path.{_≡_};
 ghost use Prim.Native.Nat.{_+_, _/_, _≤_, _<_};
 ghost use lib.ListN.{length};
@@ -148,12 +153,12 @@ fn put_few(out: &mut [u8], at: usize, k: usize, n: u64) -> usize
         return at;
     }
     if k == 1 {
-        return put::put_byte(out, at, 48 + (n % 10) as u8);
+        return out::put::put_byte(out, at, 48 + (n % 10) as u8);
     }
     if k == 2 {
         return put_pair(out, at, n % 100);
     }
-    let e = put::put_byte(out, at, 48 + (n / 100 % 10) as u8);
+    let e = out::put::put_byte(out, at, 48 + (n / 100 % 10) as u8);
     put_pair(out, e, n % 100)
 }
 
@@ -181,13 +186,13 @@ fn put_short(out: &mut [u8], at: usize, n: u64) -> usize
 {
     if n < 100 {
         if n < 10 {
-            return put::put_byte(out, at, 48 + n as u8);
+            return out::put::put_byte(out, at, 48 + n as u8);
         }
         return put_pair(out, at, n);
     }
     if n < 1000 {
         let high = hundreds(n);
-        let e = put::put_byte(out, at, 48 + high as u8);
+        let e = out::put::put_byte(out, at, 48 + high as u8);
         return put_pair(out, e, n - high * 100);
     }
     put_four(out, at, n)

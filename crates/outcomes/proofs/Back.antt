@@ -18,9 +18,9 @@ use Rattle.paper.specs.Rows.{rowsIn, thingsIn}
 use Rattle.paper.specs.Reading.{readAnswer, rowsAfter}
 use Rattle.paper.specs.Writing.{Draft, drafted, refusal, draftWith, draft, WriteAnswer, writtenIn, outputAfter}
 use Rattle.exact.proofs.Main.{exact}
-use Rattle.whole.specs.Carries.{headRead, pastWarnings}
-use Rattle.whole.proofs.Main as whole
-use Rattle.whole.proofs.Drafts.{not-both}
+use Rattle.roundtrip.specs.whole.Carries.{headRead, pastWarnings}
+use Rattle.roundtrip.proofs.whole.Main as whole
+use Rattle.roundtrip.proofs.whole.Drafts.{not-both}
 use Rattle.outcomes.specs.Outcomes.{ComesBack}
 use Rattle.outcomes.proofs.Reading as reading
 use Rattle.outcomes.proofs.Writing.{draft-numbered}

@@ -21,11 +21,11 @@ use Rattle.paper.specs.FirstFault.{FirstFault}
 use Rattle.paper.specs.Rows.{rowSize, rowsIn, thingsIn, linesRows, rowsBytes}
 use Rattle.paper.specs.Reading.{ReadAnswer, refusedAt, needs, acceptedAs, rowCount, answered, readWith, readAnswer, filled, rowsWith, rowsAfter}
 use Rattle.exact.proofs.Main.{exact}
-use Rattle.faults.proofs.Main.{refused}
+use Rattle.exact.proofs.faults.Main.{refused}
 use Rattle.rowlaws.proofs.Main.{row-bytes, rows-return}
 use Rattle.rowlaws.proofs.Main as rowlaws
 use Rattle.paper.proofs.Trees.{batch-things}
-use Rattle.named.proofs.Main.{judge-named}
+use Rattle.exact.proofs.named.Main.{judge-named}
 use Rattle.outcomes.specs.Outcomes.{ReadsAs}
 
 -- a batch of one or more account files has one or more rows

@@ -17,9 +17,9 @@ use Rattle.paper.specs.Reading.{rowCount}
 use Rattle.paper.specs.Canonical.{canon}
 use Rattle.paper.specs.Writing.{drafted, refusal, draft}
 use Rattle.exact.proofs.Main.{exact}
-use Rattle.whole.specs.Carries.{Refuses, headRead, pastWarnings}
-use Rattle.whole.proofs.Main as whole
-use Rattle.whole.proofs.Drafts.{by-draft, draft-known}
+use Rattle.roundtrip.specs.whole.Carries.{Refuses, headRead, pastWarnings}
+use Rattle.roundtrip.proofs.whole.Main as whole
+use Rattle.roundtrip.proofs.whole.Drafts.{by-draft, draft-known}
 use Rattle.outcomes.specs.Outcomes.{ReadsAs, Hold, WritesAs}
 use Rattle.outcomes.proofs.Reading as reading
 use Rattle.outcomes.proofs.Writing as writing

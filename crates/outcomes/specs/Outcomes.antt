@@ -10,7 +10,7 @@ use Rattle.paper.specs.Batch.{Batch, Header, things}
 use Rattle.paper.specs.Rows.{rowSize, rowsIn, thingsIn}
 use Rattle.paper.specs.Reading.{ReadAnswer, acceptedAs, rowCount, readAnswer, rowsAfter}
 use Rattle.paper.specs.Writing.{draft, writtenIn, outputAfter}
-use Rattle.whole.specs.Carries.{headRead, pastWarnings}
+use Rattle.roundtrip.specs.whole.Carries.{headRead, pastWarnings}
 
 -- lent rows, their texts in lent bytes, hold the batch b
 abbrev pub Hold : List ℕ → List ℕ → Batch → Type 0

@@ -16,10 +16,10 @@ use Rattle.paper.specs.Lines.{linesOf}
 use Rattle.paper.specs.Rows.{rowSize, linesRows, rowsBytes}
 use Rattle.paper.specs.Reading.{ReadAnswer, refusedAt, needs, acceptedAs, readWith, rowsWith, readAnswer, rowsAfter}
 use Rattle.tally.specs.Tally.{Yes, tally}
-use Rattle.reading.specs.declared.Head.{Head}
-use Rattle.reading.specs.declared.FileJudged.{FileJudged}
-use Rattle.reading.specs.declared.FileJudged.the-variants as judged
-use Rattle.reading.specs.Answer.{headOf, told, Sound, Kept}
+use Rattle.judge.specs.declared.file.Head.{Head}
+use Rattle.judge.specs.declared.file.FileJudged.{FileJudged}
+use Rattle.judge.specs.declared.file.FileJudged.the-variants as judged
+use Rattle.judge.specs.file.Answer.{headOf, told, Sound, Kept}
 use Rattle.read.proofs.Laws as laws
 
 -- ---- the sheet

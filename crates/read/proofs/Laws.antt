@@ -18,7 +18,7 @@ use Rattle.paper.specs.Reading.{refusedAt, needs, acceptedAs, answered, readWit
 use Rattle.tally.specs.Tally.{No, Yes, brief, tally}
 use Rattle.tally.proofs.Same.{tally-is}
 use Rattle.rowlaws.proofs.Main.{row-bytes}
-use Rattle.filling.specs.Judged.{AllSaid}
+use Rattle.fill.specs.file.Judged.{AllSaid}
 use Rattle.read.proofs.Said.{file-said}
 
 -- ---- what the judge answered, from its answer in brief

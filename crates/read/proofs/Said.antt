@@ -13,8 +13,8 @@ use Rattle.paper.specs.Judge.{Accepted, judge}
 use Rattle.exact.proofs.Main.{exact}
 use Rattle.rowlaws.proofs.Within.{head-again, file-line-again, group-again, item-again, group-end-again, file-end-again}
 use Rattle.rowlaws.proofs.Filled.{Meets, Runs, runs-batch}
-use Rattle.placed.specs.Said.{isSaid}
-use Rattle.filling.specs.Judged.{AllSaid}
+use Rattle.numeral.specs.placed.Said.{isSaid}
+use Rattle.fill.specs.file.Judged.{AllSaid}
 
 -- one line: it says the same in the context of an item, and so do the lines behind it (P)
 module _ (sh : Sheet) (today : ℕ) (s : List ℕ) (b : Bool) (P : Bool → Type 0) where

@@ -1,7 +1,7 @@
 // Reading a whole file into lent rows, with the whole answer in one struct. The file is judged first; rows are put only if it is accepted and
 // they have room.
-use reading::FileJudged;
-use reading::Head;
+use judge::file::FileJudged;
+use judge::file::Head;
 use sheet::Known;
 use sheet::Sheet;
 ghost use mathlib.Core.Path.{_≡_};
@@ -16,7 +16,7 @@ ghost use Rattle.paper.specs.Batch.{spaces20};
 ghost use Rattle.paper.specs.Rows.{rowSize};
 ghost use Rattle.paper.specs.Reading.{refusedAt, needs, readWith, rowsWith, readAnswer, rowsAfter};
 ghost use Rattle.tally.specs.Tally.{Yes, tally};
-ghost use Rattle.reading.specs.Answer.{headOf, Sound};
+ghost use Rattle.judge.specs.file.Answer.{headOf, Sound};
 ghost use Rattle.read.specs.Told.{toldHeader, told};
 
 // The header of a file. The name is 20 bytes.
@@ -142,7 +142,7 @@ fn accept(
     if (room as u64) < count {
         return no_room(count);
     }
-    filling::fill_rows(file, sh, today, rows);
+    fill::file::fill_rows(file, sh, today, rows);
     AboAnswer {
         number: 0,
         line: 0,
@@ -161,7 +161,7 @@ fn read_on(file: &[u8], sh: Sheet, today: u64, rows: &mut [u8]) -> AboAnswer
     ensures { λ _. ⌜ now (rows .exit) ≡ rowsWith (known.Sheet sh) today (now (file .entry)) (now (rows .entry)) ⌝ }
 {
     if calendar::real_day(today) {
-        match reading::judge_file(file, sh, today) {
+        match judge::file::judge_file(file, sh, today) {
             FileJudged::Refused(n, line, byte) => refusal(n, line, byte),
             FileJudged::Accepted {
                 head,

@@ -6,8 +6,8 @@ use Prim.Native.Nat.{ℕ, _+_}
 use native.Mathlib.Omega.{arith}
 use Rattle.base.proofs.Cases.{by-test}
 use Rattle.paper.specs.Lines.{Line}
-use Rattle.line.specs.declared.Cut.{Cut}
-use Rattle.line.proofs.Only.{cuts-one}
+use Rattle.scan.specs.declared.line.Cut.{Cut}
+use Rattle.scan.proofs.line.Only.{cuts-one}
 use Rattle.reader.specs.declared.AboLine.{AboLine}
 use Rattle.reader.specs.declared.Found.{Found}
 use Rattle.reader.specs.Named.{LineAnswer, told}

@@ -5,9 +5,9 @@ use mathlib.Core.List.{List}
 use Prim.Native.Nat.{ℕ, _+_, _-_, _≤_}
 use native.Mathlib.Omega.{arith}
 use lib.ListN.{length}
-use Rattle.line.specs.declared.Cut.{Cut}
-use Rattle.line.specs.Cutting.{Cuts}
-use Rattle.line.proofs.Lines.{at-end}
+use Rattle.scan.specs.declared.line.Cut.{Cut}
+use Rattle.scan.specs.line.Cutting.{Cuts}
+use Rattle.scan.proofs.line.Lines.{at-end}
 use Rattle.reader.specs.Finding.{Finds, nothingAt}
 
 pub finds-line : (f : List ℕ) (at : ℕ) (r : Cut) → Cuts f at r → Finds f at (record { line = true; start = at; len = r .stop - at; next = r .next })

@@ -12,8 +12,8 @@ use borrow.Author.Tests.{ltb-true, ltb-false, eq-eqb, ne-eqb}
 use Rattle.base.specs.Pick.{pick}
 use Rattle.base.proofs.Cases.{by-test, by-eq, pick-both}
 use Rattle.paper.specs.Lines.{Line, line, linesFrom}
-use Rattle.line.specs.Cutting.{Cuts}
-use Rattle.line.proofs.Lines.{lines-none}
+use Rattle.scan.specs.line.Cutting.{Cuts}
+use Rattle.scan.proofs.line.Lines.{lines-none}
 use Rattle.reader.specs.declared.Found.{Found}
 use Rattle.reader.specs.Named.{LineAnswer, noLine, nth, endLine, places, lineAnswer}
 use Rattle.reader.specs.Finding.{Says, Finds, cutOf, goesOn, answerAt}

@@ -7,8 +7,8 @@ use lib.Dec.{eqb, ltb}
 use denote.Ref.{RefT}
 use Rattle.base.specs.Pick.{pick}
 use Rattle.paper.specs.Lines.{linesFrom}
-use Rattle.line.specs.declared.Cut.{Cut}
-use Rattle.line.specs.Cutting.{Cuts}
+use Rattle.scan.specs.declared.line.Cut.{Cut}
+use Rattle.scan.specs.line.Cutting.{Cuts}
 use Rattle.reader.specs.declared.Found.{Found}
 use Rattle.reader.specs.declared.LineReader.{LineReader}
 use Rattle.reader.specs.Named.{LineAnswer, noLine}

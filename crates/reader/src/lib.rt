@@ -1,6 +1,8 @@
 // A reader of lines: a struct that borrows a file and keeps the place where the next line starts. The borrow checker covers no function over
 // such a struct, so each is thin and proved by a walk of its code, by hand; the work is in `line_at`, `passes` and `named`, which take plain
 // values and are covered. `line_of` stands above them: whoever calls it needs no walk.
+pub mod shown;
+
 ghost use mathlib.Core.Path.{_≡_};
 ghost use Rattle.reader.specs.Finding.{Finds, readerAt, goesOn, answerAt};
 ghost use Rattle.reader.specs.Named.{told, lineAnswer};
@@ -38,7 +40,7 @@ pub fn line_at(file: &[u8], at: usize) -> Found
     ensures { λ r. ⌜ Finds (now (file .entry)) at r ⌝ }
 {
     if at < file.len() {
-        let cut = line::next_line(file, at);
+        let cut = scan::line::next_line(file, at);
         let stop = cut.stop;
         return Found {
             line: true,

@@ -18,12 +18,12 @@ use Rattle.paper.specs.Writing.{drafted, draft}
 use Rattle.paper.specs.Rewriting.{rewritten, rewriting}
 use Rattle.read.specs.declared.AboAnswer.{AboAnswer}
 use Rattle.read.specs.Told.{toldHeader, told}
-use Rattle.request.specs.declared.Request.{Request}
-use Rattle.request.specs.declared.Request.the-variants as request
-use Rattle.request.specs.Asked.{answer, Sound}
+use Rattle.rewriting.specs.declared.request.Request.{Request}
+use Rattle.rewriting.specs.declared.request.Request.the-variants as request
+use Rattle.rewriting.specs.request.Asked.{answer, Sound}
 use Rattle.bounds.specs.Most.{mostInput, mostRows, mostOutput}
-use Rattle.counted.specs.Counted.{Counted}
-use Rattle.counted.proofs.Laws.{counted-wrote}
+use Rattle.numeral.specs.counted.Counted.{Counted}
+use Rattle.numeral.proofs.counted.Laws.{counted-wrote}
 use Rattle.explain.proofs.Wording.{refused-most}
 use Rattle.rewriting.proofs.Front.{wrote-same}
 use Rattle.rewriting.proofs.Read.{Outcome, refuses, accepts, outcome}

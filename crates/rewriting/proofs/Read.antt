@@ -20,10 +20,10 @@ use Rattle.paper.specs.Canonical.{canon}
 use Rattle.paper.specs.Explaining.{refusedLine}
 use Rattle.paper.specs.Writing.{drafted, draft, draftOf}
 use Rattle.paper.specs.Rewriting.{rewritten}
-use Rattle.named.proofs.Main.{judge-named}
+use Rattle.exact.proofs.named.Main.{judge-named}
 use Rattle.rowlaws.proofs.Main as rows
-use Rattle.whole.proofs.Main as whole
-use Rattle.whole.proofs.Drafts.{draft-known}
+use Rattle.roundtrip.proofs.whole.Main as whole
+use Rattle.roundtrip.proofs.whole.Drafts.{draft-known}
 use Rattle.outcomes.proofs.Reading.{says-refused, says-accepted, rows-filled}
 use Rattle.bounds.specs.Most.{mostInput, mostRows, mostOutput}
 use Rattle.bounds.proofs.Files.{rows-enough, output-enough}

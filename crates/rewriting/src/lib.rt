@@ -1,6 +1,8 @@
 // The rewriting program's work on lent bytes: an input of a line and a file is answered by the canonical file, or by the line of a refusal.
+pub mod request;
+
+use crate::request::Request;
 use read::AboHeader;
-use request::Request;
 use sheet::Sheet;
 ghost use mathlib.Core.Path.{_≡_};
 ghost use mathlib.Core.Bool.{true};
@@ -63,7 +65,7 @@ pub fn rewrite(input: &[u8], rows: &mut [u8], out: &mut [u8]) -> usize
     requires { ⌜ (192 * mostRows ≤ length (now rows)) × (mostOutput ≤ length (now out)) ⌝ }
     ensures { λ r. ⌜ Wrote (now (out .entry)) 0 (rewriting (now (input .entry))) (now (out .exit)) r ⌝ }
 {
-    match request::read_request(input) {
+    match crate::request::read_request(input) {
         Request::Refused(n) => explain::put_refused(out, 0, n, 0, 0),
         Request::File { sh, today, at } => rewrite_file(&input[at..], sh, today, rows, out),
     }

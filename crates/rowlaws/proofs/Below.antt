@@ -12,7 +12,7 @@ use Rattle.paper.specs.Days.{readDue}
 use Rattle.paper.specs.Accounts.{Account, nobody, readAccount, readPayer, accountProper, isNobody}
 use Rattle.paper.specs.BankField.{Bank, readBank}
 use Rattle.paper.specs.FileLine.{readKind, readNumber}
-use Rattle.given.proofs.Sound.{tested, number-tested}
+use Rattle.numeral.proofs.given.Sound.{tested, number-tested}
 use Rattle.calendar.proofs.Real.{parts}
 use Rattle.calendar.proofs.Sound.{due-sound}
 use Rattle.account.proofs.Proper.{proper-prefix, proper-base, nobody-is}

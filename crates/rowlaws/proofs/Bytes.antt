@@ -9,7 +9,7 @@ use Rattle.base.specs.Pick.{pick}
 use Rattle.paper.specs.Bytes.{null}
 use Rattle.paper.specs.Words.{wordBytes}
 use Rattle.paper.specs.Rows.{words, rowsOn, rowsIn, wordsBytes, rowsBytes}
-use Rattle.word.proofs.Laws.{word-length, word-back, words-length}
+use Rattle.out.proofs.word.Laws.{word-length, word-back, words-length}
 use Rattle.rowlaws.specs.Sizes.{Long, Small, Smalls}
 
 pub rows-length : (rs : List (List ℕ)) → Long rs → length (rowsBytes rs) ≡ 192 * length rs

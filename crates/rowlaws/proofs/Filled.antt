@@ -12,7 +12,7 @@ use Rattle.paper.specs.Entries.{Entry, head, file, group, item, closeGroup, clo
 use Rattle.paper.specs.FileLine.{series}
 use Rattle.paper.specs.Spells.{Context, forItem, readAs, readLine, Due, itemDues, groupDues, fileDues, dues, SaysEntry, Each}
 use Rattle.paper.specs.Rows.{thingsIn, fileRow, groupRow, itemRow, entryRow, lineRow, singleAfter, singleBehind, accepted, linesRows}
-use Rattle.line.proofs.Places.{Stands, Stand}
+use Rattle.scan.proofs.line.Places.{Stands, Stand}
 use Rattle.exact.proofs.Told.{told-line, kind-file, kind-group, kind-item}
 use Rattle.rowlaws.specs.Places.{Here}
 use Rattle.rowlaws.proofs.Within.{head-again, file-line-again, group-again, item-again, group-end-again, file-end-again}

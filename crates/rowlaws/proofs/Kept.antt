@@ -15,7 +15,7 @@ use Rattle.paper.specs.FileLine.{readFile}
 use Rattle.paper.specs.GroupLine.{readGroup}
 use Rattle.paper.specs.ItemLine.{partBytes, places, readItem}
 use Rattle.paper.proofs.LineSays.{Payer, stands, lacks, a-symbol, Text, no-text, a-text, LineSays, no-header, a-header, a-file, a-group, an-item, a-group-end, a-file-end, refused, file-says, group-says, item-says}
-use Rattle.given.proofs.Sound.{symbol-sound}
+use Rattle.numeral.proofs.given.Sound.{symbol-sound}
 use Rattle.rowlaws.specs.Places.{Placed}
 use Rattle.rowlaws.proofs.Pieces.{text-places}
 use Rattle.rowlaws.proofs.Below.{Short, nobody-short, kind-below, number-below, due-below, account-short, payer-short, bank-below}

@@ -9,7 +9,7 @@ use Rattle.paper.specs.Batch.{Batch, Header, things}
 use Rattle.paper.specs.Lines.{Line, linesOf}
 use Rattle.paper.specs.Judge.{Accepted, judge}
 use Rattle.paper.specs.Rows.{rowsIn, thingsIn, linesRows, rowsBytes}
-use Rattle.line.proofs.Places.{lines-stand}
+use Rattle.scan.proofs.line.Places.{lines-stand}
 use Rattle.exact.proofs.Main.{exact}
 use Rattle.rowlaws.specs.Sizes.{Long, Smalls}
 use Rattle.rowlaws.proofs.Filled.{Rows, batch-rows, rows-count, rows-tell}

@@ -7,11 +7,11 @@ use Rattle.sheet.specs.declared.Sheet.{Sheet}
 use Rattle.paper.specs.Batch.{Header}
 use Rattle.paper.specs.Proper.{any, check, mayStop, rowsProper}
 use Rattle.paper.specs.Carried.{rowsCarried}
-use Rattle.flat.specs.Count.{fileClosing, count}
-use Rattle.surveying.specs.declared.Stage.the-variants as stage
-use Rattle.surveying.specs.declared.Found.the-variants as found
-use Rattle.surveying.specs.declared.State.{State}
-use Rattle.surveying.specs.Stands.{improper, unfit, fits, surveyOf, resume}
+use Rattle.roundtrip.specs.flat.Count.{fileClosing, count}
+use Rattle.survey.specs.declared.state.Stage.the-variants as stage
+use Rattle.survey.specs.declared.state.Found.the-variants as found
+use Rattle.survey.specs.declared.state.State.{State}
+use Rattle.survey.specs.state.Stands.{improper, unfit, fits, surveyOf, resume}
 
 module _ (sh : Sheet) (today : ℕ) (h : Header) (l : List ℕ) (k : ℕ) (st : State) where
   -- 20: a row is missing

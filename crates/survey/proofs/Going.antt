@@ -10,17 +10,17 @@ use Rattle.paper.specs.Batch.{Header, Thing}
 use Rattle.paper.specs.Proper.{batchProper}
 use Rattle.paper.specs.Carried.{batchCarried}
 use Rattle.paper.specs.Rows.{words, rowsIn, thingIn, thingsIn}
-use Rattle.seen.specs.Bits.{Holds}
-use Rattle.rowlist.specs.From.{thingsFrom}
-use Rattle.rowlist.proofs.From.{things-step, things-end, things-rest}
-use Rattle.surveying.specs.declared.State.{State}
-use Rattle.surveying.specs.declared.Step.{Step}
-use Rattle.surveying.specs.declared.Step.the-variants as step
-use Rattle.surveying.specs.Stands.{atStart, resume}
-use Rattle.surveying.specs.Low.{Low, LowStep}
-use Rattle.surveying.specs.Goes.{Goes}
-use Rattle.surveying.proofs.Judging.{goes-strange}
-use Rattle.surveying.proofs.Bounds.{low-start, limits}
+use Rattle.fileline.specs.seen.Bits.{Holds}
+use Rattle.rows.specs.list.From.{thingsFrom}
+use Rattle.rows.proofs.list.From.{things-step, things-end, things-rest}
+use Rattle.survey.specs.declared.state.State.{State}
+use Rattle.survey.specs.declared.state.Step.{Step}
+use Rattle.survey.specs.declared.state.Step.the-variants as step
+use Rattle.survey.specs.state.Stands.{atStart, resume}
+use Rattle.survey.specs.state.Low.{Low, LowStep}
+use Rattle.survey.specs.state.Goes.{Goes}
+use Rattle.survey.proofs.state.Judging.{goes-strange}
+use Rattle.survey.proofs.state.Bounds.{low-start, limits}
 use Rattle.survey.specs.declared.Surveyed.{Surveyed}
 use Rattle.survey.specs.declared.Surveyed.the-variants as answer
 use Rattle.survey.specs.Told.{told, judged}

@@ -5,8 +5,8 @@ use Rattle.sheet.specs.declared.Sheet.{Sheet}
 use Rattle.paper.specs.Batch.{Header, Thing}
 use Rattle.paper.specs.Proper.{needFile, batchProper}
 use Rattle.paper.specs.Carried.{batchCarried}
-use Rattle.flat.specs.Count.{count}
-use Rattle.surveying.specs.Stands.{Outcome, improper, unfit, fits, surveyOf}
+use Rattle.roundtrip.specs.flat.Count.{count}
+use Rattle.survey.specs.state.Stands.{Outcome, improper, unfit, fits, surveyOf}
 use Rattle.survey.specs.declared.Surveyed.{Surveyed}
 use Rattle.survey.specs.declared.Surveyed.the-variants.{Improper, Unfit, Fits}
 

@@ -1,10 +1,13 @@
 // The judging pass of writing: 20, 21 and the length of the file, in one pass over the lent rows.
-use seen::Seen;
+pub mod state;
+pub mod step;
+
+use crate::state::Found;
+use crate::state::Stage;
+use crate::state::State;
+use crate::state::Step;
+use fileline::seen::Seen;
 use sheet::Sheet;
-use surveying::Found;
-use surveying::Stage;
-use surveying::State;
-use surveying::Step;
 ghost use mathlib.Core.Path.{_≡_};
 ghost use mathlib.Core.Bool.{true};
 ghost use mathlib.Core.List.{List, []};
@@ -14,9 +17,9 @@ ghost use Rattle.paper.specs.Days.{realDay};
 ghost use Rattle.paper.specs.Batch.{Header};
 ghost use Rattle.paper.specs.Proper.{any};
 ghost use Rattle.paper.specs.Rows.{rowsIn, thingsIn};
-ghost use Rattle.flat.specs.Count.{fileClosing};
-ghost use Rattle.surveying.specs.Stands.{resume};
-ghost use Rattle.surveying.specs.Low.{Low};
+ghost use Rattle.roundtrip.specs.flat.Count.{fileClosing};
+ghost use Rattle.survey.specs.state.Stands.{resume};
+ghost use Rattle.survey.specs.state.Low.{Low};
 ghost use Rattle.survey.specs.Told.{told, judged, Small};
 
 // What judging ends in: 20 or 21, at a row and a field; or the bytes of all lines behind the first.
@@ -31,7 +34,7 @@ fn all_bytes(st: State) -> u64
     requires { ⌜ st .bytes ≤ 100000000000 ⌝ }
     ensures { λ r. ⌜ (r ≡ st .bytes + fileClosing any (st .sum)) × (r ≤ 200000000000) ⌝ }
 {
-    let closing = surveying::file_closing(Stage::Any, st.sum);
+    let closing = crate::state::file_closing(Stage::Any, st.sum);
     st.bytes + closing
 }
 
@@ -63,9 +66,9 @@ pub fn survey(rows: &[u8], texts: &[u8], sh: Sheet, today: u64, from: u64, to: u
     let mut at: usize = 0;
     let mut k: u64 = 1;
     let mut seen = Seen::none();
-    let mut st = surveying::start();
+    let mut st = crate::state::start();
     while 192 <= rows.len() - at {
-        match rowstep::row_step(rows, at, texts, sh, today, from, to, seen, k, st) {
+        match crate::step::row_step(rows, at, texts, sh, today, from, to, seen, k, st) {
             Step::On(next) => {
                 st = next;
                 at = at + 192;

@@ -18,7 +18,7 @@ use Rattle.paper.proofs.LineSays as lines
 use Rattle.paper.proofs.LineSays.{LineSays, Text, no-text, a-text}
 use Rattle.amount.proofs.Sound.{amount-within}
 use Rattle.bank.proofs.Sound.{bank-warnings}
-use Rattle.wording.proofs.Warnings.{text-warnings}
+use Rattle.text.proofs.wording.Warnings.{text-warnings}
 
 pub data Light : Kind → Said → Type 0 where
   a-head : {h : Header} {p : List ℕ} → Light headLine (got (head h) 0 p)

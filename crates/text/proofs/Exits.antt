@@ -23,7 +23,7 @@ use Rattle.text.specs.Finish.{finishOne, finishAt, nameAt}
 use Rattle.text.specs.declared.Begun.{Begun}
 use Rattle.text.specs.declared.Begun.the-variants as begun
 use Rattle.text.specs.declared.TextRead.{TextRead}
-use Rattle.span.specs.declared.Span.{Span}
+use Rattle.text.specs.declared.span.Span.{Span}
 use Rattle.text.proofs.Right.{tells-same, finish-right}
 use Rattle.text.proofs.Turns.{finish-alone}
 

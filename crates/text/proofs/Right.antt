@@ -12,10 +12,10 @@ use Rattle.base.proofs.Cases.{by-lt, pick-true, pick-false}
 use Rattle.sheet.specs.declared.Style.{Style}
 use Rattle.paper.specs.Read.{Field, value, fault}
 use Rattle.paper.specs.Texts.{piece, Texts, others, divide, over, overs, finish}
-use Rattle.span.specs.Held.{textsAt, Held}
-use Rattle.span.specs.Places.{fourFrom}
-use Rattle.span.specs.declared.Spans.{Spans}
-use Rattle.span.proofs.Right.{warned, found-right, found-held}
+use Rattle.text.specs.span.Held.{textsAt, Held}
+use Rattle.text.specs.span.Places.{fourFrom}
+use Rattle.text.specs.declared.span.Spans.{Spans}
+use Rattle.text.proofs.span.Right.{warned, found-right, found-held}
 use Rattle.text.specs.Told.{Tells}
 use Rattle.text.specs.Finish.{judged, finishAt}
 use Rattle.text.specs.declared.TextRead.{TextRead}

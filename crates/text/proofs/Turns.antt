@@ -12,11 +12,11 @@ use Rattle.base.proofs.Cases.{by-eq, pick-true, pick-false}
 use Rattle.sheet.specs.declared.Style.{Style}
 use Rattle.paper.specs.Bytes.{bar, mark}
 use Rattle.paper.specs.Texts.{others, opens, messageEnd}
-use Rattle.span.specs.Places.{span, partAt, ended, foundAt, oneAt}
-use Rattle.span.specs.declared.Part.{Part}
-use Rattle.span.specs.declared.Spans.{Spans}
-use Rattle.span.proofs.Turns.{part-bar, part-next, part-upto, part-near, bars-none, four-found, one-found}
-use Rattle.span.proofs.Bars.{count-least, count-few}
+use Rattle.text.specs.span.Places.{span, partAt, ended, foundAt, oneAt}
+use Rattle.text.specs.declared.span.Part.{Part}
+use Rattle.text.specs.declared.span.Spans.{Spans}
+use Rattle.text.proofs.span.Turns.{part-bar, part-next, part-upto, part-near, bars-none, four-found, one-found}
+use Rattle.text.proofs.span.Bars.{count-least, count-few}
 use Rattle.text.specs.Finish.{judged, finishOne, finishAt, nameAt}
 use Rattle.text.specs.declared.TextRead.{TextRead}
 use Rattle.text.specs.declared.TextRead.the-variants as answer

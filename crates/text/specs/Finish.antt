@@ -6,9 +6,9 @@ use lib.ListN.{length, drop}
 use Rattle.base.specs.Pick.{pick}
 use Rattle.sheet.specs.declared.Style.{Style}
 use Rattle.paper.specs.Texts.{others}
-use Rattle.span.specs.declared.Span.{Span}
-use Rattle.span.specs.declared.Spans.{Spans}
-use Rattle.span.specs.Places.{span, oneAt, fourFrom}
+use Rattle.text.specs.declared.span.Span.{Span}
+use Rattle.text.specs.declared.span.Spans.{Spans}
+use Rattle.text.specs.span.Places.{span, oneAt, fourFrom}
 use Rattle.text.specs.declared.TextRead.{TextRead}
 use Rattle.text.specs.declared.TextRead.the-variants as answer
 

@@ -4,7 +4,7 @@ use Prim.Native.Nat.{ℕ}
 use mathlib.Core.List.{List}
 use Rattle.paper.specs.Read.{Field, value, fault}
 use Rattle.paper.specs.Texts.{Texts}
-use Rattle.span.specs.Held.{textsAt, Held}
+use Rattle.text.specs.span.Held.{textsAt, Held}
 use Rattle.text.specs.declared.TextRead.{TextRead}
 use Rattle.text.specs.declared.TextRead.the-variants as answer
 

@@ -19,10 +19,10 @@ use Rattle.paper.specs.FirstLine.{spellFirst}
 use Rattle.paper.specs.Rows.{rowsIn, thingsIn}
 use Rattle.paper.specs.Canonical.{canon}
 use Rattle.paper.specs.Writing.{Draft, onVerdict, draftOf, draftWith, draft, WriteAnswer, writtenIn, outputAfter}
-use Rattle.flat.specs.Flat.{lineOf, flat}
-use Rattle.rowread.specs.declared.Check.{Check}
-use Rattle.rowread.specs.declared.Check.the-variants.{Fine, Wrong}
-use Rattle.rowread.specs.After.{after}
+use Rattle.roundtrip.specs.flat.Flat.{lineOf, flat}
+use Rattle.rows.specs.declared.read.Check.{Check}
+use Rattle.rows.specs.declared.read.Check.the-variants.{Fine, Wrong}
+use Rattle.rows.specs.read.After.{after}
 use Rattle.survey.specs.declared.Surveyed.{Surveyed}
 use Rattle.survey.specs.declared.Surveyed.the-variants.{Improper, Unfit, Fits}
 use Rattle.survey.specs.Told.{told as surveyedAs, judged as surveyed, Small}

@@ -18,11 +18,11 @@ use Rattle.paper.specs.FirstLine.{spellFirst}
 use Rattle.paper.specs.Canonical.{canon}
 use Rattle.paper.specs.Writing.{Draft, drafted, onVerdict, draftOf, writtenIn, outputAfter}
 use Rattle.paper.proofs.Verdicts.{headed}
-use Rattle.linesound.proofs.FirstLine.{headless}
-use Rattle.flat.specs.Flat.{lineOf, flat}
-use Rattle.flat.proofs.Canon.{canon-flat}
-use Rattle.flat.proofs.Lengths.{canon-length}
-use Rattle.surveying.specs.Stands.{improper, unfit, fits, surveyOf}
+use Rattle.roundtrip.proofs.linesound.FirstLine.{headless}
+use Rattle.roundtrip.specs.flat.Flat.{lineOf, flat}
+use Rattle.roundtrip.proofs.flat.Canon.{canon-flat}
+use Rattle.roundtrip.proofs.flat.Lengths.{canon-length}
+use Rattle.survey.specs.state.Stands.{improper, unfit, fits, surveyOf}
 use Rattle.survey.specs.Told.{judged as surveyed}
 use Rattle.write.specs.declared.BatchJudged.{BatchJudged}
 use Rattle.write.specs.declared.BatchJudged.the-variants as judged

@@ -1,6 +1,6 @@
 // Writing a batch of lent rows as a file, with the whole answer in one struct. The header and all rows are judged first; the output is
 // written only if nothing is wrong and it has room for the whole file.
-use rowread::Check;
+use rows::read::Check;
 use sheet::Known;
 use sheet::Sheet;
 use survey::Surveyed;
@@ -18,7 +18,7 @@ ghost use Rattle.paper.specs.FirstLine.{spellFirst};
 ghost use Rattle.paper.specs.Rows.{rowsIn, thingsIn};
 ghost use Rattle.paper.specs.Canonical.{canon};
 ghost use Rattle.paper.specs.Writing.{Draft, onVerdict, draftOf, draftWith, draft, writtenIn, outputAfter};
-ghost use Rattle.rowread.specs.After.{after};
+ghost use Rattle.rows.specs.read.After.{after};
 ghost use Rattle.write.specs.Told.{headerOf, told, refusedAt, countedAs, Tells, rowsDraft, Named, before};
 ghost use Rattle.write.specs.declared.BatchJudged.the-variants.{Bytes};
 
@@ -66,7 +66,7 @@ fn header_proper(sh: Sheet, date: u64, name: &[u8], client: u64, from: u64, to: 
     ensures { λ r. ⌜ after 0 r fine ≡ pick (sh .header) (headerProper (headerOf date (now (name .entry)) client from to)) fine ⌝ }
 {
     if sh.header {
-        return rowproper::header_check(date, name, client, from, to);
+        return rows::proper::header_check(date, name, client, from, to);
     }
     Check::Fine
 }
@@ -101,7 +101,7 @@ fn file_len(sh: Sheet, rest: u64) -> u64
     requires { ⌜ rest ≤ 200000000000 ⌝ }
     ensures { λ r. ⌜ ((h : Header) → Named sh h → r ≡ length (spellFirst sh h) + 2 + rest) ⌝ }
 {
-    linelen::first_len(sh) as u64 + 2 + rest
+    spelling::linelen::first_len(sh) as u64 + 2 + rest
 }
 
 // The rows, behind a header that is as "The batch" says; 20 of the rows comes before 21 of the header.
@@ -153,8 +153,8 @@ fn fill(
     requires { ⌜ length (canon sh (headerOf date (now name) client from to) (batchOf (thingsIn (now texts) (rowsIn (now rows))))) ≤ length (now out) ⌝ }
     ensures { λ _. ⌜ now (out .exit) ≡ before (canon sh (headerOf date (now (name .entry)) client from to) (batchOf (thingsIn (now (texts .entry)) (rowsIn (now (rows .entry)))))) (now (out .entry)) ⌝ }
 {
-    let at = putlines::put_first(out, 0, sh, date, name, client, from, to);
-    fillfile::fill_file(rows, texts, sh, out, at);
+    let at = spelling::putlines::put_first(out, 0, sh, date, name, client, from, to);
+    spelling::file::fill_file(rows, texts, sh, out, at);
 }
 
 // Nothing is wrong, and the file has so many bytes: it is put if there is room for all of them.

@@ -19,9 +19,9 @@ pub use Rattle.paper.specs.Writing.{Draft, refusal, draft, WriteAnswer, written
 pub use Rattle.reader.specs.Named.{lineAnswer}
 -- an answer together with the bytes that are left
 pub use Rattle.outcomes.specs.Outcomes.{ReadsAs, Hold, WritesAs}
-pub use Rattle.whole.specs.Carries.{Refuses, headRead, pastWarnings}
+pub use Rattle.roundtrip.specs.whole.Carries.{Refuses, headRead, pastWarnings}
 -- when each number is given
-pub use Rattle.numbers.specs.Gives.{ReadGives, WriteGives}
+pub use Rattle.outcomes.specs.numbers.Gives.{ReadGives, WriteGives}
 -- a refusal of a file, and the line that holds its byte
-pub use Rattle.named.specs.Numbers.{Judged}
-pub use Rattle.shown.specs.Holding.{Holds}
+pub use Rattle.exact.specs.named.Numbers.{Judged}
+pub use Rattle.reader.specs.shown.Holding.{Holds}

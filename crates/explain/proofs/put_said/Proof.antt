@@ -1,6 +1,6 @@
 -- `put_said` puts a word and a number behind it.
 use borrow.Author.Needs.{needs}
-use Rattle.counted.proofs.Laws.{_counted-then_}
+use Rattle.numeral.proofs.counted.Laws.{_counted-then_}
 use Rattle.explain.proofs.put_said.Statement.{statement}
 use Rattle.explain.proofs.put_said.Tie as tie
 

@@ -1,6 +1,6 @@
 -- `code_and_end` meets its contract: each answer by the steps of the line. Assumes nothing.
 use borrow.Author.Needs.{needs}
-use Rattle.field.proofs.Steps.{steps}
+use Rattle.numeral.proofs.field.Steps.{steps}
 use Rattle.fileline.proofs.code_and_end.Statement.{statement}
 use Rattle.fileline.proofs.code_and_end.Tie as tie
 

@@ -1,6 +1,6 @@
 -- `code_at` meets its contract: a number that is read on. Assumes nothing.
 use borrow.Author.Needs.{needs}
-use Rattle.field.proofs.Onward.{onwards}
+use Rattle.numeral.proofs.field.Onward.{onwards}
 use Rattle.fileline.proofs.Fields.{fields}
 use Rattle.fileline.proofs.code_at.Statement.{statement}
 use Rattle.fileline.proofs.code_at.Tie as tie

@@ -1,6 +1,6 @@
 -- `file_line` meets its contract: each answer by the steps of the line. Assumes nothing.
 use borrow.Author.Needs.{needs}
-use Rattle.field.proofs.Steps.{steps}
+use Rattle.numeral.proofs.field.Steps.{steps}
 use Rattle.paper.specs.FileLine.{readFile}
 use Rattle.fileline.proofs.file_line.Statement.{statement}
 use Rattle.fileline.proofs.file_line.Tie as tie

@@ -1,6 +1,6 @@
 -- `serial_at` meets its contract: a number that is read on. Assumes nothing.
 use borrow.Author.Needs.{needs}
-use Rattle.field.proofs.Onward.{onwards}
+use Rattle.numeral.proofs.field.Onward.{onwards}
 use Rattle.fileline.proofs.Fields.{fields, serial-below}
 use Rattle.fileline.proofs.serial_at.Statement.{statement}
 use Rattle.fileline.proofs.serial_at.Tie as tie

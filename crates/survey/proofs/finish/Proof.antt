@@ -1,6 +1,6 @@
 -- `finish` meets its contract: by the stage, and by what was found. Assumes nothing.
 use borrow.Author.Needs.{needs}
-use Rattle.surveying.proofs.Next.{lows}
+use Rattle.survey.proofs.state.Next.{lows}
 use Rattle.survey.proofs.Ends.{ends}
 use Rattle.survey.proofs.finish.Statement.{statement}
 use Rattle.survey.proofs.finish.Tie as tie

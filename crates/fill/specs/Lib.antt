@@ -1,0 +1,2 @@
+pub mod itemrow
+pub mod file

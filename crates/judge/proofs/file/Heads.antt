@@ -1,0 +1,110 @@
+-- The first line: the file's answer from behind it. Assumes nothing.
+use mathlib.Core.Path.{_≡_, refl, sym, ap, _∙_}
+use mathlib.Core.Bool.{true, false}
+use mathlib.Core.List.{List, [], _∷_}
+use Prim.Native.Nat.{ℕ, _+_, _-_, _≤_}
+use native.Mathlib.Omega.{arith}
+use lib.ListN.{length, take, drop, length-take}
+use lib.Seq.{take-take}
+use Rattle.base.specs.Pick.{pick}
+use Rattle.base.proofs.Lists.{drop-take}
+use Rattle.base.proofs.Seek.{never}
+use Rattle.sheet.specs.declared.Sheet.{Sheet}
+use Rattle.paper.specs.Batch.{Header, noHeader}
+use Rattle.paper.specs.Lines.{linesOf, linesFrom}
+use Rattle.paper.specs.Entries.{headLine, kindOf}
+use Rattle.paper.specs.FirstLine.{readFirst}
+use Rattle.paper.specs.Spells.{readAs}
+use Rattle.paper.specs.Judge.{onHead}
+use Rattle.paper.proofs.Starts.{kind-long}
+use Rattle.scan.specs.declared.line.Cut.{Cut}
+use Rattle.scan.specs.line.Cutting.{Cuts}
+use Rattle.scan.specs.declared.kind.LineKind.{LineKind}
+use Rattle.scan.specs.kind.Told as kinds
+use Rattle.firstline.specs.declared.FirstRead.{FirstRead}
+use Rattle.firstline.specs.declared.FirstRead.the-variants as reads
+use Rattle.firstline.specs.Stages.{nameIn}
+use Rattle.firstline.specs.Told as firsts
+use Rattle.tally.specs.Tally.{Brief, No, Tally, tFirst, tFile, tStop, newBook, isDue, isFull, meet, onSaid, endOf, step, run, tally}
+use Rattle.judge.specs.group.Stands.{lineIn}
+use Rattle.judge.proofs.group.Steps.{not-due, by-fields}
+use Rattle.judge.proofs.group.Turns.{is-kind}
+use Rattle.judge.proofs.group.Going.{run-stops, run-on}
+use Rattle.judge.specs.file.Answer.{fromFirst}
+
+-- a line's bytes in the file
+abbrev top : List ℕ → Cut → List ℕ
+top f cut = take (cut .stop - 0) (drop 0 f)
+
+-- an empty file has no line
+pub no-line : (sh : Sheet) (today : ℕ) (f : List ℕ) → length f ≡ 0 → No 3 1 0 ≡ tally sh today f
+unfolding tally linesOf run endOf
+no-line sh today [] e = refl
+no-line sh today (x ∷ f) e = absurd (omega arith)
+
+-- ---- the name
+
+-- in the line, and in the file
+name-same : (f : List ℕ) (cut : Cut) → 46 ≤ length (top f cut) → nameIn (top f cut) ≡ take 20 (drop 10 f)
+name-same f cut h =
+    let n : 46 ≤ cut .stop - 0 = omega (arith, length-take (cut .stop - 0) f) in
+    ap (take 20) (drop-take 10 (cut .stop - 0) f) ∙ take-take 20 (cut .stop - 0 - 10) (drop 10 f) (omega arith)
+
+-- a header that was read, r, stands in the file
+module _ (f : List ℕ) (cut : Cut) (r : FirstRead) (sound : firsts.Sound (top f cut) r) (date client from to : ℕ) (e : r ≡ reads.Header date client from to) where
+  header-long : 46 ≤ length (top f cut)
+  header-long = let x : firsts.Sound (top f cut) (reads.Header date client from to) = rw e at sound in x .0
+
+  pub named : 30 ≤ length f
+  named = omega (arith, length-take (cut .stop - 0) f, header-long)
+
+pub unnamed : (f : List ℕ) → false ≡ true → 30 ≤ length f
+unnamed f e = never (sym e)
+
+-- ---- the line
+
+-- line 2 starts behind byte 1
+pub head-long : (f : List ℕ) (cut : Cut) → Cuts f 0 cut → kindOf (top f cut) ≡ headLine → 2 ≤ cut .next
+head-long f cut cuts e =
+    omega
+    (arith, kind-long (top f cut) headLine e, length-take (cut .stop - 0) f, cuts .to)
+
+module _ (sh : Sheet) (today : ℕ) (f : List ℕ) (cut : Cut) (cuts : Cuts f 0 cut) where
+  -- it leads to c
+  leads : (c : Tally) → c ≡ step sh today 1 (lineIn f 0 (cut .stop)) tFirst → run sh today (length f) 2 (linesFrom f (cut .next)) c ≡ tally sh today f
+  unfolding tally linesFrom
+  leads c e = run-on sh today (length f) 1 f 0 cut cuts tFirst c e
+
+  stops : (n byte : ℕ) → tStop (No n 1 byte) ≡ step sh today 1 (lineIn f 0 (cut .stop)) tFirst → No n 1 byte ≡ tally sh today f
+  unfolding tally linesFrom
+  stops n byte e = run-stops sh today (length f) 1 f 0 cut cuts tFirst (No n 1 byte) e
+
+  -- 3: r is the kind that was found, v its name
+  pub head-other : (r : LineKind) → kinds.told r ≡ kindOf (top f cut) → (v : LineKind) → r ≡ v → isDue tFirst (kinds.told v) ≡ false → No 3 1 0 ≡ tally sh today f
+  unfolding step
+  head-other r t v e d = stops 3 0 (not-due sh today 1 (lineIn f 0 (cut .stop)) tFirst refl (kinds.told v) (is-kind (top f cut) r t v e _ refl) d)
+
+  -- its fields: r is what was read, v the variant that this was found to be, x the answer from behind it
+  module _ (e : kindOf (top f cut) ≡ headLine) (r : FirstRead) (t : firsts.told (top f cut) r ≡ readFirst sh (top f cut)) where
+    said : (v : FirstRead) → r ≡ v → onSaid sh 1 0 (firsts.told (top f cut) v) tFirst ≡ step sh today 1 (lineIn f 0 (cut .stop)) tFirst
+    unfolding step isDue isFull readAs
+    said v q = by-fields sh today 1 (lineIn f 0 (cut .stop)) tFirst refl headLine e refl refl _ (rw q at t)
+
+    pub head-refused : (n off : ℕ) → r ≡ reads.Refused n off → No n 1 off ≡ tally sh today f
+    unfolding onSaid
+    head-refused n off q =
+        let z : 0 + off ≡ off = omega arith in
+        stops n off (rw z at (said (reads.Refused n off) q))
+
+    pub head-plain : r ≡ reads.Plain → (x : Brief) → x ≡ fromFirst sh today f (cut .next) (record { date = 0; client = 0; from = 0; to = 0; named = false }) → x ≡ tally sh today f
+    unfolding fromFirst onSaid meet onHead pick
+    head-plain q x a = a ∙ leads (tFile (newBook noHeader 0)) (said reads.Plain q)
+
+    pub head-fields : firsts.Sound (top f cut) r → (date client from to : ℕ) → r ≡ reads.Header date client from to
+        → (x : Brief) → x ≡ fromFirst sh today f (cut .next) (record { date = date; client = client; from = from; to = to; named = true }) → x ≡ tally sh today f
+    unfolding fromFirst onSaid meet onHead pick
+    head-fields sound date client from to q x a =
+        a
+        ∙ rw (← (name-same f cut (header-long f cut r sound date client from to q))) (leads _ (said (reads.Header date client from to) q))
+
+pub ruleset heads = (no-line, is-kind, head-other, head-long, head-refused, head-plain, head-fields, named, unnamed)

@@ -1,0 +1,245 @@
+// One pass over a whole file, which only judges: the first broken rule, or the header and the counts of rows and warnings.
+use crate::accountfile::Left;
+use crate::group::Counts;
+use crate::group::Shelf;
+use firstline::FirstRead;
+use scan::kind::LineKind;
+use scan::line::Cut;
+use sheet::Sheet;
+ghost use mathlib.Core.Path.{_≡_};
+ghost use mathlib.Core.Bool.{true};
+ghost use Prim.Native.Nat.{_-_, _≤_};
+ghost use lib.ListN.{length, take, drop};
+ghost use Rattle.sheet.proofs.Laws.{Sane};
+ghost use Rattle.paper.specs.Days.{realDay};
+ghost use Rattle.paper.specs.Entries.{headLine, kindOf};
+ghost use Rattle.scan.specs.line.Cutting.{Cuts};
+ghost use Rattle.tally.specs.Tally.{tally};
+ghost use Rattle.judge.specs.accountfile.Resume.{Good};
+ghost use Rattle.judge.specs.file.Answer.{Went, fromFirst, told, Kept};
+
+// The header. A name, if it has one, is the file's bytes 10 to 29.
+pub struct Head {
+    pub date: u64,
+    pub client: u64,
+    pub from: u64,
+    pub to: u64,
+    pub named: bool,
+}
+
+// What a file comes to: a refusal's number, line and byte; or the header and the counts of rows and warnings.
+pub enum FileJudged {
+    Refused(u64, u64, u64),
+    Accepted {
+        head: Head,
+        rows: u64,
+        warnings: u64,
+    },
+}
+
+// What holds for the whole file: the sheet, today, and the interval of the header.
+struct Terms {
+    sheet: Sheet,
+    today: u64,
+    from: u64,
+    to: u64,
+}
+
+// The header where the sheet reads none.
+const PLAIN: Head = Head {
+    date: 0,
+    client: 0,
+    from: 0,
+    to: 0,
+    named: false,
+};
+
+// No account file yet.
+const NOTHING: Counts = Counts {
+    files: 0,
+    items: 0,
+    rows: 0,
+    warnings: 0,
+};
+
+// ---- the two readers, which call each other; each call has one less of the budget, so that the stack stays small
+
+// Account files, from the place `at` on.
+fn account_files(
+    f: &[u8],
+    terms: Terms,
+    at: usize,
+    line: u64,
+    counts: Counts,
+    seen: &mut [u64; 16],
+    budget: u64,
+) -> Left
+    requires { ⌜ Sane (terms .sheet) × (realDay (terms .today) ≡ true) ⌝ }
+    requires { ⌜ Good (now f) (Left.File at line counts) ⌝ }
+    ensures { λ r. ⌜ Went (terms .sheet) (terms .today) (terms .from) (terms .to) (now (f .entry)) (Left.File at line counts) budget (now (seen .entry)) (now (seen .exit)) r ⌝ }
+{
+    if budget == 0 {
+        return Left::File(at, line, counts);
+    }
+    match crate::accountfile::file_step(
+        f,
+        terms.sheet,
+        at,
+        line,
+        terms.from,
+        terms.to,
+        counts,
+        seen,
+    ) {
+        Left::Group(next, number, opened, shelf) => groups(
+            f,
+            terms,
+            next,
+            number,
+            opened,
+            shelf,
+            seen,
+            budget - 1,
+        ),
+        Left::File(next, number, more) => Left::File(next, number, more),
+        Left::Refused(n, number, byte) => Left::Refused(n, number, byte),
+        Left::Accepted(rows, warnings) => Left::Accepted(rows, warnings),
+    }
+}
+
+// The groups of an account file, from the place `at` on.
+fn groups(
+    f: &[u8],
+    terms: Terms,
+    at: usize,
+    line: u64,
+    counts: Counts,
+    shelf: Shelf,
+    seen: &mut [u64; 16],
+    budget: u64,
+) -> Left
+    requires { ⌜ Sane (terms .sheet) × (realDay (terms .today) ≡ true) ⌝ }
+    requires { ⌜ Good (now f) (Left.Group at line counts shelf) ⌝ }
+    ensures { λ r. ⌜ Went (terms .sheet) (terms .today) (terms .from) (terms .to) (now (f .entry)) (Left.Group at line counts shelf) budget (now (seen .entry)) (now (seen .exit)) r ⌝ }
+{
+    if budget == 0 {
+        return Left::Group(at, line, counts, shelf);
+    }
+    match crate::accountfile::group_step(f, terms.sheet, terms.today, at, line, counts, shelf) {
+        Left::Group(next, number, more, held) => groups(
+            f,
+            terms,
+            next,
+            number,
+            more,
+            held,
+            seen,
+            budget - 1,
+        ),
+        Left::File(next, number, more) => account_files(
+            f,
+            terms,
+            next,
+            number,
+            more,
+            seen,
+            budget - 1,
+        ),
+        Left::Refused(n, number, byte) => Left::Refused(n, number, byte),
+        Left::Accepted(rows, warnings) => Left::Accepted(rows, warnings),
+    }
+}
+
+// ---- the file
+
+// Everything behind the first line, from `at` on.
+fn behind_first(f: &[u8], sh: Sheet, today: u64, at: usize, head: Head) -> FileJudged
+    requires { ⌜ Sane sh × (realDay today ≡ true) ⌝ }
+    requires { ⌜ (2 ≤ at) × (at ≤ length (now f)) ⌝ }
+    requires { ⌜ (head .named ≡ true → 30 ≤ length (now f)) ⌝ }
+    ensures { λ r. ⌜ told (now (f .entry)) r ≡ fromFirst sh today (now (f .entry)) at head ⌝ }
+    ensures { λ r. ⌜ Kept (now (f .entry)) r ⌝ }
+{
+    let terms = Terms {
+        sheet: sh,
+        today,
+        from: head.from,
+        to: head.to,
+    };
+    let mut seen = [0u64; 16];
+    let mut left = Left::File(at, 2, NOTHING);
+    loop {
+        match left {
+            Left::File(at, line, counts) => {
+                left = account_files(f, terms, at, line, counts, &mut seen, 16);
+            }
+            Left::Group(at, line, counts, shelf) => {
+                left = groups(f, terms, at, line, counts, shelf, &mut seen, 16);
+            }
+            Left::Refused(n, line, byte) => {
+                return FileJudged::Refused(n, line, byte);
+            }
+            Left::Accepted(rows, warnings) => {
+                return FileJudged::Accepted {
+                    head,
+                    rows,
+                    warnings,
+                };
+            }
+        }
+    }
+}
+
+// The first line, which is known as one, and everything behind it.
+fn from_first(f: &[u8], sh: Sheet, today: u64, cut: Cut) -> FileJudged
+    requires { ⌜ Sane sh × (realDay today ≡ true) ⌝ }
+    requires { ⌜ Cuts (now f) 0 cut ⌝ }
+    requires { ⌜ kindOf (take (cut .stop - 0) (drop 0 (now f))) ≡ headLine ⌝ }
+    ensures { λ r. ⌜ told (now (f .entry)) r ≡ tally sh today (now (f .entry)) ⌝ }
+    ensures { λ r. ⌜ Kept (now (f .entry)) r ⌝ }
+{
+    let stop = cut.stop;
+    match firstline::first_line(&f[0..stop], sh) {
+        FirstRead::Header {
+            date,
+            client,
+            from,
+            to,
+        } => behind_first(
+            f,
+            sh,
+            today,
+            cut.next,
+            Head {
+                date,
+                client,
+                from,
+                to,
+                named: true,
+            },
+        ),
+        FirstRead::Plain => behind_first(f, sh, today, cut.next, PLAIN),
+        FirstRead::Refused(n, off) => FileJudged::Refused(n, 1, off as u64),
+    }
+}
+
+// The answer of a whole file on the sheet sh.
+pub fn judge_file(f: &[u8], sh: Sheet, today: u64) -> FileJudged
+    requires { ⌜ Sane sh × (realDay today ≡ true) ⌝ }
+    ensures { λ r. ⌜ told (now (f .entry)) r ≡ tally sh today (now (f .entry)) ⌝ }
+    ensures { λ r. ⌜ Kept (now (f .entry)) r ⌝ }
+{
+    if f.len() == 0 {
+        return FileJudged::Refused(3, 1, 0);
+    }
+    let cut = scan::line::next_line(f, 0);
+    let stop = cut.stop;
+    match scan::kind::kind_of(&f[0..stop]) {
+        LineKind::Head => from_first(f, sh, today, cut),
+        LineKind::File => FileJudged::Refused(3, 1, 0),
+        LineKind::Group => FileJudged::Refused(3, 1, 0),
+        LineKind::Item => FileJudged::Refused(3, 1, 0),
+        LineKind::GroupEnd => FileJudged::Refused(3, 1, 0),
+        LineKind::FileEnd => FileJudged::Refused(3, 1, 0),
+    }
+}

@@ -1,8 +1,0 @@
--- What a number that was taken stands for. Assumes nothing.
-use Prim.Native.Nat.{ℕ}
-use Rattle.field.specs.At.{At, found}
-use Rattle.field.specs.declared.Run.{Run}
-
--- it has a value, and its field's end
-abbrev pub toldNumber : Run → At ℕ
-toldNumber r = found (r .value) (r .end)

@@ -1,0 +1,3 @@
+pub mod linesound
+pub mod whole
+pub mod flat

@@ -1,0 +1,87 @@
+-- The sheet's limits, the numbers that are seen, and a text where it stands, as the code finds them. Assumes nothing.
+use mathlib.Core.Path.{_≡_, refl, sym, ap, _∙_}
+use mathlib.Core.Bool.{Bool, true, false}
+use mathlib.Core.List.{List, []}
+use Prim.Native.Nat.{ℕ, _+_, _-_}
+use lib.Dec.{ltb}
+use lib.ListN.{take, drop}
+use borrow.Author.Tests.{eq-eqb, ne-eqb}
+use Rattle.base.specs.Pick.{pick}
+use Rattle.base.specs.Seek.{seek}
+use Rattle.sheet.specs.declared.Style.{Style}
+use Rattle.sheet.specs.declared.Sheet.{Sheet}
+use Rattle.sheet.specs.declared.Limits.{Limits}
+use Rattle.sheet.specs.Sheets.{LimitsOf}
+use Rattle.paper.specs.Bytes.{null, mark}
+use Rattle.paper.specs.Days.{dueAllowed}
+use Rattle.paper.specs.Amounts.{amountProper}
+use Rattle.paper.specs.Texts.{lacks, partCarried, nameCarried}
+use Rattle.paper.specs.Batch.{Header}
+use Rattle.paper.specs.FileLine.{numberFault, numberAllowed}
+use Rattle.paper.specs.Proper.{Verdict, wrong, check}
+use Rattle.fileline.specs.seen.Bits.{Holds}
+use Rattle.text.specs.declared.span.Span.{Span}
+use Rattle.fileline.specs.Fault.{faultIn}
+use Rattle.fileline.proofs.Set.{same-fault}
+use Rattle.rows.specs.read.Told.{textOfSpan}
+use Rattle.text.specs.span.Held.{Within}
+use Rattle.rows.proofs.read.Laws.{text-within, cut-is}
+use Rattle.rows.proofs.read.Fields.{holds, lacks as without, passes, fails}
+
+-- a test by the limits that a sheet gave is a test by the sheet's
+module _ (sh : Sheet) (l : Limits) (of : LimitsOf sh l) (t : Bool) where
+  pub due-limit : (early : Bool) (today d : ℕ) → t ≡ dueAllowed early (l .ahead) today d → t ≡ dueAllowed early (sh .ahead) today d
+  due-limit early today d e = rw (of .ahead) at e
+
+  pub amount-limit : (v : ℕ) → t ≡ amountProper (l .amount) v → t ≡ amountProper (sh .itemmax) v
+  amount-limit v e = rw (of .amount) at e
+
+-- the set of words stands for the list that it holds: r is the refusal that the number gets by them
+module _ (interval : Bool) (from to : ℕ) (words : List ℕ) (n r : ℕ) (e : r ≡ faultIn interval from to words n)
+    (h : Header) (l : List ℕ) (f : h .from ≡ from) (t : h .to ≡ to) (g : Holds words l) where
+  by-list : r ≡ numberFault interval h l n
+  by-list = rw (← f, ← t) at e ∙ ap (λ (p : ℕ → ℕ). p n) (same-fault interval h words l g)
+
+  number-free : r ≡ 0 → numberAllowed interval h l n ≡ true
+  unfolding numberAllowed
+  number-free z = eq-eqb _ _ (sym by-list ∙ z)
+
+  number-taken : (r ≡ 0 → ⊥) → numberAllowed interval h l n ≡ false
+  unfolding numberAllowed
+  number-taken z = ne-eqb _ _ (λ q. z (by-list ∙ q))
+
+  module _ (k : ℕ) (v rest : Verdict) where
+    pub number-passes : r ≡ 0 → v ≡ rest → v ≡ check k 2 (numberAllowed interval h l n) rest
+    number-passes z q = holds k 2 v rest _ (number-free z) q
+
+    pub number-fails : (r ≡ 0 → ⊥) → v ≡ wrong k 2 → v ≡ check k 2 (numberAllowed interval h l n) rest
+    number-fails z q = without k 2 v rest _ (number-taken z) q
+
+-- an empty part is carried
+empty : (a b : Bool) → true ≡ pick (pick a true (null {A = ℕ} [])) (pick b (lacks mark []) true) false
+unfolding lacks seek null pick
+empty true true = refl
+empty true false = refl
+empty false true = refl
+empty false false = refl
+
+blank-carried : (y : Style) (i : ℕ) → true ≡ partCarried y i []
+unfolding partCarried
+blank-carried y i = empty (ltb i (y .most)) (y .names)
+
+-- the part of the lent bytes that a test was given is the text
+module _ (y : Style) (t : List ℕ) (p : Span) (w : Within t p) where
+  pub part-here : (i : ℕ) (r : Bool) → r ≡ partCarried y i (take (p .at + p .len - p .at) (drop (p .at) t)) → r ≡ partCarried y i (textOfSpan t p)
+  part-here i r e = e ∙ ap (partCarried y i) (cut-is t p w)
+
+  pub name-here : (r : Bool) → r ≡ nameCarried y (take (p .at + p .len - p .at) (drop (p .at) t)) → r ≡ nameCarried y (textOfSpan t p)
+  name-here r e = e ∙ ap (nameCarried y) (cut-is t p w)
+
+  pub part-blank : (i : ℕ) → p .len ≡ 0 → true ≡ partCarried y i (textOfSpan t p)
+  part-blank i e =
+      let f : textOfSpan t p ≡ [] = text-within t p w ∙ ap (λ (n : ℕ). take n (drop (p .at) t)) e in
+      blank-carried y i ∙ ap (partCarried y i) (sym f)
+
+pub ruleset steps = (passes, fails, number-passes, number-fails)
+
+pub ruleset texts = (part-here, name-here, part-blank)

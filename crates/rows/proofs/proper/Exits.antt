@@ -1,0 +1,103 @@
+-- The ways out of the tests of texts and of a whole item. Assumes nothing.
+use mathlib.Core.Path.{_≡_, refl, sym, _∙_}
+use mathlib.Core.Bool.{Bool, true, false}
+use mathlib.Core.List.{List, [], _∷_}
+use Prim.Native.Nat.{ℕ, _+_, _-_, _≤_}
+use native.Mathlib.Omega.{arith}
+use lib.Dec.{leb}
+use lib.ListN.{length, take, drop}
+use Rattle.base.specs.Pick.{pick}
+use Rattle.base.specs.Seek.{all, seek}
+use Rattle.base.proofs.Cases.{pick-true, pick-false}
+use Rattle.paper.specs.Bytes.{isText}
+use Rattle.paper.specs.Texts.{lacks, partProper, nameProper}
+use Rattle.paper.specs.Batch.{most14}
+use Rattle.paper.specs.Proper.{Verdict, partsFrom, itemProper}
+use Rattle.text.specs.declared.span.Span.{Span}
+use Rattle.rows.specs.declared.read.Check.{Check}
+use Rattle.rows.specs.declared.read.Check.the-variants.{Fine, Wrong}
+use Rattle.rows.specs.declared.read.ItemRow.{ItemRow}
+use Rattle.rows.specs.read.Told.{textOfSpan, itemOf}
+use Rattle.rows.specs.read.Sized.{Sized}
+use Rattle.rows.specs.read.After.{after}
+use Rattle.rows.specs.proper.Stages.{moneyProper, symbolsProper, textsProper}
+use Rattle.rows.proofs.proper.Laws.{sized-when}
+
+-- ---- a text that lies inside what was lent, or does not
+
+module _ (t : List ℕ) (p : Span) (l : Bool) (e : l ≡ leb (p .at + p .len) (length t)) where
+  outside : l ≡ false → textOfSpan t p ≡ 0 ∷ []
+  unfolding textOfSpan
+  outside h = pick-false _ _ (sym e ∙ h)
+
+  within : l ≡ true → textOfSpan t p ≡ take (p .at + p .len - p .at) (drop (p .at) t)
+  unfolding textOfSpan
+  within h = let n : p .at + p .len - p .at ≡ p .len = omega arith in rw n (pick-true _ _ (sym e ∙ h))
+
+  pub name-out : l ≡ false → false ≡ nameProper (textOfSpan t p)
+  unfolding nameProper all isText pick
+  name-out h = rw (outside h)
+
+  pub part-out : l ≡ false → false ≡ partProper (textOfSpan t p)
+  unfolding partProper pick
+  part-out h = rw (← name-out h)
+
+  pub name-there : l ≡ true → (r : Bool) → r ≡ nameProper (take (p .at + p .len - p .at) (drop (p .at) t)) → r ≡ nameProper (textOfSpan t p)
+  name-there h r g = rw (within h) g
+
+  pub part-there : l ≡ true → (r : Bool) → r ≡ partProper (take (p .at + p .len - p .at) (drop (p .at) t)) → r ≡ partProper (textOfSpan t p)
+  part-there h r g = rw (within h) g
+
+-- an empty one lies where its place does
+module _ (t : List ℕ) (p : Span) (e : p .len ≡ 0) where
+  blank : (b : Bool) → b ≡ leb (p .at) (length t) → textOfSpan t p ≡ pick b [] (0 ∷ [])
+  unfolding textOfSpan
+  blank b g = let s : p .at + p .len ≡ p .at = omega arith in rw (s, e, g)
+
+  pub name-blank : (r : Bool) → r ≡ leb (p .at) (length t) → r ≡ nameProper (textOfSpan t p)
+  unfolding nameProper all isText pick
+  name-blank true g = rw (blank true g)
+  name-blank false g = rw (blank false g)
+
+  pub part-blank : (r : Bool) → r ≡ leb (p .at) (length t) → r ≡ partProper (textOfSpan t p)
+  unfolding partProper nameProper lacks seek all isText pick
+  part-blank true g = rw (blank true g)
+  part-blank false g = rw (blank false g)
+
+pub ruleset places = (name-out, part-out, name-there, part-there, name-blank, part-blank)
+
+-- ---- the three stages of an item
+
+-- together they are the item's test
+stages : (k : ℕ) (single : Bool) (sum : ℕ) (t : List ℕ) (x : ItemRow) (rest : Verdict)
+    → moneyProper k single sum x (symbolsProper k x (textsProper k t x rest)) ≡ itemProper k single sum (itemOf t x) rest
+unfolding itemProper partsFrom moneyProper symbolsProper textsProper
+stages k single sum t x rest = refl
+
+module _ (t : List ℕ) (x : ItemRow) (single : Bool) (sum : ℕ) where
+  -- an answer that says what the definition says, and so what a row that passed is
+  abbrev Judged : Check → Type 0
+  Judged r =
+      ((k : ℕ) (rest : Verdict) → after k r rest ≡ itemProper k single sum (itemOf t x) rest)
+      × (r ≡ Fine → Sized t x × (sum + x .amount ≤ most14))
+
+  judged : (r : Check) → ((k : ℕ) (rest : Verdict) → after k r rest ≡ itemProper k single sum (itemOf t x) rest) → Judged r
+  judged r told = (told, sized-when t x single sum r told)
+
+  module _ (m : Check) (money : (k : ℕ) (rest : Verdict) → after k m rest ≡ moneyProper k single sum x rest) where
+    pub money-wrong : (n : ℕ) → m ≡ Wrong n → Judged (Wrong n)
+    money-wrong n h =
+        judged (Wrong n)
+        (λ k rest. rw h at (money k (symbolsProper k x (textsProper k t x rest))) ∙ stages k single sum t x rest)
+
+    module _ (h : m ≡ Fine) (s : Check) (symbols : (k : ℕ) (rest : Verdict) → after k s rest ≡ symbolsProper k x rest) where
+      -- what the symbols' test says is what the item's says
+      on : (k : ℕ) (rest : Verdict) → after k s (textsProper k t x rest) ≡ itemProper k single sum (itemOf t x) rest
+      on k rest =
+          symbols k (textsProper k t x rest) ∙ rw h at (money k (symbolsProper k x (textsProper k t x rest))) ∙ stages k single sum t x rest
+
+      pub symbols-wrong : (n : ℕ) → s ≡ Wrong n → Judged (Wrong n)
+      symbols-wrong n g = judged (Wrong n) (λ k rest. rw g at (on k rest))
+
+      pub texts-last : s ≡ Fine → (r : Check) → ((k : ℕ) (rest : Verdict) → after k r rest ≡ textsProper k t x rest) → Judged r
+      texts-last g r texts = judged r (λ k rest. texts k rest ∙ rw g at (on k rest))

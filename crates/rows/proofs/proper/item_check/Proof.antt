@@ -1,0 +1,52 @@
+-- `item_check` meets its contract: the stages in their order. Assumes nothing.
+use borrow.Author.Needs.{needs}
+use Rattle.rows.proofs.proper.Exits.{money-wrong, symbols-wrong, texts-last}
+use Rattle.rows.proofs.proper.item_check.Statement.{statement}
+use Rattle.rows.proofs.proper.item_check.Tie as tie
+
+money-check-requires : tie.Need-money-check-requires
+money-check-requires c κs = search needs
+
+enum-known-n : tie.Need-enum-known-n
+enum-known-n c = search needs
+
+enum-told : tie.Need-enum-told
+enum-told c = search needs
+
+symbols-check-requires : tie.Need-symbols-check-requires
+symbols-check-requires c κs = search needs
+
+enum-known-n-2 : tie.Need-enum-known-n-2
+enum-known-n-2 c = search needs
+
+enum-told-2 : tie.Need-enum-told-2
+enum-told-2 c = search needs
+
+texts-check-requires : tie.Need-texts-check-requires
+texts-check-requires c κs = search needs
+
+returns : tie.Need-returns
+returns c = money-wrong _ _ _ _ _ (c .before .before .before .money-check .ensures) _ (c .before .n .given .1)
+
+returns-2 : tie.Need-returns-2
+returns-2 c =
+    symbols-wrong _ _ _ _ _ (c .before .before .before .before .before .before .money-check .ensures) (c .before .before .before .before .enum-told .given .1) _ (c .before .before .before .symbols-check .ensures) _ (c .before .n2 .given .1)
+
+returns-3 : tie.Need-returns-3
+returns-3 c =
+    texts-last _ _ _ _ _ (c .before .before .before .before .before .before .money-check .ensures) (c .before .before .before .before .enum-told .given .1) _ (c .before .before .before .symbols-check .ensures) (c .before .enum-told2 .given .1) _ (c .texts-check .ensures)
+
+pub item-check-spec : {M : Type 1} → statement M
+item-check-spec =
+    tie.close
+    (tie.spec
+    money-check-requires
+    enum-known-n
+    enum-told
+    symbols-check-requires
+    enum-known-n-2
+    enum-told-2
+    texts-check-requires
+    returns
+    returns-2
+    returns-3)

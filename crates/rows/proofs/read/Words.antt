@@ -1,0 +1,53 @@
+-- The words of a row are those that stand in its bytes one after another. Assumes nothing.
+use mathlib.Core.Path.{_≡_, refl, _∙_}
+use mathlib.Core.List.{List}
+use Prim.Native.Nat.{ℕ, zero, suc, _+_, _*_, _<_}
+use native.Mathlib.Omega.{arith}
+use lib.ListN.{drop, getD}
+use lib.Seq.{drop-drop}
+use Rattle.paper.specs.Rows.{words}
+use Rattle.text.specs.declared.span.Span.{Span}
+use Rattle.rows.specs.declared.read.ItemRow.{ItemRow}
+use Rattle.rows.specs.declared.read.Sides.{Sides}
+use Rattle.rows.specs.declared.read.Symbols.{Symbols}
+use Rattle.rows.specs.declared.read.Texts.{Texts}
+use Rattle.rows.specs.read.Told.{wordHere, spanHere, sidesHere, symbolsHere, textsHere, itemWith, itemHere}
+
+-- word i of n
+word-of : (n i : ℕ) (s : List ℕ) → i < n → getD (words n s) i 0 ≡ wordHere s (8 * i)
+unfolding words
+word-of zero i s h = absurd (omega arith)
+word-of (suc n) zero s h = refl
+word-of (suc n) (suc i) s h =
+    let e : 8 * suc i ≡ 8 + 8 * i = omega arith in
+    rw (e, ← drop-drop (8 * i) 8 s) (word-of n i (drop 8 s) (omega arith))
+
+-- word i of the row that begins at a place
+pub word-here : (rows : List ℕ) (at i : ℕ) → i < 24 → getD (words 24 (drop at rows)) i 0 ≡ wordHere rows (at + 8 * i)
+word-here rows at i h = rw (← drop-drop (8 * i) at rows) (word-of 24 i (drop at rows) h)
+
+-- ---- what is made of words that were read
+
+module _ (rows : List ℕ) (at : ℕ) where
+  pub span-of : (a b : ℕ) → a ≡ wordHere rows at → b ≡ wordHere rows (at + 8) → _≡_ {A = Span} (record { at = a; len = b }) (spanHere rows at)
+  span-of a b p q = rw (p, q)
+
+  pub sides-of : (a b c d e f : ℕ) → a ≡ wordHere rows (at + 8) → b ≡ wordHere rows (at + 16) → c ≡ wordHere rows (at + 24) → d ≡ wordHere rows (at + 32)
+      → e ≡ wordHere rows (at + 40) → f ≡ wordHere rows (at + 48)
+      → _≡_ {A = Sides} (record { payerprefix = a; payerbase = b; payeeprefix = c; payeebase = d; bank = e; amount = f }) (sidesHere rows at)
+  sides-of a b c d e f p q r s t u = rw (p, q, r, s, t, u)
+
+  pub symbols-of : (a b c d : ℕ) → a ≡ wordHere rows (at + 56) → b ≡ wordHere rows (at + 64) → c ≡ wordHere rows (at + 72) → d ≡ wordHere rows (at + 80)
+      → _≡_ {A = Symbols} (record { variable = a; specific = b; constant = c; priority = d }) (symbolsHere rows at)
+  symbols-of a b c d p q r s = rw (p, q, r, s)
+
+  pub texts-of : (a b c d e : Span) → a ≡ spanHere rows (at + 88) → b ≡ spanHere rows (at + 104) → c ≡ spanHere rows (at + 120) → d ≡ spanHere rows (at + 136)
+      → e ≡ spanHere rows (at + 152) → _≡_ {A = Texts} (record { part1 = a; part2 = b; part3 = c; part4 = d; name = e }) (textsHere rows at)
+  texts-of a b c d e p q r s t = rw (p, q, r, s, t)
+
+  -- an item, of its words in three parts
+  pub item-of : (w : Sides) (y : Symbols) (t : Texts) → w ≡ sidesHere rows at → y ≡ symbolsHere rows at → t ≡ textsHere rows at
+      → (x : ItemRow) → x ≡ itemWith w y t → x ≡ itemHere rows at
+  item-of w y t p q r x e = e ∙ rw (p, q, r)
+
+pub ruleset parts = (span-of, sides-of, symbols-of, texts-of, item-of)

@@ -1,0 +1,3 @@
+pub mod list
+pub mod read
+pub mod proper

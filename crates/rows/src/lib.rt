@@ -1,0 +1,5 @@
+// Lent rows: one after another, decoded, tested by 20 and by 21.
+pub mod carried;
+pub mod list;
+pub mod proper;
+pub mod read;

@@ -1,0 +1,253 @@
+// Bytes passed sixteen at a time, or sixty-four in a long text. The loops over a block have no early exit, so that the compiler compares all of its bytes at once.
+// The last block ends with the text: it may begin before the bytes that are left, so that a short rest costs one block.
+ghost use mathlib.Core.Path.{_≡_};
+ghost use mathlib.Core.Bool.{true};
+ghost use Prim.Native.Nat.{_+_, _≤_, _<_};
+ghost use lib.ListN.{length, take, drop};
+ghost use Rattle.base.specs.Seek.{all};
+ghost use Rattle.paper.specs.Bytes.{isText};
+ghost use Rattle.scan.specs.block.Blocks.{isHigh, isOther, Skips};
+
+// Where a block begins that holds the byte at i and those behind it, up to sixteen.
+fn block_at(i: usize, n: usize) -> usize
+    requires { ⌜ 16 ≤ n ⌝ }
+    requires { ⌜ i < n ⌝ }
+    ensures { λ r. ⌜ r ≤ i ⌝ }
+    ensures { λ r. ⌜ i < r + 16 ⌝ }
+    ensures { λ r. ⌜ r + 16 ≤ n ⌝ }
+{
+    if i <= n - 16 {
+        return i;
+    }
+    n - 16
+}
+
+// Are the sixteen bytes at `at` all above 13, so that none ends a line?
+fn high_block(s: &[u8], at: usize) -> bool
+    requires { ⌜ at + 16 ≤ length (now s) ⌝ }
+    ensures { λ r. ⌜ (r ≡ true → all isHigh (take 16 (drop at (now (s .entry)))) ≡ true) ⌝ }
+{
+    let mut high = true;
+    let mut j: usize = 0;
+    while j < 16 {
+        if s[at + j] < 14 {
+            high = false;
+        }
+        j += 1;
+    }
+    high
+}
+
+// A place at or after `at` with no line's end before it: a multiple of sixteen bytes on.
+fn pass_high(s: &[u8], at: usize) -> usize
+    requires { ⌜ at ≤ length (now s) ⌝ }
+    ensures { λ r. ⌜ Skips isHigh (now (s .entry)) at r ⌝ }
+{
+    let mut i = at;
+    while 16 <= s.len() - i {
+        if high_block(s, i) {
+            i += 16;
+        } else {
+            return i;
+        }
+    }
+    i
+}
+
+// The same one byte after another: it stops before the first byte that may end a line, or near the text's end.
+fn near_high(s: &[u8], at: usize) -> usize
+    requires { ⌜ at ≤ length (now s) ⌝ }
+    ensures { λ r. ⌜ Skips isHigh (now (s .entry)) at r ⌝ }
+{
+    let mut i = at;
+    while 8 <= s.len() - i {
+        if s[i] < 14 {
+            return i;
+        }
+        if s[i + 1] < 14 {
+            return i + 1;
+        }
+        if s[i + 2] < 14 {
+            return i + 2;
+        }
+        if s[i + 3] < 14 {
+            return i + 3;
+        }
+        if s[i + 4] < 14 {
+            return i + 4;
+        }
+        if s[i + 5] < 14 {
+            return i + 5;
+        }
+        if s[i + 6] < 14 {
+            return i + 6;
+        }
+        if s[i + 7] < 14 {
+            return i + 7;
+        }
+        i += 8;
+    }
+    i
+}
+
+// A place at or after `at` with no line's end before it: right before the first, unless the text ends soon.
+pub fn skip_high(s: &[u8], at: usize) -> usize
+    requires { ⌜ at ≤ length (now s) ⌝ }
+    ensures { λ r. ⌜ Skips isHigh (now (s .entry)) at r ⌝ }
+{
+    near_high(s, pass_high(s, at))
+}
+
+// Are the sixteen bytes at `at` all text bytes?
+fn text_block(s: &[u8], at: usize) -> bool
+    requires { ⌜ at + 16 ≤ length (now s) ⌝ }
+    ensures { λ r. ⌜ (r ≡ true → all isText (take 16 (drop at (now (s .entry)))) ≡ true) ⌝ }
+{
+    let mut text = true;
+    let mut j: usize = 0;
+    while j < 16 {
+        let b = s[at + j];
+        if b < 32 {
+            text = false;
+        }
+        if b == 127 {
+            text = false;
+        }
+        j += 1;
+    }
+    text
+}
+
+// A place at or after `at` with text bytes alone before it.
+pub fn skip_text(s: &[u8], at: usize) -> usize
+    requires { ⌜ at ≤ length (now s) ⌝ }
+    ensures { λ r. ⌜ Skips isText (now (s .entry)) at r ⌝ }
+{
+    let n = s.len();
+    if n < 16 {
+        return at;
+    }
+    let mut i = at;
+    while i < n {
+        let p = block_at(i, n);
+        if text_block(s, p) {
+            i = p + 16;
+        } else {
+            return i;
+        }
+    }
+    i
+}
+
+// Are the sixteen bytes at `at` all other than b?
+fn other_block(s: &[u8], at: usize, b: u8) -> bool
+    requires { ⌜ at + 16 ≤ length (now s) ⌝ }
+    ensures { λ r. ⌜ (r ≡ true → all (isOther b) (take 16 (drop at (now (s .entry)))) ≡ true) ⌝ }
+{
+    let mut other = true;
+    let mut j: usize = 0;
+    while j < 16 {
+        if s[at + j] == b {
+            other = false;
+        }
+        j += 1;
+    }
+    other
+}
+
+// Are the sixty-four bytes at `at` all other than b?
+fn other_long(s: &[u8], at: usize, b: u8) -> bool
+    requires { ⌜ at + 64 ≤ length (now s) ⌝ }
+    ensures { λ r. ⌜ (r ≡ true → all (isOther b) (take 64 (drop at (now (s .entry)))) ≡ true) ⌝ }
+{
+    let mut other = true;
+    let mut j: usize = 0;
+    while j < 64 {
+        if s[at + j] == b {
+            other = false;
+        }
+        j += 1;
+    }
+    other
+}
+
+// A place at or after `at` with no b before it: `at` itself in a short text, where so wide a block costs more than it saves.
+fn pass_long(s: &[u8], at: usize, b: u8) -> usize
+    requires { ⌜ at ≤ length (now s) ⌝ }
+    ensures { λ r. ⌜ Skips (isOther b) (now (s .entry)) at r ⌝ }
+{
+    let mut i = at;
+    while 256 <= s.len() - i {
+        if other_long(s, i, b) {
+            i += 64;
+        } else {
+            return i;
+        }
+    }
+    i
+}
+
+// A place at or after `at` with no b before it.
+fn pass_other(s: &[u8], at: usize, b: u8) -> usize
+    requires { ⌜ at ≤ length (now s) ⌝ }
+    ensures { λ r. ⌜ Skips (isOther b) (now (s .entry)) at r ⌝ }
+{
+    let n = s.len();
+    if n < 16 {
+        return at;
+    }
+    let mut i = pass_long(s, at, b);
+    while i < n {
+        let p = block_at(i, n);
+        if other_block(s, p, b) {
+            i = p + 16;
+        } else {
+            return i;
+        }
+    }
+    i
+}
+
+// The same one byte after another: it stops before the first b, or near the text's end.
+fn near_other(s: &[u8], at: usize, b: u8) -> usize
+    requires { ⌜ at ≤ length (now s) ⌝ }
+    ensures { λ r. ⌜ Skips (isOther b) (now (s .entry)) at r ⌝ }
+{
+    let mut i = at;
+    while 8 <= s.len() - i {
+        if s[i] == b {
+            return i;
+        }
+        if s[i + 1] == b {
+            return i + 1;
+        }
+        if s[i + 2] == b {
+            return i + 2;
+        }
+        if s[i + 3] == b {
+            return i + 3;
+        }
+        if s[i + 4] == b {
+            return i + 4;
+        }
+        if s[i + 5] == b {
+            return i + 5;
+        }
+        if s[i + 6] == b {
+            return i + 6;
+        }
+        if s[i + 7] == b {
+            return i + 7;
+        }
+        i += 8;
+    }
+    i
+}
+
+// A place at or after `at` with no b before it: right before the first, unless the text ends soon.
+pub fn skip_other(s: &[u8], at: usize, b: u8) -> usize
+    requires { ⌜ at ≤ length (now s) ⌝ }
+    ensures { λ r. ⌜ Skips (isOther b) (now (s .entry)) at r ⌝ }
+{
+    near_other(s, pass_other(s, at, b), b)
+}

@@ -1,0 +1,2 @@
+pub mod itemlen
+pub mod file

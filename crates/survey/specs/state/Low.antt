@@ -1,0 +1,24 @@
+-- How large the numbers of the judging can be before a row. Document 01, "The batch". Assumes nothing.
+use Prim.Native.Nat.{ℕ, suc, _+_, _*_, _≤_, _<_}
+use mathlib.Core.Path.{_≡_}
+use Rattle.paper.specs.Batch.{most14}
+use Rattle.roundtrip.specs.flat.Few.{Few}
+use Rattle.survey.specs.declared.state.State.{State}
+use Rattle.survey.specs.declared.state.Step.{Step}
+use Rattle.survey.specs.declared.state.Step.the-variants as step
+use Rattle.survey.specs.state.Stands.{beforeOf}
+
+-- before row k stand n rows, each of at most one item and 500 bytes
+pub record Low (k : ℕ) (st : State) : Type 0 where
+  pub n : ℕ
+  pub row : k ≡ suc n
+  pub few : Few (beforeOf st) n
+  pub all : st .all ≤ n
+  pub bytes : st .bytes ≤ 500 * n
+  pub sum : st .sum ≤ most14
+
+-- they stay small behind row k
+abbrev pub LowStep : ℕ → Step → Type 0
+LowStep k (step.On st) = Low (k + 1) st
+LowStep k (step.File st first) = Low (k + 1) st × (first < 1000)
+LowStep k (step.Wrong field) = Unit {0}
