@@ -26,9 +26,9 @@ kind-four : (sh : Sheet) (s : List ℕ) (v : ℕ) → readKind sh s ≡ value v 
 unfolding readKind
 kind-four sh s v e = let g = given-value _ (digits 4 4 s) v e in digits-least 4 4 s (g .0) (g .1)
 
-number-six : (allowed : ℕ → Bool) (s : List ℕ) (v : ℕ) → readNumber allowed s ≡ value v → 6 ≤ length s
+number-six : (test : ℕ → ℕ) (s : List ℕ) (v : ℕ) → readNumber test s ≡ value v → 6 ≤ length s
 unfolding readNumber
-number-six allowed s v e = let g = given-value _ (digits 6 6 s) v e in digits-least 6 6 s (g .0) (g .1)
+number-six test s v e = let g = given-value _ (digits 6 6 s) v e in digits-least 6 6 s (g .0) (g .1)
 
 day-six : (long : Bool) (s : List ℕ) (v : ℕ) → readDay long s ≡ value v → 6 ≤ length s
 unfolding readDay longDay shortDay
@@ -48,13 +48,13 @@ bank-eight ranked s v e = let g = given-value _ (digits 8 10 s) v e in digits-le
 -- ---- and so lines
 
 module _ (sh : Sheet) (start : ℕ) where
-  pub row-least : {today : ℕ} {allowed : ℕ → Bool} {single : Bool} {s : List ℕ} {kind : Kind} {r : Said} → LineSays sh today allowed single s kind r
+  pub row-least : {today : ℕ} {test : ℕ → ℕ} {single : Bool} {s : List ℕ} {kind : Kind} {r : Said} → LineSays sh today test single s kind r
       → 8 * length (lineRow start r) ≤ length s
   unfolding lineRow entryRow
   row-least (no-header _) = omega arith
   row-least (a-header _ _ _ _ _ _ _) = omega arith
-  row-least {allowed = allowed} {s = s} (a-file {kind = k} {number = m} f g _ h) =
-      omega (arith, h, kind-four sh (f .0) k (f .1), number-six allowed (g .0) m (g .1), length-drop 2 s)
+  row-least {test = test} {s = s} (a-file {kind = k} {number = m} f g _ h) =
+      omega (arith, h, kind-four sh (f .0) k (f .1), number-six test (g .0) m (g .1), length-drop 2 s)
   row-least {today} {s = s} (a-group {date = date} _ _ d h _) =
       omega (arith, h, due-six (sh .longdate) (sh .early) (sh .ahead) today (d .0) date (d .1), length-drop 2 s)
   row-least (an-item {bank = bank} _ _ _ _ b h _ _) = omega (arith, h, bank-eight (sh .priority) (b .0) bank (b .1))
