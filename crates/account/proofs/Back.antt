@@ -45,12 +45,13 @@ module _ (p b : ℕ) (hp : p < 1000000) (hb : b < 10000000000) (ok : accountOk p
 
   module _ (joined : Bool) (least : ℕ) (l : least ≤ 2) where
     base-back : withBase least p (decimal b) ≡ value (account p b)
+    unfolding withBase
     base-back =
         given-on (λ base. ruled p base) (digits least 10 (decimal b)) b (decimal-back-from least 10 b (omega arith) (omega arith) (omega arith) (omega (arith, base-two)))
         ∙ ruled-ok p b ok
 
     alone-back : p ≡ 0 → readAccount joined least (decimal b) ≡ value (account p b)
-    unfolding readAccount onePart
+    unfolding readAccount onePart withBase
     alone-back e =
         pick-false _ _ (le-ltb (seek dash (decimal b)) (length (decimal b)) (omega (arith, free b)))
         ∙ pick-false _ _ (either (λ x. x ≡ false) joined (λ z. le-ltb 10 (length (decimal b)) base-ten) (λ z. refl))
@@ -58,7 +59,7 @@ module _ (p b : ℕ) (hp : p < 1000000) (hb : b < 10000000000) (ok : accountOk p
         ∙ base-back
 
     parts-back : twoParts least (decimal p) (decimal b) ≡ value (account p b)
-    unfolding twoParts
+    unfolding twoParts withBase
     parts-back =
         given-on (λ prefix. withBase least prefix (decimal b)) (digits 1 6 (decimal p)) p (decimal-back 6 p (omega arith) (omega arith) (omega arith))
         ∙ base-back

@@ -38,16 +38,17 @@ ruled-says p b h k =
     (λ e. rw (ruled-broken p b e) (of-fault Proper Refusal 5 (inr refl)))
 
 base-says : (least p : ℕ) (s : List ℕ) → p < 1000000 → Says Proper Refusal (withBase least p s)
+unfolding withBase
 base-says least p s h =
     says-given (λ n. n < 10 ^ 10) Proper Refusal (digits least 10 s) (λ base. ruled p base) (number-says least 10 s) (λ b k. ruled-says p b h k)
 
 parts-say : (least : ℕ) (p b : List ℕ) → Says Proper Refusal (twoParts least p b)
-unfolding twoParts
+unfolding twoParts withBase
 parts-say least p b =
     says-given (λ n. n < 10 ^ 6) Proper Refusal (digits 1 6 p) (λ prefix. withBase least prefix b) (number-says 1 6 p) (λ q k. base-says least q b k)
 
 account-says : (joined : Bool) (least : ℕ) (s : List ℕ) → Says Proper Refusal (readAccount joined least s)
-unfolding readAccount onePart
+unfolding readAccount onePart withBase
 account-says joined least s =
     either (Says Proper Refusal) (ltb (seek dash s) (length s))
     (λ e. parts-say least (before dash s) (drop (seek dash s + 1) s))

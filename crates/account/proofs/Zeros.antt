@@ -40,13 +40,14 @@ unfolding ruled accountOk weighted nonZero pick
 broken = refl
 
 no-base : (least : ℕ) (b : List ℕ) (a : Account) → all isZero b ≡ true → withBase least 0 b ≡ value a → ⊥
+unfolding withBase
 no-base least b a h e =
     let g = given-value (λ base. ruled 0 base) (digits least 10 b) a e in
     let z : g .0 ≡ 0 = zeros-say least 10 b h (g .0) (g .1) in
     value-fault a 5 (sym (rw z at (g .2)) ∙ broken)
 
 no-parts : (least : ℕ) (p b : List ℕ) (a : Account) → all isZero p ≡ true → all isZero b ≡ true → twoParts least p b ≡ value a → ⊥
-unfolding twoParts
+unfolding twoParts withBase
 no-parts least p b a h k e =
     let g = given-value (λ prefix. withBase least prefix b) (digits 1 6 p) a e in
     let z : g .0 ≡ 0 = zeros-say 1 6 p h (g .0) (g .1) in
@@ -60,7 +61,7 @@ zeros-all most s =
     (λ e. either (λ x. x ≡ true → all isZero s ≡ true) (ltb most (length s)) (λ g f. never (sym f)) (λ g f. f))
 
 zeros-none : (joined : Bool) (least : ℕ) (s : List ℕ) (a : Account) → onlyZeros s ≡ true → readAccount joined least s ≡ value a → ⊥
-unfolding onlyZeros readAccount onePart pick
+unfolding onlyZeros readAccount onePart pick withBase
 zeros-none joined least s a h e =
     by-test (ltb (seek dash s) (length s))
     (λ t. let b = pick-both (zeros 6 (before dash s)) (zeros 10 (drop (seek dash s + 1) s)) (simp t at h) in
@@ -71,7 +72,7 @@ zeros-none joined least s a h e =
     (λ u. no-base least s a z (simp (t, u) at e)))
 
 empty-none : (joined : Bool) (least : ℕ) (s : List ℕ) (a : Account) → null s ≡ true → readAccount joined least s ≡ value a → ⊥
-unfolding readAccount onePart null seek all pick
+unfolding readAccount onePart null seek all pick withBase
 empty-none true least [] a h e = no-base least [] a refl e
 empty-none false least [] a h e = no-base least [] a refl e
 empty-none joined least (x ∷ s) a h e = never (sym h)

@@ -6,5 +6,5 @@ use Rattle.paper.specs.Numerals.{digits}
 use Rattle.paper.specs.Accounts.{Account, ruled}
 
 -- an account whose prefix is known, and whose base has `least` to 10 digits: the last step of `twoParts`, and with prefix 0 `onePart`
-abbrev pub withBase : ℕ → ℕ → List ℕ → Field Account
+unfoldable pub withBase : ℕ → ℕ → List ℕ → Field Account
 withBase least prefix b = given (digits least 10 b) λ base. ruled prefix base

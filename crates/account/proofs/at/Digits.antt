@@ -20,7 +20,8 @@ use Rattle.numeral.proofs.Digits.{in-range, too-short, too-long}
 use Rattle.numeral.proofs.Sound.{same, read-on, digits-plain, digits-most, digits-sound, digits-reads}
 use Rattle.numeral.proofs.Split.{digits-split}
 use Rattle.account.proofs.Exits.{no-dash}
-use Rattle.account.specs.at.Parts.{undashed, withBase}
+use Rattle.account.specs.at.Parts.{undashed}
+use Rattle.account.specs.Parts.{withBase}
 
 -- a number of so many digits, where other counts are allowed
 pub recount : (a b c d : ℕ) (s : List ℕ) (v : ℕ) → digits a b s ≡ value v → c ≤ length s → length s ≤ d → digits c d s ≡ value v

@@ -21,7 +21,8 @@ use Rattle.numeral.specs.field.Digits.{run}
 use Rattle.numeral.proofs.field.Number.{run-ends, run-field, run-open, number-value, number-short, number-long}
 use Rattle.numeral.proofs.field.Behind.{behind-field, behind-end}
 use Rattle.numeral.proofs.field.Onward.{onward, given-at}
-use Rattle.account.specs.at.Parts.{undashed, withBase, dashed}
+use Rattle.account.specs.at.Parts.{undashed, dashed}
+use Rattle.account.specs.Parts.{withBase}
 use Rattle.account.proofs.at.Digits.{undashed-is, dashed-is}
 
 -- a base behind its prefix

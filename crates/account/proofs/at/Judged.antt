@@ -16,7 +16,8 @@ use Rattle.numeral.proofs.Sound.{same}
 use Rattle.account.specs.Doubled.{doubled, sumsOk}
 use Rattle.numeral.specs.field.At.{found, missed, ending, fieldAt}
 use Rattle.numeral.specs.field.Digits.{run}
-use Rattle.account.specs.at.Parts.{undashed, withBase, dashed}
+use Rattle.account.specs.at.Parts.{undashed, dashed}
+use Rattle.account.specs.Parts.{withBase}
 use Rattle.account.proofs.at.Doubling.{sum-start, base-small, run-short, prefix-small, rule-by-sums}
 use Rattle.account.proofs.at.Exits.{base-value, base-short, base-long, digits-account, dashed-account}
 use Rattle.numeral.specs.field.Kept.{keeping, nothing}

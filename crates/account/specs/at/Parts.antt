@@ -6,9 +6,8 @@ use lib.Dec.{eqb, ltb}
 use lib.ListN.{getD, drop}
 use Rattle.base.specs.Pick.{pick}
 use Rattle.base.specs.Seek.{seek}
-use Rattle.paper.specs.Read.{Field, fault, given}
+use Rattle.paper.specs.Read.{Field, fault}
 use Rattle.paper.specs.Bytes.{space, fieldOf}
-use Rattle.paper.specs.Numerals.{digits}
 use Rattle.paper.specs.Accounts.{Account, nobody, ruled, onlyZeros}
 use Rattle.numeral.specs.field.At.{At, found, missed}
 
@@ -18,10 +17,6 @@ undashed joined least n v =
     pick (ltb 10 n)
     (pick joined (ruled (v / 10000000000) (v % 10000000000)) (fault 4))
     (pick (ltb n least) (fault 4) (ruled 0 v))
-
--- a base behind its prefix
-unfoldable pub withBase : ℕ → ℕ → List ℕ → Field Account
-withBase least prefix s = given (digits least 10 s) λ base. ruled prefix base
 
 -- the digits of the line s from `at` to `end` are as many as a prefix may have, and a dash follows
 unfoldable pub dashed : List ℕ → ℕ → ℕ → Bool
