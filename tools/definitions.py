@@ -136,6 +136,22 @@ WRONG = [
         "(seek np m) (length m)",
         "cases/Items",
     ),
+    (
+        "a warning's place, listed",
+        "K's priority digit would be warned of at the variable symbol",
+        "ItemLine",
+        "notices lowPriority a6 (bank .warnings)",
+        "notices lowPriority a4 (bank .warnings)",
+        "cases/Warned",
+    ),
+    (
+        "a warning's kind, listed",
+        "a name that is cut would be warned of as a part",
+        "Texts",
+        "overs ps ++ over longName n",
+        "overs ps ++ over longPart n",
+        "cases/Warned",
+    ),
     # ---- the canonical spelling
     (
         "the first line, canonical",

@@ -12,7 +12,7 @@ use Rattle.paper.specs.Days.{realDay, readDay, readDue}
 use Rattle.paper.specs.Accounts.{Account, account, readAccount}
 use Rattle.paper.specs.Amounts.{readItemAmount}
 use Rattle.paper.specs.BankField.{Bank, readBank}
-use Rattle.paper.specs.Texts.{piece, Texts, readText}
+use Rattle.paper.specs.Texts.{piece, Noted, readText}
 use Rattle.cases.specs.Asked.{judged}
 
 -- a field on a sheet
@@ -29,8 +29,8 @@ abbrev pub dueOn : Sheet → ℕ → String → Field ℕ
 dueOn sh today s = readDue (sh .longdate) (sh .early) (sh .ahead) today (bytes s)
 
 -- no message, and a name at a place of its text
-abbrev pub named : ℕ → String → Texts
-named at s = record { parts = piece 0 [] ∷ piece 0 [] ∷ piece 0 [] ∷ piece 0 [] ∷ []; name = piece at (bytes s); warnings = 0 }
+abbrev pub named : ℕ → String → Noted
+named at s = record { parts = piece 0 [] ∷ piece 0 [] ∷ piece 0 [] ∷ piece 0 [] ∷ []; name = piece at (bytes s); warnings = [] }
 
 pub table :
     -- these accounts are valid, and 1234567890 is not

@@ -1,8 +1,9 @@
+pub mod Calls
 pub mod Cases
-pub mod WholeRun
-pub mod Lines
 pub mod Heads
 pub mod Items
+pub mod Lines
 pub mod Order
+pub mod Warned
+pub mod WholeRun
 pub mod Writing
-pub mod Calls

@@ -2,12 +2,14 @@
 -- computes with. Assumes nothing.
 use Prim.Native.Nat.{ℕ}
 use Prim.Native.String.{String}
-use mathlib.Core.List.{List}
+use mathlib.Core.Bool.{Bool}
+use mathlib.Core.List.{List, []}
 use Rattle.base.specs.Pick.{pick}
 use Rattle.base.specs.Seek.{all, starts, seek}
 use Rattle.sheet.specs.declared.Sheet.{Sheet}
 use Rattle.sheet.specs.Sheets.{sheetOf, sheetBy, kindAllowed, bankAllowed}
 use Rattle.paper.specs.Read.{given}
+use Rattle.paper.specs.Warnings.{Notice, notices}
 use Rattle.paper.specs.Bytes.{bytes, isText, isDigit, null}
 use Rattle.paper.specs.Numerals.{digitsOn, digits, decOn, decimal, fixedOn, fixed}
 use Rattle.paper.specs.Days.{leap, monthDays, realDay, yearsDays, monthsDays, dayNumber, real, shortDay, longDay, readDay, spellDay, past, dueAllowed, dueWarnings, readDue}
@@ -18,16 +20,16 @@ use Rattle.paper.specs.Texts.{others, cut, over, overs, pad, opens, finish, mes
 use Rattle.paper.specs.Batch.{Header, Thing, sum, itemThings, groupThings, things, heapOf, batchOf}
 use Rattle.paper.specs.Proper.{check, headerProper, fileDue, groupDue, itemDue, mayStop, kindProper, payerProper, itemPayerProper, partsFrom, itemProper, rowsProper, batchProper}
 use Rattle.paper.specs.Lines.{linesOf}
-use Rattle.paper.specs.Entries.{kindOf, onField, field, place, gap, lineEnd}
+use Rattle.paper.specs.Entries.{Listed, got, no, counted, Kind, kindOf, onField, field, place, gap, lineEnd, onHead, onFile, onGroup, onItem}
 use Rattle.paper.specs.FirstLine.{textField, readTo, restLength, readRest, readFirst, spellFirst}
 use Rattle.paper.specs.FileLine.{member, numberFault, numberAllowed, readKind, readNumber, readCode, readFile, spellFile}
 use Rattle.paper.specs.GroupLine.{spaceCount, hasPayer, totalAndDate, readGroup, spellPayer, spellGroup}
 use Rattle.paper.specs.ItemLine.{readSymbolOrNone, isValue, fixedTail, afterSymbol, openTail, tail, fromPayee, readItem, spellTail, spellItem}
 use Rattle.paper.specs.ClosingLine.{plusAt, readClose}
 use Rattle.paper.specs.Spells.{numberTest, readAs, readLine, itemDues, groupDues, fileDues, dues, differs, groupItems, fileItems}
-use Rattle.paper.specs.Judge.{Answer, seen, contextOf, isDue, isFull, totalBroken, closed, firstOr0, onHead, onFile, onGroup, onItem, meet, onSaid, read, step, endOf, run, judge}
+use Rattle.paper.specs.Judge.{Answer, seen, contextOf, isDue, isFull, totalBroken, closed, meet, onSaid, read, step, endOf, run, judge}
 use Rattle.paper.specs.Words.{wordOf, wordBytes}
-use Rattle.paper.specs.Rows.{words, rowsOn, rowsIn, textAt, thingIn, thingsIn, blanks, fileRow, groupRow, textWords, textsWords, itemRow, entryRow, lineRow, singleAfter, singleBehind, linesRows, wordsBytes, rowsBytes}
+use Rattle.paper.specs.Rows.{accepted, words, rowsOn, rowsIn, textAt, thingIn, thingsIn, blanks, fileRow, groupRow, textWords, textsWords, itemRow, entryRow, lineRow, singleAfter, singleBehind, linesRows, wordsBytes, rowsBytes}
 use Rattle.paper.specs.Reading.{refusedAt, needs, acceptedAs, answered, readWith, readAnswer, filled, rowsWith, rowsAfter}
 use Rattle.paper.specs.Carried.{headerCarried, partsCarriedFrom, itemCarried, rowsCarried, batchCarried}
 use Rattle.paper.specs.Canonical.{spell, textOf, canon}
@@ -41,8 +43,17 @@ today = 20180101
 
 -- a file, judged on a sheet
 unfoldable pub judged : Sheet → List ℕ → Answer
-unfolding pick all starts seek kindAllowed bankAllowed given isText isDigit null digitsOn digits fixedOn fixed leap monthDays realDay yearsDays monthsDays dayNumber real shortDay longDay readDay past dueAllowed dueWarnings readDue weighted nonZero accountOk ruled twoParts onePart readAccount isNobody zeros onlyZeros readPayer withComma readAmount readTotal amountProper readItemAmount ninth readBank others cut over overs pad opens finish messageEnd message marked readText sum linesOf kindOf onField field place gap lineEnd textField readTo restLength readRest readFirst member numberFault numberAllowed readKind readNumber readCode readFile spaceCount hasPayer totalAndDate readGroup readSymbolOrNone isValue fixedTail afterSymbol openTail tail fromPayee readItem plusAt readClose numberTest readAs readLine differs groupItems fileItems seen contextOf isDue isFull totalBroken closed firstOr0 onHead onFile onGroup onItem meet onSaid read step endOf run judge
+unfolding pick all starts seek kindAllowed bankAllowed given isText isDigit null digitsOn digits fixedOn fixed leap monthDays realDay yearsDays monthsDays dayNumber real shortDay longDay readDay past dueAllowed dueWarnings readDue weighted nonZero accountOk ruled twoParts onePart readAccount isNobody zeros onlyZeros readPayer withComma readAmount readTotal amountProper readItemAmount ninth readBank others cut over overs pad opens finish messageEnd message marked readText sum linesOf kindOf onField field place gap lineEnd textField readTo restLength readRest readFirst member numberFault numberAllowed readKind readNumber readCode readFile spaceCount hasPayer totalAndDate readGroup readSymbolOrNone isValue fixedTail afterSymbol openTail tail fromPayee readItem plusAt readClose numberTest readAs readLine differs groupItems fileItems seen contextOf isDue isFull totalBroken closed counted notices onHead onFile onGroup onItem meet onSaid read step endOf run judge
 judged sh f = judge sh today f
+
+-- what a line of a kind warns of, in a group that is single or not
+unfoldable pub warnedOf : Sheet → Bool → Kind → String → List Notice
+unfolding judged
+warnedOf sh single kind s = listed (readAs sh today (accepted single) kind (bytes s))
+  where
+    listed : Listed → List Notice
+    listed (got x) = x .warnings
+    listed (no n off) = []
 
 -- what stands in a batch, written with a header on a sheet
 unfoldable pub written : Sheet → Header → List Thing → Draft

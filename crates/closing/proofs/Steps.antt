@@ -10,7 +10,7 @@ use lib.Seq.{drop-cons}
 use borrow.Author.Tests.{eq-eqb, ne-eqb}
 use Rattle.base.specs.Pick.{pick}
 use Rattle.base.specs.Seek.{starts}
-use Rattle.paper.specs.Entries.{Entry, got, no, lineEnd}
+use Rattle.paper.specs.Entries.{Entry, Listed, plain, no, lineEnd}
 use Rattle.paper.specs.ClosingLine.{plusAt, readClose}
 use Rattle.closing.specs.declared.CloseRead.{CloseRead}
 use Rattle.closing.specs.Told.{told}
@@ -28,7 +28,7 @@ module _ (e : Entry) (s : List ℕ) (at : ℕ) where
     plus-other n = rw (drop-cons s at 0 l) (simp (ne-eqb _ _ n))
 
     module _ (h : getD s at 0 ≡ 43) where
-      pub plus-last : length s ≤ at + 1 → got e 0 [] ≡ plusAt e at (drop at s)
+      pub plus-last : length s ≤ at + 1 → plain e ≡ plusAt e at (drop at s)
       unfolding plusAt lineEnd pick
       plus-last k = rw (drop-cons s at 0 l) (simp (eq-eqb _ _ h, ← add-one, drop-of-length-le s k))
 
@@ -38,7 +38,7 @@ module _ (e : Entry) (s : List ℕ) (at : ℕ) where
 
 -- ---- behind the first byte
 
-same : (t : Bool) → pick t (no 4 1) (no 4 1) ≡ no 4 1
+same : (t : Bool) → pick {A = Listed} t (no 4 1) (no 4 1) ≡ no 4 1
 unfolding pick
 same true = refl
 same false = refl

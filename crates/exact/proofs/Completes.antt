@@ -1,6 +1,6 @@
 -- What is left of a file completes a state to a header, a batch and a count of warnings; and how one line changes what is left. The rules
 -- in it speak of what is to come, next to what the state has counted. Assumes nothing.
-use mathlib.Core.Path.{_≡_, refl, ap, _∙_}
+use mathlib.Core.Path.{_≡_, refl}
 use mathlib.Core.Bool.{true}
 use mathlib.Core.List.{List, [], _∷_}
 use Prim.Native.Nat.{ℕ, suc, _+_, _≤_, max}
@@ -10,11 +10,9 @@ use Rattle.sheet.specs.declared.Sheet.{Sheet}
 use Rattle.paper.specs.Batch.{Item, Group, AccountFile, Batch, Header, sum, most14}
 use Rattle.paper.specs.Lines.{Line}
 use Rattle.paper.specs.FileLine.{series}
-use Rattle.paper.specs.Entries.{group, got}
 use Rattle.paper.specs.Spells.{itemDues, groupDues, fileDues, dues, differs, Each, groupItems, fileItems, GroupRules, FileRules, Rules}
 use Rattle.paper.specs.Judge.{Refused, Accepted, revOn, State, atFirst, atFile, atGroup, atItem, stop, seen, contextOf, itemsOf, groupOf, fileOf, step}
 use Rattle.paper.proofs.Lists.{length-rev, items-rev, null-some, some-null}
-use Rattle.exact.proofs.Told.{told-line, spot-group}
 use Rattle.exact.proofs.Moves.{Moves, heads, opens, begins, more, closes, finishes, moves-step, stays-step}
 use Rattle.exact.proofs.Counts.{room, has-room, taken, takes}
 
@@ -103,9 +101,8 @@ module _ (sh : Sheet) (today : ℕ) (h : Header) (b : Batch) (w : ℕ) where
     forth (atGroup x) ([], mf, m, eh, e, i, (v, m2, q, o, j), some, items, g, few, less, r) =
         along (atGroup x) (finishes (some-null (x .groups) (omega arith)) q)
         (mf, m2, eh, e, omega arith, o, omega arith, omega arith, omega (arith, items-rev (x .groups) []), r)
-    forth (atGroup x) (y ∷ mg, mf, m, eh, e, i, (v, m2, (total, u, (spots, q), same, n), o, j), _, items, (some, small, g), few, less, r) =
-        let (at, p) = spot-group (told-line sh today _ (t .bytes) _ q) in
-        along (atGroup x) (begins (q ∙ ap (λ s. got (group (y .payer) total (y .date)) u s) p))
+    forth (atGroup x) (y ∷ mg, mf, m, eh, e, i, (v, m2, (total, u, (p, q), same, n), o, j), _, items, (some, small, g), few, less, r) =
+        along (atGroup x) (begins q)
         (y .items, mg, mf, m2, eh, e, omega arith, o, omega arith, small, same, omega arith, g, few, omega arith, r)
     forth (atItem x) ([], mg, mf, m, eh, e, i, (v, m2, q, o, j), some, small, same, items, g, few, less, r) =
         along (atItem x) (closes (some-null (x .items) (omega arith)) q (takes (sh .strict) (x .head .total) (sum (itemsOf x)) small same))

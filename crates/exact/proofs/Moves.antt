@@ -12,9 +12,9 @@ use Rattle.paper.specs.Bytes.{null}
 use Rattle.paper.specs.Accounts.{Account}
 use Rattle.paper.specs.Batch.{Item, Header, sum}
 use Rattle.paper.specs.Lines.{Line}
-use Rattle.paper.specs.Entries.{head, file, group, item, closeGroup, closeFile, Said, got, no, Kind, headLine, fileLine, groupLine, itemLine, groupEnd, fileEnd, kindOf}
+use Rattle.paper.specs.Entries.{head, file, group, item, closeGroup, closeFile, Places, Counted, said, no, Kind, headLine, fileLine, groupLine, itemLine, groupEnd, fileEnd, kindOf, onHead, onFile, onGroup, onItem}
 use Rattle.paper.specs.Spells.{readLine}
-use Rattle.paper.specs.Judge.{Answer, Refused, Between, InFile, InGroup, State, atFirst, atFile, atGroup, atItem, stop, contextOf, isDue, isFull, totalBroken, begun, fileOpened, groupOpened, itemAdded, itemsOf, groupClosed, fileClosed, closed, firstOr0, onHead, onFile, onGroup, onItem, meet, onSaid, read, step}
+use Rattle.paper.specs.Judge.{Answer, Refused, Between, InFile, InGroup, State, atFirst, atFile, atGroup, atItem, stop, contextOf, isDue, isFull, totalBroken, begun, fileOpened, groupOpened, itemAdded, itemsOf, groupClosed, fileClosed, closed, meet, onSaid, read, step}
 use Rattle.paper.specs.FirstFault.{Follows, Broken, not-due, full, in-line, total}
 use Rattle.exact.proofs.Counts.{wrong}
 use Rattle.exact.proofs.Told.{Told, of-head, of-file, of-group, of-item, of-group-end, of-file-end, of-none, told, told-line, kind-head, kind-file, kind-group, kind-item, kind-group-end, kind-file-end}
@@ -27,10 +27,10 @@ module _ (sh : Sheet) (today : ℕ) where
         → length (x .files) < 1000
         → Follows sh today t (atFile x) (file kind number) v
         → Moves k t (atFile x) (atGroup (fileOpened x kind number v))
-    begins : {x : InFile} {payer : Account} {total date v at : ℕ}
-        → readLine sh today (contextOf (atGroup x)) (t .bytes) ≡ got (group payer total date) v (at ∷ [])
+    begins : {x : InFile} {payer : Account} {total date v : ℕ} {p : Places}
+        → readLine sh today (contextOf (atGroup x)) (t .bytes) ≡ said (group payer total date) v p
         → Moves k t (atGroup x)
-        (atItem (groupOpened x (record { payer = payer; date = date; total = total; line = k; byte = t .start + at }) v))
+        (atItem (groupOpened x (record { payer = payer; date = date; total = total; line = k; byte = t .start + p .total }) v))
     more : {x : InGroup} {v : ℕ} {i : Item}
         → isFull sh (atItem x) itemLine ≡ false
         → Follows sh today t (atItem x) (item i) v
@@ -69,9 +69,9 @@ module _ (sh : Sheet) (today : ℕ) where
         → readLine sh today (contextOf st) (t .bytes) ≡ no n off → To st (stop (Refused n k (t .start + off)))
     faulty kind st j d f q = halted (in-line {st = st} {t = t} (rw j d) (rw j f) q)
 
-    says : (kind : Kind) (r : Said) (st : State) → Told kind r → kindOf (t .bytes) ≡ kind → readLine sh today (contextOf st) (t .bytes) ≡ r
+    says : (kind : Kind) (r : Counted) (st : State) → Told kind r → kindOf (t .bytes) ≡ kind → readLine sh today (contextOf st) (t .bytes) ≡ r
         → isDue st kind ≡ true → isFull sh st kind ≡ false → To st (onSaid sh k (t .start) r st)
-    unfolding onSaid meet isDue isFull onHead onFile onGroup onItem firstOr0 pick
+    unfolding onSaid meet isDue isFull onHead onFile onGroup onItem pick
     says kind r atFirst of-none j q d f = faulty kind _ j d f q
     says kind r atFirst of-head j q d f = on (heads (_, q))
     says kind r atFirst of-file j q d f = wrong d refl
@@ -122,24 +122,24 @@ module _ (sh : Sheet) (today : ℕ) where
 
   module _ (k : ℕ) (t : Line) where
     -- a line that is due and not one too many is read
-    pub passes : (st : State) (kind : Kind) (r : Said) → kindOf (t .bytes) ≡ kind → isDue st kind ≡ true → isFull sh st kind ≡ false
+    pub passes : (st : State) (kind : Kind) (r : Counted) → kindOf (t .bytes) ≡ kind → isDue st kind ≡ true → isFull sh st kind ≡ false
         → readLine sh today (contextOf st) (t .bytes) ≡ r → read sh today k t (kindOf (t .bytes)) st ≡ onSaid sh k (t .start) r st
     unfolding read readLine
     passes st kind r j d f q = pick-true _ _ (rw j d) ∙ pick-false _ _ (rw j f) ∙ ap (λ r. onSaid sh k (t .start) r st) q
 
     pub moves-step : {st new : State} → Moves k t st new → step sh today k t st ≡ new
-    unfolding step onSaid meet isDue isFull onHead onFile onGroup onItem firstOr0 closed pick
-    moves-step (heads {h = h} {v = v} (spots, q)) =
+    unfolding step onSaid meet isDue isFull onHead onFile onGroup onItem closed pick
+    moves-step (heads {h = h} {v = v} (p, q)) =
         passes atFirst headLine _ (kind-head (told-line sh today _ (t .bytes) _ q)) refl refl q
-    moves-step (opens {x = x} few (spots, q)) =
+    moves-step (opens {x = x} few (p, q)) =
         passes (atFile x) fileLine _ (kind-file (told-line sh today _ (t .bytes) _ q)) refl (lt-leb 1000 (length (x .files)) few) q
     moves-step (begins {x = x} q) =
         passes (atGroup x) groupLine _ (kind-group (told-line sh today _ (t .bytes) _ q)) refl refl q
-    moves-step (more {x = x} room (spots, q)) =
+    moves-step (more {x = x} room (p, q)) =
         passes (atItem x) itemLine _ (kind-item (told-line sh today _ (t .bytes) _ q)) refl room q
-    moves-step (closes {x = x} some (spots, q) good) =
+    moves-step (closes {x = x} some (p, q) good) =
         passes (atItem x) groupEnd _ (kind-group-end (told-line sh today _ (t .bytes) _ q)) (rw some) refl q ∙ pick-false _ _ good
-    moves-step (finishes {x = x} some (spots, q)) =
+    moves-step (finishes {x = x} some (p, q)) =
         passes (atGroup x) fileEnd _ (kind-file-end (told-line sh today _ (t .bytes) _ q)) (rw some) refl q
 
     pub stays-step : (a : Answer) → step sh today k t (stop a) ≡ stop a

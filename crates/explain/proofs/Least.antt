@@ -13,7 +13,7 @@ use Rattle.paper.specs.Read.{value}
 use Rattle.paper.specs.Numerals.{digits}
 use Rattle.paper.specs.Days.{readDue, readDay, shortDay, longDay}
 use Rattle.paper.specs.BankField.{Bank, readBank}
-use Rattle.paper.specs.Entries.{Said, Kind}
+use Rattle.paper.specs.Entries.{Listed, counted, Kind}
 use Rattle.paper.specs.FileLine.{readKind, readNumber}
 use Rattle.paper.specs.Rows.{entryRow, lineRow}
 use Rattle.paper.proofs.LineSays.{LineSays, no-header, a-header, a-file, a-group, an-item, a-group-end, a-file-end, refused}
@@ -48,16 +48,16 @@ bank-eight ranked s v e = let g = given-value _ (digits 8 10 s) v e in digits-le
 -- ---- and so lines
 
 module _ (sh : Sheet) (start : ℕ) where
-  pub row-least : {today : ℕ} {test : ℕ → ℕ} {single : Bool} {s : List ℕ} {kind : Kind} {r : Said} → LineSays sh today test single s kind r
-      → 8 * length (lineRow start r) ≤ length s
-  unfolding lineRow entryRow
+  pub row-least : {today : ℕ} {test : ℕ → ℕ} {single : Bool} {s : List ℕ} {kind : Kind} {r : Listed} → LineSays sh today test single s kind r
+      → 8 * length (lineRow start (counted r)) ≤ length s
+  unfolding lineRow entryRow counted
   row-least (no-header _) = omega arith
   row-least (a-header _ _ _ _ _ _ _) = omega arith
   row-least {test = test} {s = s} (a-file {kind = k} {number = m} f g _ h) =
       omega (arith, h, kind-four sh (f .0) k (f .1), number-six test (g .0) m (g .1), length-drop 2 s)
-  row-least {today} {s = s} (a-group {date = date} _ _ d h _) =
+  row-least {today} {s = s} (a-group {date = date} _ _ _ d h _) =
       omega (arith, h, due-six (sh .longdate) (sh .early) (sh .ahead) today (d .0) date (d .1), length-drop 2 s)
-  row-least (an-item {bank = bank} _ _ _ _ b h _ _) = omega (arith, h, bank-eight (sh .priority) (b .0) bank (b .1))
+  row-least (an-item {bank = bank} _ _ _ _ _ b h _ _) = omega (arith, h, bank-eight (sh .priority) (b .0) bank (b .1))
   row-least a-group-end = omega arith
   row-least a-file-end = omega arith
   row-least (refused _ _) = omega arith

@@ -2,8 +2,7 @@
 use sheet::Sheet;
 ghost use mathlib.Core.Path.{_≡_};
 ghost use mathlib.Core.Bool.{true};
-ghost use mathlib.Core.List.{[]};
-ghost use Rattle.paper.specs.Entries.{file, got};
+ghost use Rattle.paper.specs.Entries.{file, plain};
 ghost use Rattle.paper.specs.FileLine.{readFile};
 ghost use Rattle.numeral.specs.placed.Said.{isSaid};
 ghost use Rattle.fileline.specs.take.Any.{anyNumber};
@@ -17,7 +16,7 @@ pub struct File {
 // `1 KIND NUMBER BANK`: with four digits, six and four, each stands at its place.
 pub fn take_file(s: &[u8], sh: Sheet) -> File
     requires { ⌜ isSaid (readFile sh anyNumber (now s)) ≡ true ⌝ }
-    ensures { λ r. ⌜ got (file (r .kind) (r .number)) 0 [] ≡ readFile sh anyNumber (now (s .entry)) ⌝ }
+    ensures { λ r. ⌜ plain (file (r .kind) (r .number)) ≡ readFile sh anyNumber (now (s .entry)) ⌝ }
 {
     File {
         kind: numeral::placed::four(s, 2),

@@ -7,7 +7,7 @@ ghost use Prim.Native.Nat.{ℕ, _+_, _≤_, _<_};
 ghost use lib.ListN.{length};
 ghost use Rattle.base.specs.Put.{Wrote};
 ghost use Rattle.paper.specs.ItemLine.{places};
-ghost use Rattle.paper.specs.Rows.{itemRow, wordsBytes};
+ghost use Rattle.paper.specs.Rows.{itemRow, textSpots, wordsBytes};
 ghost use Rattle.text.specs.span.Held.{textsAt, Held};
 ghost use Rattle.itemline.specs.Told.{itemAt};
 ghost use Rattle.fill.specs.itemrow.Place.{placeWord, Reached};
@@ -27,7 +27,7 @@ fn place_word(start: usize, p: Span) -> u64
 pub fn put_item_row(rows: &mut [u8], at: usize, x: Fields, start: usize) -> usize
     requires { ⌜ at + 192 ≤ length (now rows) ⌝ }
     requires { ⌜ Reached start (x .texts) ⌝ }
-    ensures { λ r. ⌜ ((s : List ℕ) → Held s (x .texts) → Wrote (now (rows .entry)) at (wordsBytes (itemRow start (places (textsAt s (x .texts))) (itemAt s x))) (now (rows .exit)) r) ⌝ }
+    ensures { λ r. ⌜ ((s : List ℕ) → Held s (x .texts) → Wrote (now (rows .entry)) at (wordsBytes (itemRow start (textSpots (places (textsAt s (x .texts)))) (itemAt s x))) (now (rows .exit)) r) ⌝ }
 {
     let t = x.texts;
     let a = place_word(start, t.part1);

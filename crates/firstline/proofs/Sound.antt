@@ -1,7 +1,7 @@
 -- What a first line that is taken says of its bytes, and where one may be refused. Assumes nothing.
-use mathlib.Core.Path.{_≡_, refl, sym, ap, _∙_}
+use mathlib.Core.Path.{_≡_, sym, ap, _∙_}
 use mathlib.Core.Bool.{Bool, true, false}
-use mathlib.Core.List.{List, []}
+use mathlib.Core.List.{List}
 use Prim.Native.Nat.{ℕ, _^_, _≤_, _<_}
 use native.Mathlib.Omega.{arith}
 use lib.Dec.{ltb, lit<}
@@ -16,7 +16,8 @@ use Rattle.paper.specs.Bytes.{isText}
 use Rattle.paper.specs.Numerals.{digits}
 use Rattle.paper.specs.Days.{shortDay, readDay, realDay}
 use Rattle.paper.specs.Batch.{Header}
-use Rattle.paper.specs.Entries.{Entry, head, file, group, item, closeGroup, closeFile}
+use Rattle.paper.specs.Warnings.{Notice}
+use Rattle.paper.specs.Entries.{Entry, head, file, group, item, closeGroup, closeFile, Saying}
 use Rattle.paper.specs.FirstLine.{textField, readTo, readRest, readFirst}
 use Rattle.numeral.proofs.given.Given.{value-fault, value-same, given-value}
 use Rattle.numeral.proofs.Sound.{digits-sound}
@@ -72,13 +73,16 @@ to-sound ordered from s v h =
 -- ---- the whole line
 
 -- what it says, and where it may be refused
-abbrev Taken : Bool → Bool → List ℕ → Entry → ℕ → List ℕ → Type 0
-Taken ordered short s (head h) w l = Fields ordered short s h × (w ≡ 0) × (l ≡ [])
-Taken ordered short s (file k n) w l = ⊥
-Taken ordered short s (group p t d) w l = ⊥
-Taken ordered short s (item x) w l = ⊥
-Taken ordered short s closeGroup w l = ⊥
-Taken ordered short s closeFile w l = ⊥
+abbrev TakenAs : Bool → Bool → List ℕ → Entry → Type 0
+TakenAs ordered short s (head h) = Fields ordered short s h
+TakenAs ordered short s (file k n) = ⊥
+TakenAs ordered short s (group p t d) = ⊥
+TakenAs ordered short s (item x) = ⊥
+TakenAs ordered short s closeGroup = ⊥
+TakenAs ordered short s closeFile = ⊥
+
+abbrev Taken : Bool → Bool → List ℕ → Saying (List Notice) → Type 0
+Taken ordered short s x = TakenAs ordered short s (x .entry)
 
 abbrev Inside : List ℕ → ℕ → ℕ → Type 0
 Inside s n at = 4 ≤ length s → at ≤ length s
@@ -94,8 +98,8 @@ module _ (ordered short : Bool) (s : List ℕ) where
       place-holds (Taken ordered short s) (Inside s) 43 (λ _ _. h4) 3 (readTo ordered from) s _ (lit< tt) λ h5 to e5.
       on-holds (Taken ordered short s) (Inside s) 46 (λ _ _. h5) (readRest short (drop 46 s)) _ λ rest e6.
       let t = text-sound (nameIn s) name e2 in
-      of-got (Taken ordered short s) (Inside s) _ 0 []
-      (record { long = h5; date = e1; name = t .0; text = t .1; client = e3; from = e4; to = e5; rest = rest-sound short (drop 46 s) rest e6 }, refl, refl)
+      of-got (Taken ordered short s) (Inside s) _
+      (record { long = h5; date = e1; name = t .0; text = t .1; client = e3; from = e4; to = e5; rest = rest-sound short (drop 46 s) rest e6 })
 
 -- the bounds of its numbers
 module _ (ordered short : Bool) (s : List ℕ) (h : Header) (f : Fields ordered short s h) where
@@ -116,7 +120,7 @@ module _ (ordered short : Bool) (s : List ℕ) (h : Header) (f : Fields ordered 
 
 pub answer-sound : (ordered short : Bool) (s : List ℕ) (r : FirstRead) → told s r ≡ onDate ordered short 4 (drop 4 s) → Sound s r
 answer-sound ordered short s (first.Header d c f t) e =
-    let p = holds-got (Taken ordered short s) (Inside s) _ (line-holds ordered short s) _ 0 [] (sym e) .0 in
+    let p = holds-got (Taken ordered short s) (Inside s) _ (line-holds ordered short s) _ (sym e) in
     let h : Header = record { date = d; name = nameIn s; client = c; from = f; to = t } in
     (p .long, date-real ordered short s h p, p .text, client-small ordered short s h p, from-small ordered short s h p, to-small ordered short s h p)
 answer-sound ordered short s first.Plain e = tt

@@ -24,12 +24,12 @@ use Rattle.numeral.proofs.field.Steps.{step-place, step-no-place, step-given, s
 use Rattle.firstline.specs.Stages.{restTaken}
 
 -- a line that ends before the date does
-pub step-no-date : {A : Type 0} (r : Said) (read : List ℕ → Field A) (s : List ℕ) (k : A → ℕ → List ℕ → Said) → length s < 10 → r ≡ no 4 4 → r ≡ place 6 read 4 (drop 4 s) k
+pub step-no-date : {Z : Type 0} {A : Type 0} (r : Said Z) (read : List ℕ → Field A) (s : List ℕ) (k : A → ℕ → List ℕ → Said Z) → length s < 10 → r ≡ no 4 4 → r ≡ place 6 read 4 (drop 4 s) k
 unfolding place
 step-no-date r read s k h q = q ∙ sym (pick-true _ _ (lt-ltb (length (drop 4 s)) 6 (omega (arith, length-drop 4 s))))
 
 -- a date of six bytes: m is what the reader of dates answered
-module _ (r : Said) (at : ℕ) (s : List ℕ) (k : ℕ → Said) (m : Num) (g : told m ≡ readDay false s) where
+module _ {Z : Type 0} (r : Said Z) (at : ℕ) (s : List ℕ) (k : ℕ → Said Z) (m : Num) (g : told m ≡ readDay false s) where
   pub step-day : (v : ℕ) → m ≡ Value v → r ≡ k v → r ≡ onField at (shortDay s) k
   unfolding readDay pick
   step-day v f q = step-given r at (shortDay s) k m g v f q
@@ -49,7 +49,7 @@ unfolding readRest textField restTaken
 rest-field short s = both (restLength short (length s)) (all isText s) (value s) (fault 4)
 
 -- text bytes: t is what the code's test answered
-module _ (r : Said) (at : ℕ) (s : List ℕ) (k : List ℕ → Said) (t : Bool) where
+module _ {Z : Type 0} (r : Said Z) (at : ℕ) (s : List ℕ) (k : List ℕ → Said Z) (t : Bool) where
   module _ (g : t ≡ all isText (drop 0 s)) where
     pub step-text : t ≡ true → r ≡ k s → r ≡ onField at (textField s) k
     unfolding textField onField pick

@@ -1,18 +1,21 @@
 -- What the fields of the line give, for `search`: s is the line, and n what a field's reader answered. Assumes nothing.
-use mathlib.Core.Path.{_≡_, sym, _∙_}
+use mathlib.Core.Path.{_≡_, sym, ap, _∙_}
 use mathlib.Core.Bool.{Bool, true, false}
-use mathlib.Core.List.{List, [], _∷_}
+use mathlib.Core.List.{List}
 use Prim.Native.Nat.{ℕ, _^_, _<_}
 use lib.Dec.{leb}
 use Rattle.base.proofs.Cases.{pick-true, pick-false}
 use Rattle.sheet.specs.declared.Sheet.{Sheet}
 use Rattle.sheet.specs.declared.Limits.{Limits}
 use Rattle.sheet.specs.Sheets.{LimitsOf}
+use Rattle.paper.specs.Warnings.{pastDay}
 use Rattle.paper.specs.Accounts.{Account}
 use Rattle.paper.specs.Amounts.{readTotal}
+use Rattle.paper.specs.Read.{Field}
 use Rattle.paper.specs.Days.{readDue, realDay, dueWarnings}
-use Rattle.paper.specs.Entries.{group, got}
-use Rattle.paper.specs.GroupLine.{spaceCount, hasPayer}
+use Rattle.paper.specs.Entries.{group, totalAt, Counted, said, counted, field, gap, lineEnd}
+use Rattle.paper.specs.GroupLine.{spaceCount, hasPayer, totalAndDate}
+use Rattle.paper.proofs.Passing.{field-passes, gap-passes, end-passes, counted-keeps, notices-length}
 use Rattle.amount.proofs.Sound.{total-sound}
 use Rattle.calendar.proofs.Sound.{due-sound}
 use Rattle.numeral.specs.field.At.{fieldAt}
@@ -52,8 +55,29 @@ due-limit sh l of long today s at n g = rw (of .ahead) at g
 -- ---- what the line says, with the warnings w that were counted
 
 pub step-group : (warns : Bool) (today date w : ℕ) → w ≡ dueWarnings warns today date → (payer : Account) (total at : ℕ)
-    → got (group payer total date) w (at ∷ []) ≡ got (group payer total date) (dueWarnings warns today date) (at ∷ [])
+    → said (group payer total date) w (totalAt at) ≡ said (group payer total date) (dueWarnings warns today date) (totalAt at)
 step-group warns today date w g payer total at = rw g
+
+-- its warnings counted at the end are counted
+module _ (sh : Sheet) (today : ℕ) (payer : Account) (at : ℕ) (s : List ℕ) where
+  abbrev read-due : List ℕ → Field ℕ
+  read-due = readDue (sh .longdate) (sh .early) (sh .ahead) today
+
+  abbrev ending : ℕ → ℕ → Counted
+  ending total date = said (group payer total date) (dueWarnings (sh .warnpast) today date) (totalAt at)
+
+  pub total-counted : (r : Counted)
+      → r ≡ (field (readTotal (sh .comma)) at s λ total a1 s1. gap a1 s1 λ a2 s2. field read-due a2 s2 λ date a3 s3. lineEnd a3 s3 (ending total date))
+      → r ≡ counted (totalAndDate sh today payer at s)
+  unfolding totalAndDate counted
+  total-counted r q =
+      q
+      ∙ sym
+      (field-passes counted counted-keeps (readTotal (sh .comma)) at s _ _ λ total a1 s1.
+      gap-passes counted counted-keeps a1 s1 _ _ λ a2 s2.
+      field-passes counted counted-keeps read-due a2 s2 _ _ λ date a3 s3.
+      end-passes counted counted-keeps a3 s3 _ _
+      (ap (λ (n : ℕ). said (group payer total date) n (totalAt at)) (notices-length pastDay a2 (dueWarnings (sh .warnpast) today date))))
 
 pub ruleset payers = (payer-counted, payer-third, payer-always)
 

@@ -2,15 +2,14 @@
 use Prim.Native.Nat.{_^_, _≤_, _<_}
 use mathlib.Core.Path.{_≡_}
 use mathlib.Core.Bool.{Bool}
-use mathlib.Core.List.{[], _∷_}
 use Rattle.paper.specs.Accounts.{Account, isNobody}
-use Rattle.paper.specs.Entries.{group, Said, got, no}
+use Rattle.paper.specs.Entries.{group, totalAt, Listed, Counted, said, no, counted}
 use Rattle.groupline.specs.declared.GroupRead.{GroupRead}
 use Rattle.groupline.specs.declared.GroupRead.the-variants.{Group, Refused}
 
 -- total and due date of a group with this payer, its warnings and its total's place; or the refusal's number and its offset in the line
-abbrev pub told : Account → GroupRead → Said
-told payer (Group single total date warnings spot) = got (group payer total date) warnings (spot ∷ [])
+abbrev pub told : Account → GroupRead → Counted
+told payer (Group single total date warnings spot) = said (group payer total date) warnings (totalAt spot)
 told payer (Refused n at) = no n at
 
 -- t is whether the group is single
@@ -19,9 +18,9 @@ Marked t (Group single total date warnings spot) = single ≡ t
 Marked t (Refused n at) = Unit
 
 -- the line says this of some payer, who is nobody where the group is single
-pub record Tells (x : Said) (r : GroupRead) : Type 0 where
+pub record Tells (x : Listed) (r : GroupRead) : Type 0 where
   pub payer : Account
-  pub says : told payer r ≡ x
+  pub says : told payer r ≡ counted x
   pub single : Marked (isNobody payer) r
 
 -- a total has up to 14 digits, and a line warns once at most

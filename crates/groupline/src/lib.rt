@@ -11,6 +11,7 @@ ghost use lib.Dec.{ltb, leb};
 ghost use lib.ListN.{length, drop};
 ghost use Rattle.paper.specs.Accounts.{Account};
 ghost use Rattle.paper.specs.Days.{realDay};
+ghost use Rattle.paper.specs.Entries.{counted};
 ghost use Rattle.paper.specs.GroupLine.{spaceCount, hasPayer, totalAndDate, readGroup};
 ghost use Rattle.groupline.specs.Spaced.{spaced};
 ghost use Rattle.groupline.specs.Told.{told, Marked, Tells, Low};
@@ -90,7 +91,7 @@ fn has_payer(s: &[u8], always: bool) -> bool
 fn total_and_date(s: &[u8], at: usize, sh: Sheet, today: u64, single: bool) -> GroupRead
     requires { ⌜ realDay today ≡ true ⌝ }
     requires { ⌜ at ≤ length (now s) ⌝ }
-    ensures { λ r. ⌜ ((payer : Account) → told payer r ≡ totalAndDate sh today payer at (drop at (now (s .entry)))) ⌝ }
+    ensures { λ r. ⌜ ((payer : Account) → told payer r ≡ counted (totalAndDate sh today payer at (drop at (now (s .entry))))) ⌝ }
     ensures { λ r. ⌜ Marked single r ⌝ }
     ensures { λ r. ⌜ Low r ⌝ }
 {

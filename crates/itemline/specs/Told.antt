@@ -3,7 +3,7 @@ use Prim.Native.Nat.{ℕ, _≤_}
 use mathlib.Core.List.{List}
 use Rattle.paper.specs.Accounts.{account}
 use Rattle.paper.specs.Batch.{Item, most14}
-use Rattle.paper.specs.Entries.{item, Said, got}
+use Rattle.paper.specs.Entries.{item, Counted, said}
 use Rattle.paper.specs.ItemLine.{partBytes, places}
 use Rattle.text.specs.declared.span.Span.{Span}
 use Rattle.text.specs.declared.span.Spans.{Spans}
@@ -34,8 +34,8 @@ itemAt s f =
     }
 
 -- the item, its warnings and the places of its texts
-abbrev pub told : List ℕ → Fields → Said
-told s f = got (item (itemAt s f)) (f .warnings) (places (textsAt s (f .texts)))
+abbrev pub told : List ℕ → Fields → Counted
+told s f = said (item (itemAt s f)) (f .warnings) (places (textsAt s (f .texts)))
 
 -- its texts lie in the line, its amount has 14 digits at most, and each text and the priority warn once at most
 pub record Sound (s : List ℕ) (f : Fields) : Type 0 where

@@ -2,51 +2,52 @@
 use Prim.Native.Nat.{ℕ, _+_}
 use mathlib.Core.Bool.{Bool}
 use mathlib.Core.List.{List}
+use lib.ListN.{length}
 use Rattle.base.specs.Pick.{pick}
 use Rattle.sheet.specs.declared.Sheet.{Sheet}
 use Rattle.paper.specs.Read.{Field}
 use Rattle.paper.specs.Accounts.{Account, nobody, readAccount}
 use Rattle.paper.specs.Amounts.{readItemAmount}
 use Rattle.paper.specs.BankField.{Bank, readBank}
-use Rattle.paper.specs.Texts.{Texts}
-use Rattle.paper.specs.Entries.{item, Said, got, field, gap}
+use Rattle.paper.specs.Texts.{Noted}
+use Rattle.paper.specs.Entries.{item, Counted, said, field, gap}
 use Rattle.paper.specs.ItemLine.{readSymbol, itemOf, places}
 use Rattle.itemline.specs.tail.Told.{tailOf}
 
 -- a field and the space behind it, before the rest of the walk (k)
-unfoldable pub spaced : {A : Type 0} → (List ℕ → Field A) → ℕ → List ℕ → (A → ℕ → List ℕ → Said) → Said
+unfoldable pub spaced : {A : Type 0} → (List ℕ → Field A) → ℕ → List ℕ → (A → ℕ → List ℕ → Counted) → Counted
 spaced read at s k =
     field read at s λ v a1 s1.
     gap a1 s1 λ a2 s2.
     k v a2 s2
 
 -- bank field, and the tail
-unfoldable pub fromBank : Sheet → (Bank → ℕ → Texts → Said) → ℕ → List ℕ → Said
+unfoldable pub fromBank : Sheet → (Bank → ℕ → Noted → Counted) → ℕ → List ℕ → Counted
 fromBank sh k at s =
     field (readBank (sh .priority)) at s λ bank a1 s1.
     tailOf (sh .text) (sh .fixedtail) (sh .bare) (k bank) a1 s1
 
 -- variable symbol, and what follows
-unfoldable pub fromVariable : Sheet → (ℕ → Bank → ℕ → Texts → Said) → ℕ → List ℕ → Said
+unfoldable pub fromVariable : Sheet → (ℕ → Bank → ℕ → Noted → Counted) → ℕ → List ℕ → Counted
 fromVariable sh k at s = spaced readSymbol at s λ variable a1 s1. fromBank sh (k variable) a1 s1
 
 -- amount, and what follows
-unfoldable pub fromAmount : Sheet → (ℕ → ℕ → Bank → ℕ → Texts → Said) → ℕ → List ℕ → Said
+unfoldable pub fromAmount : Sheet → (ℕ → ℕ → Bank → ℕ → Noted → Counted) → ℕ → List ℕ → Counted
 fromAmount sh k at s = spaced (readItemAmount (sh .comma) (sh .itemdigits) (sh .itemmax)) at s λ amount a1 s1. fromVariable sh (k amount) a1 s1
 
 -- payee, and what follows
-unfoldable pub fromPayee : Sheet → (Account → ℕ → ℕ → Bank → ℕ → Texts → Said) → ℕ → List ℕ → Said
+unfoldable pub fromPayee : Sheet → (Account → ℕ → ℕ → Bank → ℕ → Noted → Counted) → ℕ → List ℕ → Counted
 fromPayee sh k at s = spaced (readAccount (sh .joined) (sh .basemin)) at s λ payee a1 s1. fromAmount sh (k payee) a1 s1
 
 -- the payer, where the group is single, before the rest of the walk (k)
-unfoldable pub payerFirst : Bool → ℕ → Bool → List ℕ → (Account → ℕ → List ℕ → Said) → Said
+unfoldable pub payerFirst : Bool → ℕ → Bool → List ℕ → (Account → ℕ → List ℕ → Counted) → Counted
 payerFirst joined least single s k = pick single (spaced (readAccount joined least) 0 s k) (k nobody 0 s)
 
 -- the whole line
-unfoldable pub walk : Sheet → Bool → (Account → Account → ℕ → ℕ → Bank → ℕ → Texts → Said) → List ℕ → Said
+unfoldable pub walk : Sheet → Bool → (Account → Account → ℕ → ℕ → Bank → ℕ → Noted → Counted) → List ℕ → Counted
 walk sh single k s = payerFirst (sh .joined) (sh .basemin) single s λ payer at rest. fromPayee sh (k payer) at rest
 
--- the item that document 01 makes of the values
-unfoldable pub itemSaid : Account → Account → ℕ → ℕ → Bank → ℕ → Texts → Said
+-- the item that document 01 makes of the values, with its warnings counted
+unfoldable pub itemSaid : Account → Account → ℕ → ℕ → Bank → ℕ → Noted → Counted
 itemSaid payer payee amount variable bank specific texts =
-    got (item (itemOf payer payee amount variable specific bank texts)) (bank .warnings + texts .warnings) (places texts)
+    said (item (itemOf payer payee amount variable specific bank texts)) (bank .warnings + length (texts .warnings)) (places texts)

@@ -9,7 +9,7 @@ ghost use mathlib.Core.Path.{_≡_};
 ghost use mathlib.Core.List.{List};
 ghost use Prim.Native.Nat.{ℕ, _+_, _≤_};
 ghost use lib.ListN.{length, drop};
-ghost use Rattle.paper.specs.Entries.{Said};
+ghost use Rattle.paper.specs.Entries.{Counted, counted};
 ghost use Rattle.paper.specs.ItemLine.{readItem};
 ghost use Rattle.itemline.specs.tail.Told.{tailOf};
 ghost use Rattle.itemline.specs.Walk.{fromBank, fromVariable, fromAmount, payerFirst};
@@ -115,7 +115,7 @@ fn from_amount(s: &[u8], at: usize, sh: Sheet) -> Judged
 
 // The payer, where the group is single, and the space behind.
 fn payer_first(s: &[u8], joined: bool, least: usize, single: bool) -> PayeeFrom
-    ensures { λ r. ⌜ ((k : ℕ → List ℕ → Said) → toldFrom (now (s .entry)) r k ≡ payerFirst joined least single (now (s .entry)) (anyPayer k)) ⌝ }
+    ensures { λ r. ⌜ ((k : ℕ → List ℕ → Counted) → toldFrom (now (s .entry)) r k ≡ payerFirst joined least single (now (s .entry)) (anyPayer k)) ⌝ }
     ensures { λ r. ⌜ InsideFrom (now (s .entry)) r ⌝ }
 {
     if single {
@@ -136,7 +136,7 @@ fn payer_first(s: &[u8], joined: bool, least: usize, single: bool) -> PayeeFrom
 // The whole line; the payer's account comes first where the group is single.
 pub fn judge_item(s: &[u8], sh: Sheet, single: bool) -> Judged
     requires { ⌜ (sh .text .most ≤ 4) × (sh .itemdigits ≤ 19) ⌝ }
-    ensures { λ r. ⌜ told r ≡ brief (readItem sh single (now (s .entry))) ⌝ }
+    ensures { λ r. ⌜ told r ≡ brief (counted (readItem sh single (now (s .entry)))) ⌝ }
 {
     match payer_first(s, sh.joined, sh.basemin, single) {
         PayeeFrom::Refused(n, place) => Judged::Refused(n, place),

@@ -4,8 +4,8 @@ ghost use mathlib.Core.Path.{_≡_};
 ghost use Prim.Native.Nat.{ℕ, _≤_};
 ghost use lib.ListN.{length, drop};
 ghost use Rattle.sheet.specs.declared.Style.{Style};
-ghost use Rattle.paper.specs.Texts.{Texts};
-ghost use Rattle.paper.specs.Entries.{Said};
+ghost use Rattle.paper.specs.Texts.{Noted};
+ghost use Rattle.paper.specs.Entries.{Counted};
 ghost use Rattle.paper.specs.ItemLine.{fixedTail, openTail};
 ghost use Rattle.itemline.specs.tail.Told.{told, Inside, tailOf};
 
@@ -20,7 +20,7 @@ pub enum TailRead {
 // A space, a symbol or none, a space, and a text that may be empty.
 fn fixed_tail(s: &[u8], at: usize) -> TailRead
     requires { ⌜ at ≤ length (now s) ⌝ }
-    ensures { λ r. ⌜ ((y : Style) (k : ℕ → Texts → Said) → told y (now (s .entry)) r k ≡ fixedTail y k at (drop at (now (s .entry)))) ⌝ }
+    ensures { λ r. ⌜ ((y : Style) (k : ℕ → Noted → Counted) → told y (now (s .entry)) r k ≡ fixedTail y k at (drop at (now (s .entry)))) ⌝ }
     ensures { λ r. ⌜ Inside (now (s .entry)) r ⌝ }
 {
     if s.len() <= at {
@@ -41,7 +41,7 @@ fn fixed_tail(s: &[u8], at: usize) -> TailRead
 // Nothing; a space and a symbol; these, a space and a text; or, if `bare`, a space and a text, where what follows the space is no symbol.
 fn open_tail(s: &[u8], at: usize, bare: bool) -> TailRead
     requires { ⌜ at ≤ length (now s) ⌝ }
-    ensures { λ r. ⌜ ((y : Style) (k : ℕ → Texts → Said) → told y (now (s .entry)) r k ≡ openTail y k bare at (drop at (now (s .entry)))) ⌝ }
+    ensures { λ r. ⌜ ((y : Style) (k : ℕ → Noted → Counted) → told y (now (s .entry)) r k ≡ openTail y k bare at (drop at (now (s .entry)))) ⌝ }
     ensures { λ r. ⌜ Inside (now (s .entry)) r ⌝ }
 {
     if s.len() <= at {
@@ -67,7 +67,7 @@ fn open_tail(s: &[u8], at: usize, bare: bool) -> TailRead
 // The tail that begins at `at`. Its text is left to be read.
 pub fn read_tail(s: &[u8], at: usize, fixed: bool, bare: bool) -> TailRead
     requires { ⌜ at ≤ length (now s) ⌝ }
-    ensures { λ r. ⌜ ((y : Style) (k : ℕ → Texts → Said) → told y (now (s .entry)) r k ≡ tailOf y fixed bare k at (drop at (now (s .entry)))) ⌝ }
+    ensures { λ r. ⌜ ((y : Style) (k : ℕ → Noted → Counted) → told y (now (s .entry)) r k ≡ tailOf y fixed bare k at (drop at (now (s .entry)))) ⌝ }
     ensures { λ r. ⌜ Inside (now (s .entry)) r ⌝ }
 {
     if fixed {

@@ -25,13 +25,14 @@ ghost use Rattle.paper.specs.Accounts as paper;
 ghost use Rattle.paper.specs.Accounts.{readAccount};
 ghost use Rattle.paper.specs.Amounts.{readItemAmount};
 ghost use Rattle.paper.specs.Batch.{most14};
-ghost use Rattle.paper.specs.Entries.{Said};
+ghost use Rattle.paper.specs.Entries.{Counted, counted};
 ghost use Rattle.paper.specs.ItemLine.{isValue, readItem};
 ghost use Rattle.paper.specs.Read.{value};
 ghost use Rattle.paper.specs.Texts.{others, message, readText};
 ghost use Rattle.text.specs.span.Held.{textsAt, Held};
 ghost use Rattle.text.specs.span.Places.{partAt, fourFrom};
 ghost use Rattle.text.specs.division.Unnamed.{unnamed};
+ghost use Rattle.text.specs.Told.{countText};
 ghost use Rattle.itemline.specs.tail.Told.{tailOf};
 ghost use Rattle.itemline.specs.Told.{noSpans, told, Sound};
 ghost use Rattle.itemline.specs.Walk.{fromBank, fromVariable, fromAmount, fromPayee, payerFirst, itemSaid};
@@ -163,7 +164,7 @@ fn take_message(y: Style, s: &[u8], from: usize) -> Spans
     requires { ⌜ y .most ≤ 4 ⌝ }
     requires { ⌜ from ≤ length (now s) ⌝ }
     requires { ⌜ isValue (message y from (drop from (now s))) ≡ true ⌝ }
-    ensures { λ r. ⌜ value (textsAt (now (s .entry)) r) ≡ message y from (drop from (now (s .entry))) ⌝ }
+    ensures { λ r. ⌜ value (textsAt (now (s .entry)) r) ≡ countText (message y from (drop from (now (s .entry)))) ⌝ }
     ensures { λ r. ⌜ Held (now (s .entry)) r ⌝ }
 {
     let names = y.names;
@@ -178,7 +179,7 @@ fn take_varied(y: Style, s: &[u8], from: usize) -> Spans
     requires { ⌜ y .most ≤ 4 ⌝ }
     requires { ⌜ from ≤ length (now s) ⌝ }
     requires { ⌜ isValue (readText y from (drop from (now s))) ≡ true ⌝ }
-    ensures { λ r. ⌜ value (textsAt (now (s .entry)) r) ≡ readText y from (drop from (now (s .entry))) ⌝ }
+    ensures { λ r. ⌜ value (textsAt (now (s .entry)) r) ≡ countText (readText y from (drop from (now (s .entry)))) ⌝ }
     ensures { λ r. ⌜ Held (now (s .entry)) r ⌝ }
 {
     match begin_text(y, s, from) {
@@ -193,7 +194,7 @@ fn take_text(y: Style, s: &[u8], from: usize) -> Spans
     requires { ⌜ y .most ≤ 4 ⌝ }
     requires { ⌜ from ≤ length (now s) ⌝ }
     requires { ⌜ isValue (readText y from (drop from (now s))) ≡ true ⌝ }
-    ensures { λ r. ⌜ value (textsAt (now (s .entry)) r) ≡ readText y from (drop from (now (s .entry))) ⌝ }
+    ensures { λ r. ⌜ value (textsAt (now (s .entry)) r) ≡ countText (readText y from (drop from (now (s .entry)))) ⌝ }
     ensures { λ r. ⌜ Held (now (s .entry)) r ⌝ }
 {
     if varied(y) {
@@ -343,7 +344,7 @@ fn from_payee(s: &[u8], at: usize, sh: Sheet, payer: Account) -> Fields
 // The payer, where the group is single, and where the payee begins.
 fn take_payer(s: &[u8], joined: bool, least: usize, single: bool) -> Account
     requires { ⌜ (single ≡ true → There (readAccount joined least) (now s) 0) ⌝ }
-    ensures { λ r. ⌜ ((k : paper.Account → ℕ → List ℕ → Said) → k (taken r) (r .end) (drop (r .end) (now (s .entry))) ≡ payerFirst joined least single (now (s .entry)) k) ⌝ }
+    ensures { λ r. ⌜ ((k : paper.Account → ℕ → List ℕ → Counted) → k (taken r) (r .end) (drop (r .end) (now (s .entry))) ≡ payerFirst joined least single (now (s .entry)) k) ⌝ }
 {
     if single {
         let payer = account::at::take_account(s, 0, joined, least);
@@ -364,7 +365,7 @@ fn take_payer(s: &[u8], joined: bool, least: usize, single: bool) -> Account
 pub fn take_item(s: &[u8], sh: Sheet, single: bool) -> Fields
     requires { ⌜ (sh .text .most ≤ 4) × (sh .itemdigits ≤ 19) × (sh .itemmax ≤ most14) ⌝ }
     requires { ⌜ isSaid (readItem sh single (now s)) ≡ true ⌝ }
-    ensures { λ r. ⌜ told (now (s .entry)) r ≡ readItem sh single (now (s .entry)) ⌝ }
+    ensures { λ r. ⌜ told (now (s .entry)) r ≡ counted (readItem sh single (now (s .entry))) ⌝ }
     ensures { λ r. ⌜ Sound (now (s .entry)) r ⌝ }
 {
     let payer = take_payer(s, sh.joined, sh.basemin, single);

@@ -1,5 +1,6 @@
-pub mod Lists
 pub mod LineSays
+pub mod Lists
+pub mod Passing
 pub mod Starts
 pub mod Trees
 pub mod Verdicts

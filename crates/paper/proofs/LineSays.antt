@@ -2,7 +2,7 @@
 -- through the readers of lines: what other crates say of lines follows from it, case by case. Assumes nothing.
 use mathlib.Core.Path.{_≡_, refl, sym, ap, _∙_}
 use mathlib.Core.Bool.{Bool, true, false}
-use mathlib.Core.List.{List, [], _∷_}
+use mathlib.Core.List.{List, [], _∷_, _++_}
 use Prim.Native.Nat.{ℕ, suc, _+_, _≤_}
 use native.Mathlib.Omega.{arith}
 use lib.Dec.{ltb}
@@ -16,15 +16,16 @@ use Rattle.base.proofs.Seek.{seek-le}
 use Rattle.sheet.specs.declared.Sheet.{Sheet}
 use Rattle.sheet.specs.declared.Style.{Style}
 use Rattle.paper.specs.Read.{Field, value, fault}
+use Rattle.paper.specs.Warnings.{Notice, pastDay, lowPriority, notices}
 use Rattle.paper.specs.Bytes.{space, fieldOf, restOf}
 use Rattle.paper.specs.Numerals.{digits}
 use Rattle.paper.specs.Days.{shortDay, readDue, dueWarnings}
 use Rattle.paper.specs.Accounts.{Account, nobody, readAccount, readPayer}
 use Rattle.paper.specs.Amounts.{readTotal, readItemAmount}
 use Rattle.paper.specs.BankField.{Bank, readBank}
-use Rattle.paper.specs.Texts.{Texts, readText}
+use Rattle.paper.specs.Texts.{Noted, readText}
 use Rattle.paper.specs.Batch.{noHeader}
-use Rattle.paper.specs.Entries.{Entry, head, file, group, item, closeGroup, closeFile, Said, got, no, Kind, headLine, fileLine, groupLine, itemLine, groupEnd, fileEnd, onField, field, place, gap, lineEnd}
+use Rattle.paper.specs.Entries.{Entry, head, file, group, item, closeGroup, closeFile, Places, totalAt, Listed, said, plain, no, Kind, headLine, fileLine, groupLine, itemLine, groupEnd, fileEnd, onField, field, place, gap, lineEnd}
 use Rattle.paper.specs.FirstLine.{textField, readTo, readRest, readFirst}
 use Rattle.paper.specs.FileLine.{readKind, readNumber, readCode, readFile}
 use Rattle.paper.specs.GroupLine.{totalAndDate, readGroup}
@@ -73,37 +74,37 @@ pub data Symbol : ℕ → Type 0 where
   a-symbol : {v : ℕ} → Read readSymbol v → Symbol v
   or-none : {v : ℕ} → Read readSymbolOrNone v → Symbol v
 
-pub data Text (y : Style) (w : List ℕ) : Texts → Type 0 where
+pub data Text (y : Style) (w : List ℕ) : Noted → Type 0 where
   no-text : Text y w noTexts
-  a-text : (at : ℕ) {t : Texts} → readText y at (drop at w) ≡ value t → Text y w t
+  a-text : (at : ℕ) {t : Noted} → readText y at (drop at w) ≡ value t → Text y w t
 
 -- What the line w says where it is read as of a kind. A refusal's offset lies in the line, if that is as long as its kind asks for, and so
 -- does that of a group's total.
-pub data LineSays (sh : Sheet) (today : ℕ) (test : ℕ → ℕ) (single : Bool) (w : List ℕ) : Kind → Said → Type 0 where
-  no-header : sh .header ≡ false → LineSays sh today test single w headLine (got (head noHeader) 0 [])
+pub data LineSays (sh : Sheet) (today : ℕ) (test : ℕ → ℕ) (single : Bool) (w : List ℕ) : Kind → Listed → Type 0 where
+  no-header : sh .header ≡ false → LineSays sh today test single w headLine (plain (head noHeader))
   a-header : {date client from to : ℕ} {name : List ℕ} → sh .header ≡ true → Read shortDay date → (t : Read textField name) → length (t .0) ≡ 20
       → Read (digits 10 10) client → Read (digits 3 3) from → Read (readTo (sh .interval) from) to
-      → LineSays sh today test single w headLine (got (head (record { date = date; name = name; client = client; from = from; to = to })) 0 [])
+      → LineSays sh today test single w headLine (plain (head (record { date = date; name = name; client = client; from = from; to = to })))
   a-file : {kind number code : ℕ} (k : Read (readKind sh) kind) (n : Read (readNumber test) number) → Read (readCode sh) code
-      → length (k .0) + length (n .0) ≤ length (drop 2 w) → LineSays sh today test single w fileLine (got (file kind number) 0 [])
-  a-group : {named : Bool} {payer : Account} {total date at : ℕ}
+      → length (k .0) + length (n .0) ≤ length (drop 2 w) → LineSays sh today test single w fileLine (plain (file kind number))
+  a-group : {named : Bool} {payer : Account} {total date at : ℕ} (due : ℕ)
       → Payer (readPayer (sh .emptypayer) (sh .zeropayer) (sh .joined) (sh .basemin)) named payer → Read (readTotal (sh .comma)) total
       → (d : Read (readDue (sh .longdate) (sh .early) (sh .ahead) today) date) → suc (length (d .0)) ≤ length (drop 2 w) → (2 ≤ length w → at ≤ length w)
-      → LineSays sh today test single w groupLine (got (group payer total date) (dueWarnings (sh .warnpast) today date) (at ∷ []))
-  an-item : {payer payee : Account} {amount variable specific : ℕ} {bank : Bank} {texts : Texts}
+      → LineSays sh today test single w groupLine (said (group payer total date) (notices pastDay due (dueWarnings (sh .warnpast) today date)) (totalAt at))
+  an-item : {payer payee : Account} {amount variable specific : ℕ} {bank : Bank} {texts : Noted} (at : ℕ)
       → Payer (readAccount (sh .joined) (sh .basemin)) single payer → Read (readAccount (sh .joined) (sh .basemin)) payee
       → Read (readItemAmount (sh .comma) (sh .itemdigits) (sh .itemmax)) amount → Read readSymbol variable
       → (b : Read (readBank (sh .priority)) bank) → length (b .0) ≤ length w → Symbol specific → Text (sh .text) w texts
       → LineSays sh today test single w itemLine
-      (got (item (itemOf payer payee amount variable specific bank texts)) (bank .warnings + texts .warnings) (places texts))
-  a-group-end : LineSays sh today test single w groupEnd (got closeGroup 0 [])
-  a-file-end : LineSays sh today test single w fileEnd (got closeFile 0 [])
+      (said (item (itemOf payer payee amount variable specific bank texts)) (notices lowPriority at (bank .warnings) ++ texts .warnings) (places texts))
+  a-group-end : LineSays sh today test single w groupEnd (plain closeGroup)
+  a-file-end : LineSays sh today test single w fileEnd (plain closeFile)
   refused : {kind : Kind} {n off : ℕ} → Blamed sh today test n → (least kind ≤ length w → off ≤ length w) → LineSays sh today test single w kind (no n off)
 
 -- ---- fields from left to right
 
 module _ (sh : Sheet) (today : ℕ) (test : ℕ → ℕ) (single : Bool) (w : List ℕ) where
-  abbrev Line : Kind → Said → Type 0
+  abbrev Line : Kind → Listed → Type 0
   Line = LineSays sh today test single w
 
   abbrev Why : ℕ → Type 0
@@ -121,13 +122,13 @@ module _ (sh : Sheet) (today : ℕ) (test : ℕ → ℕ) (single : Bool) (w : Li
     left-on : (at : ℕ) (s : List ℕ) (n : ℕ) → n ≤ length s → Left at s → Left (at + n) (drop n s)
     left-on at s n h l = (sym (drop-drop n at w) ∙ ap (drop n) (l .0), λ k. omega (arith, l .1 k, ap length (l .0), length-drop at w))
 
-    on : {A : Type 0} (at : ℕ) (x : Field A) {k : A → Said} → In at → ((n : ℕ) → x ≡ fault n → Why n) → ((v : A) → x ≡ value v → Line kind (k v))
+    on : {A : Type 0} (at : ℕ) (x : Field A) {k : A → Listed} → In at → ((n : ℕ) → x ≡ fault n → Why n) → ((v : A) → x ≡ value v → Line kind (k v))
         → Line kind (onField at x k)
     unfolding onField
     on at (value v) l b h = h v refl
     on at (fault n) l b h = refused (b n refl) l
 
-    fields : {A : Type 0} (read : List ℕ → Field A) (at : ℕ) (s : List ℕ) {k : A → ℕ → List ℕ → Said} → Left at s → ((n : ℕ) → Refuses read n → Why n)
+    fields : {A : Type 0} (read : List ℕ → Field A) (at : ℕ) (s : List ℕ) {k : A → ℕ → List ℕ → Listed} → Left at s → ((n : ℕ) → Refuses read n → Why n)
         → ((v : A) (a : ℕ) (r : List ℕ) (f : Read read v) → length (f .0) + length r ≡ length s → Left a r → Line kind (k v a r)) → Line kind (field read at s k)
     unfolding field
     fields read at s l b h =
@@ -135,7 +136,7 @@ module _ (sh : Sheet) (today : ℕ) (test : ℕ → ℕ) (single : Bool) (w : Li
         λ v e. h v (at + seek space s) (restOf s) (fieldOf s, e) (omega (arith, length-take (seek space s) s, length-drop (seek space s) s))
         (left-on at s (seek space s) (seek-le space s) l)
 
-    spots : {A : Type 0} (n : ℕ) (read : List ℕ → Field A) (at : ℕ) (s : List ℕ) {k : A → ℕ → List ℕ → Said} → Left at s → ((m : ℕ) → Refuses read m → Why m)
+    spots : {A : Type 0} (n : ℕ) (read : List ℕ → Field A) (at : ℕ) (s : List ℕ) {k : A → ℕ → List ℕ → Listed} → Left at s → ((m : ℕ) → Refuses read m → Why m)
         → ((v : A) (a : ℕ) (r : List ℕ) (f : Read read v) → length (f .0) ≡ n → Left a r → Line kind (k v a r)) → Line kind (place n read at s k)
     unfolding place
     spots n read at s l b h =
@@ -144,22 +145,22 @@ module _ (sh : Sheet) (today : ℕ) (test : ℕ → ℕ) (single : Bool) (w : Li
         on at (read (take n s)) (l .1) (λ m e. b m (take n s, e))
         λ v e. h v (at + n) (drop n s) (take n s, e) (length-take-le n s long) (left-on at s n long l)
 
-    gaps : (at : ℕ) (s : List ℕ) {k : ℕ → List ℕ → Said} → Left at s → ((a : ℕ) (r : List ℕ) → length s ≡ suc (length r) → Left a r → Line kind (k a r)) → Line kind (gap at s k)
+    gaps : (at : ℕ) (s : List ℕ) {k : ℕ → List ℕ → Listed} → Left at s → ((a : ℕ) (r : List ℕ) → length s ≡ suc (length r) → Left a r → Line kind (k a r)) → Line kind (gap at s k)
     unfolding gap
     gaps at [] l h = refused form (l .1)
     gaps at (x ∷ s) l h = h (at + 1) s refl (left-on at (x ∷ s) 1 (omega arith) l)
 
-    ends : (at : ℕ) (s : List ℕ) {r : Said} → Left at s → Line kind r → Line kind (lineEnd at s r)
+    ends : (at : ℕ) (s : List ℕ) {r : Listed} → Left at s → Line kind r → Line kind (lineEnd at s r)
     unfolding lineEnd
     ends at [] l h = h
     ends at (x ∷ s) l h = refused form (l .1)
 
-    plus : (e : Entry) → Line kind (got e 0 []) → (at : ℕ) (s : List ℕ) → Left at s → Line kind (plusAt e at s)
+    plus : (e : Entry) → Line kind (plain e) → (at : ℕ) (s : List ℕ) → Left at s → Line kind (plusAt e at s)
     unfolding plusAt
     plus e h at [] l = refused form (l .1)
     plus e h at (x ∷ s) l = either (Line kind) _ (λ _. ends (at + 1) s (left-on at (x ∷ s) 1 (omega arith) l) h) (λ _. refused form (l .1))
 
-    closes : (near : Bool) (e : Entry) → In 2 → Line kind (got e 0 []) → Line kind (readClose near e w)
+    closes : (near : Bool) (e : Entry) → In 2 → Line kind (plain e) → Line kind (readClose near e w)
     unfolding readClose
     closes near e long h =
         either (Line kind) _ (λ _. plus e h 2 (drop 2 w) (refl, long))
@@ -198,7 +199,7 @@ module _ (sh : Sheet) (today : ℕ) (test : ℕ → ℕ) (single : Bool) (w : Li
       fields groupLine (readTotal (sh .comma)) at s l (λ n. by-total) λ total a1 s1 f1 n1 l1.
       gaps groupLine a1 s1 l1 λ a2 s2 n2 l2.
       fields groupLine (readDue (sh .longdate) (sh .early) (sh .ahead) today) a2 s2 l2 (λ n. by-due) λ date a3 s3 f3 n3 l3.
-      ends groupLine a3 s3 l3 (a-group p f1 f3 (omega arith) (l .1))
+      ends groupLine a3 s3 l3 (a-group a2 p f1 f3 (omega arith) (l .1))
 
   pub group-says : Line groupLine (readGroup sh today w)
   unfolding readGroup
@@ -211,7 +212,7 @@ module _ (sh : Sheet) (today : ℕ) (test : ℕ → ℕ) (single : Bool) (w : Li
       (λ _. total-says lacks 2 (drop 2 w) (refl, λ k. k) (omega arith))
 
   -- the tail of an item, whose reading k goes on with
-  module _ {k : ℕ → Texts → Said} (h : (n : ℕ) (t : Texts) → Symbol n → Text (sh .text) w t → Line itemLine (k n t)) where
+  module _ {k : ℕ → Noted → Listed} (h : (n : ℕ) (t : Noted) → Symbol n → Text (sh .text) w t → Line itemLine (k n t)) where
     text-says : (specific : ℕ) → Symbol specific → (at : ℕ) (s : List ℕ) → Left itemLine at s → Line itemLine (onField at (readText (sh .text) at s) (k specific))
     text-says specific q at s l =
         on itemLine at (readText (sh .text) at s) (l .1) (λ n e. by-text at (s, e)) λ t e. h specific t q (a-text at (rw (l .0) e))
@@ -239,8 +240,8 @@ module _ (sh : Sheet) (today : ℕ) (test : ℕ → ℕ) (single : Bool) (w : Li
         either (Line itemLine) _ (λ _. text-says 0 no-symbol (at + 1) s (behind x at s l))
         (λ _. fields itemLine readSymbol (at + 1) s (behind x at s l) (λ n. by-digits 1 10) λ specific a1 s1 f n1 l1. after-says specific (a-symbol f) a1 s1 l1)
 
-  tail-says : (at : ℕ) (s : List ℕ) {k : ℕ → Texts → Said} → Left itemLine at s
-      → ((n : ℕ) (t : Texts) → Symbol n → Text (sh .text) w t → Line itemLine (k n t)) → Line itemLine (tail sh at s k)
+  tail-says : (at : ℕ) (s : List ℕ) {k : ℕ → Noted → Listed} → Left itemLine at s
+      → ((n : ℕ) (t : Noted) → Symbol n → Text (sh .text) w t → Line itemLine (k n t)) → Line itemLine (tail sh at s k)
   unfolding tail
   tail-says at s l h = either (Line itemLine) (sh .fixedtail) (λ _. fixed-says h at s l) (λ _. open-says h (sh .bare) at s l)
 
@@ -256,7 +257,7 @@ module _ (sh : Sheet) (today : ℕ) (test : ℕ → ℕ) (single : Bool) (w : Li
       gaps itemLine a5 s5 l5 λ a6 s6 n6 l6.
       fields itemLine (readBank (sh .priority)) a6 s6 l6 (λ n. by-bank) λ bank a7 s7 f7 n7 l7.
       tail-says a7 s7 l7 λ specific texts q t.
-      an-item p f1 f3 f5 f7 (omega (arith, ap length (l6 .0), length-drop a6 w)) q t
+      an-item a6 p f1 f3 f5 f7 (omega (arith, ap length (l6 .0), length-drop a6 w)) q t
 
   pub group-end-says : Line groupEnd (readClose (sh .near) closeGroup w)
   group-end-says = closes groupEnd (sh .near) closeGroup (λ k. k) a-group-end
@@ -290,5 +291,5 @@ module _ {sh : Sheet} {today : ℕ} {test : ℕ → ℕ} {single : Bool} {w : Li
   pub refusal-in : {kind : Kind} {n off : ℕ} → LineSays sh today test single w kind (no n off) → least kind ≤ length w → off ≤ length w
   refusal-in (refused _ l) h = l h
 
-  pub total-in : {kind : Kind} {a : Account} {t d v q : ℕ} {p : List ℕ} → LineSays sh today test single w kind (got (group a t d) v (q ∷ p)) → 2 ≤ length w → q ≤ length w
-  total-in (a-group _ _ _ _ l) h = l h
+  pub total-in : {kind : Kind} {a : Account} {t d : ℕ} {v : List Notice} {q : Places} → LineSays sh today test single w kind (said (group a t d) v q) → 2 ≤ length w → q .total ≤ length w
+  total-in (a-group _ _ _ _ _ l) h = l h

@@ -1,6 +1,6 @@
 -- Empty lists told by their length, and lists that are kept last one first. Assumes nothing.
-use mathlib.Core.Path.{_≡_, refl}
-use mathlib.Core.Bool.{false}
+use mathlib.Core.Path.{_≡_, refl, sym}
+use mathlib.Core.Bool.{true, false}
 use mathlib.Core.List.{List, [], _∷_}
 use Prim.Native.Nat.{suc, _+_, _≤_}
 use native.Mathlib.Omega.{arith}
@@ -20,6 +20,11 @@ pub empty-null : {A : Type 0} (a : List A) → eqb (length a) 0 ≡ null a
 unfolding null
 empty-null [] = refl
 empty-null (x ∷ a) = ne-eqb (suc (length a)) 0 (λ e. absurd (omega arith))
+
+pub null-none : {A : Type 0} (a : List A) → null a ≡ true → a ≡ []
+unfolding null
+null-none [] e = refl
+null-none (x ∷ a) e = never (sym e)
 
 pub null-some : {A : Type 0} (a : List A) → null a ≡ false → 1 ≤ length a
 unfolding null

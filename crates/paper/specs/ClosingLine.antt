@@ -7,15 +7,15 @@ use lib.ListN.{drop}
 use Rattle.base.specs.Pick.{pick}
 use Rattle.base.specs.Seek.{starts}
 use Rattle.paper.specs.Bytes.{space}
-use Rattle.paper.specs.Entries.{Entry, Said, got, no, lineEnd}
+use Rattle.paper.specs.Entries.{Entry, Listed, plain, no, lineEnd}
 
 -- a plus and nothing more: 4 at the first wrong byte
-unfoldable pub plusAt : Entry → ℕ → List ℕ → Said
+unfoldable pub plusAt : Entry → ℕ → List ℕ → Listed
 plusAt e at [] = no 4 at
-plusAt e at (x ∷ s) = pick (eqb x 43) (lineEnd (at + 1) s (got e 0 [])) (no 4 at)
+plusAt e at (x ∷ s) = pick (eqb x 43) (lineEnd (at + 1) s (plain e)) (no 4 at)
 
 -- behind the line's first byte: a space and a plus; on C and E (`near`) also a plus at once
-unfoldable pub readClose : Bool → Entry → List ℕ → Said
+unfoldable pub readClose : Bool → Entry → List ℕ → Listed
 readClose near e s = pick (starts space (drop 1 s)) (plusAt e 2 (drop 2 s)) (pick near (plusAt e 1 (drop 1 s)) (no 4 1))
 
 -- "Canonical spelling": trailers with a space

@@ -7,6 +7,7 @@ use lib.ListN.{length, take, drop}
 use Rattle.base.specs.Pick.{pick}
 use Rattle.base.specs.Seek.{starts, seek}
 use Rattle.paper.specs.Read.{Field, value, fault}
+use Rattle.paper.specs.Warnings.{Notice}
 use Rattle.paper.specs.Bytes.{bytes, space, fieldOf, restOf}
 use Rattle.paper.specs.Accounts.{Account}
 use Rattle.paper.specs.Batch.{Item, Header}
@@ -21,11 +22,94 @@ pub data Entry : Type 0 where
   closeGroup : Entry
   closeFile : Entry
 
--- The entry, how many warnings the line gives, and where in the line things begin that the answer has to place: a group's total; an
--- item's four parts and name. Or the number of the refusal and its offset in the line.
-pub data Said : Type 0 where
-  got : Entry → ℕ → List ℕ → Said
-  no : ℕ → ℕ → Said
+-- an entry that is what it is expected to be goes on (k), or closes (c); any other answers z
+module _ {A : Type 0} where
+  -- a header
+  unfoldable pub onHead : Entry → (Header → A) → A → A
+  onHead (head h) k z = k h
+  onHead (file n m) k z = z
+  onHead (group p t d) k z = z
+  onHead (item x) k z = z
+  onHead closeGroup k z = z
+  onHead closeFile k z = z
+
+  -- an account file's kind and number
+  unfoldable pub onFile : Entry → (ℕ → ℕ → A) → A → A
+  onFile (head h) k z = z
+  onFile (file n m) k z = k n m
+  onFile (group p t d) k z = z
+  onFile (item x) k z = z
+  onFile closeGroup k z = z
+  onFile closeFile k z = z
+
+  -- a group's payer, total and date, or the account file's end (c)
+  unfoldable pub onGroup : Entry → (Account → ℕ → ℕ → A) → A → A → A
+  onGroup (head h) k c z = z
+  onGroup (file n m) k c z = z
+  onGroup (group p t d) k c z = k p t d
+  onGroup (item x) k c z = z
+  onGroup closeGroup k c z = z
+  onGroup closeFile k c z = c
+
+  -- an item, or the group's end (c)
+  unfoldable pub onItem : Entry → (Item → A) → A → A → A
+  onItem (head h) k c z = z
+  onItem (file n m) k c z = z
+  onItem (group p t d) k c z = z
+  onItem (item x) k c z = k x
+  onItem closeGroup k c z = c
+  onItem closeFile k c z = z
+
+-- Where in the line things begin that the answer has to place: a group's total; an item's four parts and its name. What a line does not
+-- have is at 0.
+pub record Places : Type 0 where
+  pub total : ℕ
+  pub parts : List ℕ
+  pub name : ℕ
+
+-- a line with nothing to place
+abbrev pub nowhere : Places
+nowhere = record { total = 0; parts = []; name = 0 }
+
+-- a group's line
+abbrev pub totalAt : ℕ → Places
+totalAt at = record { total = at; parts = []; name = 0 }
+
+-- What a line says: its entry, what it warns of, and these places. Warnings are a list, from left to right, or their count.
+pub record Saying (W : Type 0) : Type 0 where
+  pub entry : Entry
+  pub warnings : W
+  pub places : Places
+
+-- these three
+abbrev pub saying : {W : Type 0} → Entry → W → Places → Saying W
+saying e w p = record { entry = e; warnings = w; places = p }
+
+-- a line that was read as something; or the number of the refusal and its offset in the line
+pub data Said (A : Type 0) : Type 0 where
+  got : A → Said A
+  no : ℕ → ℕ → Said A
+
+-- what a line says with its warnings listed
+abbrev pub Listed : Type 0
+Listed = Said (Saying (List Notice))
+
+-- .. with its warnings counted
+abbrev pub Counted : Type 0
+Counted = Said (Saying ℕ)
+
+-- the line says these three
+abbrev pub said : {W : Type 0} → Entry → W → Places → Said (Saying W)
+said e w p = got (saying e w p)
+
+-- a line that warns of nothing, with nothing to place
+abbrev pub plain : Entry → Listed
+plain e = said e [] nowhere
+
+-- "Warnings are counted": how many there are is the list's length
+unfoldable pub counted : Listed → Counted
+counted (got x) = said (x .entry) (length (x .warnings)) (x .places)
+counted (no n off) = no n off
 
 -- ---- a line is known by its start
 
@@ -46,28 +130,28 @@ kindOf s =
 -- ---- fields from left to right: `at` is the offset in the line, s the rest of the line from there
 
 -- a field that was read goes on, one that was not is refused at its start
-unfoldable pub onField : {A : Type 0} → ℕ → Field A → (A → Said) → Said
+unfoldable pub onField : {A B : Type 0} → ℕ → Field A → (A → Said B) → Said B
 onField at (value v) k = k v
 onField at (fault n) k = no n at
 
 -- a field that runs to the next space or the line's end
-unfoldable pub field : {A : Type 0} → (List ℕ → Field A) → ℕ → List ℕ → (A → ℕ → List ℕ → Said) → Said
+unfoldable pub field : {A B : Type 0} → (List ℕ → Field A) → ℕ → List ℕ → (A → ℕ → List ℕ → Said B) → Said B
 field read at s k = onField at (read (fieldOf s)) λ v. k v (at + seek space s) (restOf s)
 
 -- a field of n bytes, by place; a line that ends before or inside it is refused at the field's start
-unfoldable pub place : {A : Type 0} → ℕ → (List ℕ → Field A) → ℕ → List ℕ → (A → ℕ → List ℕ → Said) → Said
+unfoldable pub place : {A B : Type 0} → ℕ → (List ℕ → Field A) → ℕ → List ℕ → (A → ℕ → List ℕ → Said B) → Said B
 place n read at s k = pick (ltb (length s) n) (no 4 at) (onField at (read (take n s)) λ v. k v (at + n) (drop n s))
 
 -- the rest of the line, whole
-abbrev pub toEnd : {A : Type 0} → (List ℕ → Field A) → ℕ → List ℕ → (A → Said) → Said
+abbrev pub toEnd : {A B : Type 0} → (List ℕ → Field A) → ℕ → List ℕ → (A → Said B) → Said B
 toEnd read at s k = onField at (read s) k
 
 -- the space that divides two fields; a missing one is 4 at the line's end (what a field leaves of its line is nothing, or begins with a space)
-unfoldable pub gap : ℕ → List ℕ → (ℕ → List ℕ → Said) → Said
+unfoldable pub gap : {B : Type 0} → ℕ → List ℕ → (ℕ → List ℕ → Said B) → Said B
 gap at [] k = no 4 at
 gap at (x ∷ s) k = k (at + 1) s
 
 -- nothing follows; a divider too many is 4 at itself
-unfoldable pub lineEnd : ℕ → List ℕ → Said → Said
+unfoldable pub lineEnd : {B : Type 0} → ℕ → List ℕ → Said B → Said B
 lineEnd at [] r = r
 lineEnd at (x ∷ s) r = no 4 at

@@ -10,7 +10,7 @@ use Rattle.sheet.specs.Sheets.{kindAllowed, bankAllowed}
 use Rattle.paper.specs.Read.{Field, value, fault, given}
 use Rattle.paper.specs.Numerals.{digits, fixed}
 use Rattle.paper.specs.Batch.{Header}
-use Rattle.paper.specs.Entries.{file, Said, got, field, gap, lineEnd}
+use Rattle.paper.specs.Entries.{file, Listed, plain, field, gap, lineEnd}
 
 -- is it one of these?
 unfoldable pub member : ℕ → List ℕ → Bool
@@ -44,14 +44,14 @@ unfoldable pub readCode : Sheet → List ℕ → Field ℕ
 readCode sh s = given (digits 4 4 s) λ b. pick (bankAllowed sh b) (value b) (fault 8)
 
 -- "Lines": `1 KIND NUMBER BANK`, and nothing behind it
-unfoldable pub readFile : Sheet → (ℕ → ℕ) → List ℕ → Said
+unfoldable pub readFile : Sheet → (ℕ → ℕ) → List ℕ → Listed
 readFile sh test s =
     field (readKind sh) 2 (drop 2 s) λ kind a1 s1.
     gap a1 s1 λ a2 s2.
     field (readNumber test) a2 s2 λ number a3 s3.
     gap a3 s3 λ a4 s4.
     field (readCode sh) a4 s4 λ bank a5 s5.
-    lineEnd a5 s5 (got (file kind number) 0 [])
+    lineEnd a5 s5 (plain (file kind number))
 
 -- "Canonical spelling": BANK is the sheet's
 unfoldable pub spellFile : Sheet → ℕ → ℕ → List ℕ

@@ -10,7 +10,7 @@ use Rattle.paper.specs.Bytes.{null}
 use Rattle.paper.specs.Accounts.{Account}
 use Rattle.paper.specs.Batch.{Item, Header, sum}
 use Rattle.paper.specs.Lines.{Line, linesOf}
-use Rattle.paper.specs.Entries.{Entry, head, file, group, item, closeGroup, closeFile, got, no, kindOf}
+use Rattle.paper.specs.Entries.{Entry, head, file, group, item, closeGroup, closeFile, Places, said, no, kindOf}
 use Rattle.paper.specs.Spells.{Reads, readLine}
 use Rattle.paper.specs.Judge.{Answer, Refused, revOn, Between, InFile, InGroup, State, atFirst, atFile, atGroup, atItem, contextOf, isDue, isFull, totalBroken, begun, fileOpened, groupOpened, itemAdded, itemsOf, groupClosed, fileClosed}
 
@@ -31,11 +31,11 @@ module _ (sh : Sheet) (today : ℕ) where
         → length (x .files) < 1000
         → Follows t (atFile x) (file kind number) v
         → Lawful (t ∷ ts) (atGroup (fileOpened x kind number v))
-    begins : {ts : List Line} {t : Line} {x : InFile} {payer : Account} {total date v at : ℕ}
+    begins : {ts : List Line} {t : Line} {x : InFile} {payer : Account} {total date v : ℕ} {p : Places}
         → Lawful ts (atGroup x)
-        → readLine sh today (contextOf (atGroup x)) (t .bytes) ≡ got (group payer total date) v (at ∷ [])
+        → readLine sh today (contextOf (atGroup x)) (t .bytes) ≡ said (group payer total date) v p
         → Lawful (t ∷ ts)
-        (atItem (groupOpened x (record { payer = payer; date = date; total = total; line = suc (length ts); byte = t .start + at }) v))
+        (atItem (groupOpened x (record { payer = payer; date = date; total = total; line = suc (length ts); byte = t .start + p .total }) v))
     more : {ts : List Line} {t : Line} {x : InGroup} {v : ℕ} {i : Item}
         → Lawful ts (atItem x)
         → isFull sh (atItem x) (kindOf (t .bytes)) ≡ false

@@ -1,7 +1,7 @@
 -- The first line. Document 01, "Lines", first line. Assumes nothing.
 use Prim.Native.Nat.{ℕ}
 use mathlib.Core.Bool.{Bool, true, false}
-use mathlib.Core.List.{List, [], _++_}
+use mathlib.Core.List.{List, _++_}
 use lib.Dec.{eqb, ltb}
 use lib.ListN.{length, drop}
 use Rattle.base.specs.Pick.{pick}
@@ -12,7 +12,7 @@ use Rattle.paper.specs.Bytes.{bytes, isText}
 use Rattle.paper.specs.Numerals.{digits, fixed}
 use Rattle.paper.specs.Days.{shortDay, spellDay}
 use Rattle.paper.specs.Batch.{Header, noHeader}
-use Rattle.paper.specs.Entries.{head, Said, got, place, toEnd}
+use Rattle.paper.specs.Entries.{head, Listed, plain, place, toEnd}
 
 -- text bytes: 4 otherwise
 unfoldable pub textField : List ℕ → Field (List ℕ)
@@ -31,7 +31,7 @@ unfoldable pub readRest : Bool → List ℕ → Field (List ℕ)
 readRest short s = pick (restLength short (length s)) (textField s) (fault 4)
 
 -- K, S and E: `UHL1`, date DDMMRR, name 20, client number 10, interval start and end 3 and 3, the rest. C: `UHL1` and anything.
-unfoldable pub readFirst : Sheet → List ℕ → Said
+unfoldable pub readFirst : Sheet → List ℕ → Listed
 readFirst sh s =
     pick (sh .header)
     (place 6 shortDay 4 (drop 4 s) λ date a1 s1.
@@ -40,8 +40,8 @@ readFirst sh s =
     place 3 (digits 3 3) a3 s3 λ from a4 s4.
     place 3 (readTo (sh .interval) from) a4 s4 λ to a5 s5.
     toEnd (readRest (sh .short)) a5 s5 λ rest.
-    got (head (record { date = date; name = name; client = client; from = from; to = to })) 0 [])
-    (got (head noHeader) 0 [])
+    plain (head (record { date = date; name = name; client = client; from = from; to = to })))
+    (plain (head noHeader))
 
 -- "Canonical spelling": 58 bytes with twelve zeros at the end; on C `UHL1` alone
 unfoldable pub spellFirst : Sheet → Header → List ℕ

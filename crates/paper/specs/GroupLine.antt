@@ -6,11 +6,12 @@ use lib.Dec.{eqb, leb}
 use lib.ListN.{drop}
 use Rattle.base.specs.Pick.{pick}
 use Rattle.sheet.specs.declared.Sheet.{Sheet}
+use Rattle.paper.specs.Warnings.{pastDay, notices}
 use Rattle.paper.specs.Numerals.{decimal}
 use Rattle.paper.specs.Days.{readDue, dueWarnings, spellDay}
 use Rattle.paper.specs.Accounts.{Account, nobody, isNobody, readPayer, spellAccount}
 use Rattle.paper.specs.Amounts.{readTotal}
-use Rattle.paper.specs.Entries.{group, Said, got, field, gap, lineEnd}
+use Rattle.paper.specs.Entries.{group, Listed, said, totalAt, field, gap, lineEnd}
 
 -- how many spaces a line has
 unfoldable pub spaceCount : List ℕ → ℕ
@@ -21,16 +22,16 @@ spaceCount (x ∷ s) = pick (eqb x 32) (suc (spaceCount s)) (spaceCount s)
 unfoldable pub hasPayer : Bool → List ℕ → Bool
 hasPayer always s = pick always true (leb 3 (spaceCount s))
 
--- TOTAL, at offset `at`, and DATE; the total's place is kept for refusal 10
-unfoldable pub totalAndDate : Sheet → ℕ → Account → ℕ → List ℕ → Said
+-- TOTAL, at offset `at`, and DATE, which may be warned of; the total's place is kept for refusal 10
+unfoldable pub totalAndDate : Sheet → ℕ → Account → ℕ → List ℕ → Listed
 totalAndDate sh today payer at s =
     field (readTotal (sh .comma)) at s λ total a1 s1.
     gap a1 s1 λ a2 s2.
     field (readDue (sh .longdate) (sh .early) (sh .ahead) today) a2 s2 λ date a3 s3.
-    lineEnd a3 s3 (got (group payer total date) (dueWarnings (sh .warnpast) today date) (at ∷ []))
+    lineEnd a3 s3 (said (group payer total date) (notices pastDay a2 (dueWarnings (sh .warnpast) today date)) (totalAt at))
 
 -- "Lines": `2 TOTAL DATE`, or with the payer's account before TOTAL
-unfoldable pub readGroup : Sheet → ℕ → List ℕ → Said
+unfoldable pub readGroup : Sheet → ℕ → List ℕ → Listed
 readGroup sh today s =
     pick (hasPayer (sh .emptypayer) s)
     (field (readPayer (sh .emptypayer) (sh .zeropayer) (sh .joined) (sh .basemin)) 2 (drop 2 s) λ payer a1 s1.

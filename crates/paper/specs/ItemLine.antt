@@ -7,20 +7,21 @@ use Rattle.base.specs.Pick.{pick}
 use Rattle.sheet.specs.declared.Sheet.{Sheet}
 use Rattle.sheet.specs.declared.Style.{Style}
 use Rattle.paper.specs.Read.{Field, value, fault}
+use Rattle.paper.specs.Warnings.{lowPriority, notices}
 use Rattle.paper.specs.Bytes.{fieldOf, null}
 use Rattle.paper.specs.Numerals.{digits, decimal}
 use Rattle.paper.specs.Accounts.{Account, nobody, isNobody, readAccount, spellAccount}
 use Rattle.paper.specs.Amounts.{readItemAmount}
 use Rattle.paper.specs.BankField.{Bank, readBank, spellBank}
-use Rattle.paper.specs.Texts.{Piece, piece, Texts, readText, spellText, noText}
+use Rattle.paper.specs.Texts.{Piece, piece, Texts, Noted, readText, spellText, noText}
 use Rattle.paper.specs.Batch.{Item}
-use Rattle.paper.specs.Entries.{item, Said, got, field, gap, toEnd}
+use Rattle.paper.specs.Entries.{item, Places, Said, Listed, said, field, gap, toEnd}
 
 -- ---- the tail: the specific symbol and the texts, which the rest of the reading (k) takes
 
 -- no message and no name
-abbrev pub noTexts : Texts
-noTexts = record { parts = piece 0 [] ∷ piece 0 [] ∷ piece 0 [] ∷ piece 0 [] ∷ []; name = piece 0 []; warnings = 0 }
+abbrev pub noTexts : Noted
+noTexts = record { parts = piece 0 [] ∷ piece 0 [] ∷ piece 0 [] ∷ piece 0 [] ∷ []; name = piece 0 []; warnings = [] }
 
 -- 1 to 10 digits
 abbrev pub readSymbol : List ℕ → Field ℕ
@@ -35,9 +36,9 @@ unfoldable pub isValue : {A : Type 0} → Field A → Bool
 isValue (value v) = true
 isValue (fault n) = false
 
-module _ (y : Style) (k : ℕ → Texts → Said) where
+module _ {A : Type 0} (y : Style) (k : ℕ → Noted → Said A) where
   -- S: a space, a symbol or none, a space, and a text that may be empty
-  unfoldable pub fixedTail : ℕ → List ℕ → Said
+  unfoldable pub fixedTail : ℕ → List ℕ → Said A
   fixedTail at s =
       gap at s λ a1 s1.
       field readSymbolOrNone a1 s1 λ specific a2 s2.
@@ -46,13 +47,13 @@ module _ (y : Style) (k : ℕ → Texts → Said) where
       k specific texts
 
   -- behind a symbol: nothing, or a space and a text
-  unfoldable pub afterSymbol : ℕ → ℕ → List ℕ → Said
+  unfoldable pub afterSymbol : ℕ → ℕ → List ℕ → Said A
   afterSymbol specific at [] = k specific noTexts
   afterSymbol specific at (x ∷ s) = toEnd (readText y (at + 1)) (at + 1) s λ texts. k specific texts
 
   -- K, C and E: nothing, or a space and a symbol, or these, a space and a text; on C (`bare`) also a space and a text, where what
   -- follows the space is no symbol
-  unfoldable pub openTail : Bool → ℕ → List ℕ → Said
+  unfoldable pub openTail : Bool → ℕ → List ℕ → Said A
   openTail bare at [] = k 0 noTexts
   openTail bare at (x ∷ s) =
       pick (pick bare (pick (isValue (readSymbol (fieldOf s))) false true) false)
@@ -60,21 +61,21 @@ module _ (y : Style) (k : ℕ → Texts → Said) where
       (field readSymbol (at + 1) s λ specific a1 s1. afterSymbol specific a1 s1)
 
 -- "Lines", tail: one of the two forms, as the sheet has it
-unfoldable pub tail : Sheet → ℕ → List ℕ → (ℕ → Texts → Said) → Said
+unfoldable pub tail : {A : Type 0} → Sheet → ℕ → List ℕ → (ℕ → Noted → Said A) → Said A
 tail sh at s k = pick (sh .fixedtail) (fixedTail (sh .text) k at s) (openTail (sh .text) k (sh .bare) at s)
 
 -- ---- the whole line
 
 -- the bytes of the four parts
-abbrev pub partBytes : Texts → List (List ℕ)
+abbrev pub partBytes : {W : Type 0} → Texts W → List (List ℕ)
 partBytes t = map (λ (p : Piece). p .bytes) (t .parts)
 
 -- where the four parts and the name begin
-abbrev pub places : Texts → List ℕ
-places t = map (λ (p : Piece). p .place) (t .parts) ++ (t .name .place ∷ [])
+abbrev pub places : {W : Type 0} → Texts W → Places
+places t = record { total = 0; parts = map (λ (p : Piece). p .place) (t .parts); name = t .name .place }
 
 -- an item of the fields that were read
-abbrev pub itemOf : Account → Account → ℕ → ℕ → ℕ → Bank → Texts → Item
+abbrev pub itemOf : {W : Type 0} → Account → Account → ℕ → ℕ → ℕ → Bank → Texts W → Item
 itemOf payer payee amount variable specific bank texts =
     record {
       payer = payer;
@@ -89,8 +90,8 @@ itemOf payer payee amount variable specific bank texts =
       name = texts .name .bytes;
     }
 
--- payee, amount, variable symbol, bank field, tail
-unfoldable pub fromPayee : Sheet → Account → ℕ → List ℕ → Said
+-- payee, amount, variable symbol, bank field, tail; the bank field's warning stands before those of the texts
+unfoldable pub fromPayee : Sheet → Account → ℕ → List ℕ → Listed
 fromPayee sh payer at s =
     field (readAccount (sh .joined) (sh .basemin)) at s λ payee a1 s1.
     gap a1 s1 λ a2 s2.
@@ -100,10 +101,10 @@ fromPayee sh payer at s =
     gap a5 s5 λ a6 s6.
     field (readBank (sh .priority)) a6 s6 λ bank a7 s7.
     tail sh a7 s7 λ specific texts.
-    got (item (itemOf payer payee amount variable specific bank texts)) (bank .warnings + texts .warnings) (places texts)
+    said (item (itemOf payer payee amount variable specific bank texts)) (notices lowPriority a6 (bank .warnings) ++ texts .warnings) (places texts)
 
 -- the payer's account comes first where the group is single
-unfoldable pub readItem : Sheet → Bool → List ℕ → Said
+unfoldable pub readItem : Sheet → Bool → List ℕ → Listed
 readItem sh single s =
     pick single
     (field (readAccount (sh .joined) (sh .basemin)) 0 s λ payer a1 s1.

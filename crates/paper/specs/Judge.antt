@@ -10,7 +10,7 @@ use Rattle.paper.specs.Bytes.{null}
 use Rattle.paper.specs.Accounts.{Account, isNobody}
 use Rattle.paper.specs.Batch.{Item, Group, AccountFile, Batch, Header, sum, most14}
 use Rattle.paper.specs.Lines.{Line, linesOf}
-use Rattle.paper.specs.Entries.{Entry, head, file, group, item, closeGroup, closeFile, Said, got, no, Kind, headLine, fileLine, groupLine, itemLine, groupEnd, fileEnd, kindOf}
+use Rattle.paper.specs.Entries.{onHead, onFile, onGroup, onItem, Saying, Counted, got, no, counted, Kind, headLine, fileLine, groupLine, itemLine, groupEnd, fileEnd, kindOf}
 use Rattle.paper.specs.FileLine.{series}
 use Rattle.paper.specs.Spells.{Context, forHead, forFile, forGroup, forItem, readAs, differs, groupItems, fileItems}
 
@@ -206,64 +206,23 @@ closed sh x v =
     (stop (Refused 10 (x .head .line) (x .head .byte)))
     (atGroup (groupClosed x v))
 
--- by entry: what it is expected to be goes on, any other answers z
-module _ {A : Type 0} where
-  -- a header
-  unfoldable pub onHead : Entry → (Header → A) → A → A
-  onHead (head h) k z = k h
-  onHead (file n m) k z = z
-  onHead (group p t d) k z = z
-  onHead (item x) k z = z
-  onHead closeGroup k z = z
-  onHead closeFile k z = z
-
-  -- an account file's kind and number
-  unfoldable pub onFile : Entry → (ℕ → ℕ → A) → A → A
-  onFile (head h) k z = z
-  onFile (file n m) k z = k n m
-  onFile (group p t d) k z = z
-  onFile (item x) k z = z
-  onFile closeGroup k z = z
-  onFile closeFile k z = z
-
-  -- a group's payer, total and date, or the account file's end (c)
-  unfoldable pub onGroup : Entry → (Account → ℕ → ℕ → A) → A → A → A
-  onGroup (head h) k c z = z
-  onGroup (file n m) k c z = z
-  onGroup (group p t d) k c z = k p t d
-  onGroup (item x) k c z = z
-  onGroup closeGroup k c z = z
-  onGroup closeFile k c z = c
-
-  -- an item, or the group's end (c)
-  unfoldable pub onItem : Entry → (Item → A) → A → A → A
-  onItem (head h) k c z = z
-  onItem (file n m) k c z = z
-  onItem (group p t d) k c z = z
-  onItem (item x) k c z = k x
-  onItem closeGroup k c z = c
-  onItem closeFile k c z = z
-
--- a total's offset is the first of a line's places
-unfoldable pub firstOr0 : List ℕ → ℕ
-firstOr0 [] = 0
-firstOr0 (p ∷ ps) = p
-
--- line k, which starts at `at`, says the entry e, with v warnings and these places
-unfoldable pub meet : Sheet → ℕ → ℕ → Entry → ℕ → List ℕ → State → State
-meet sh k at e v spots atFirst = onHead e (λ h. atFile (begun h v)) (stop (Refused 3 k at))
-meet sh k at e v spots (atFile x) = onFile e (λ kind number. atGroup (fileOpened x kind number v)) (stop (Refused 3 k at))
-meet sh k at e v spots (atGroup x) =
-    onGroup e
-    (λ payer total date. atItem (groupOpened x (record { payer = payer; date = date; total = total; line = k; byte = at + firstOr0 spots }) v))
-    (atFile (fileClosed x v))
+-- line k, which starts at `at`, says t
+unfoldable pub meet : Sheet → ℕ → ℕ → Saying ℕ → State → State
+meet sh k at t atFirst = onHead (t .entry) (λ h. atFile (begun h (t .warnings))) (stop (Refused 3 k at))
+meet sh k at t (atFile x) = onFile (t .entry) (λ kind number. atGroup (fileOpened x kind number (t .warnings))) (stop (Refused 3 k at))
+meet sh k at t (atGroup x) =
+    onGroup (t .entry)
+    (λ payer total date.
+    atItem
+    (groupOpened x (record { payer = payer; date = date; total = total; line = k; byte = at + t .places .total }) (t .warnings)))
+    (atFile (fileClosed x (t .warnings)))
     (stop (Refused 3 k at))
-meet sh k at e v spots (atItem x) = onItem e (λ i. atItem (itemAdded x i v)) (closed sh x v) (stop (Refused 3 k at))
-meet sh k at e v spots (stop a) = stop a
+meet sh k at t (atItem x) = onItem (t .entry) (λ i. atItem (itemAdded x i (t .warnings))) (closed sh x (t .warnings)) (stop (Refused 3 k at))
+meet sh k at t (stop a) = stop a
 
 -- what the line was read as
-unfoldable pub onSaid : Sheet → ℕ → ℕ → Said → State → State
-onSaid sh k at (got e v spots) st = meet sh k at e v spots st
+unfoldable pub onSaid : Sheet → ℕ → ℕ → Counted → State → State
+onSaid sh k at (got t) st = meet sh k at t st
 onSaid sh k at (no n off) st = stop (Refused n k (at + off))
 
 -- 3 and 15 come before a line's fields, both at the line's start
@@ -272,7 +231,7 @@ read sh today k t kind st =
     pick (isDue st kind)
     (pick (isFull sh st kind)
     (stop (Refused 15 k (t .start)))
-    (onSaid sh k (t .start) (readAs sh today (contextOf st) kind (t .bytes)) st))
+    (onSaid sh k (t .start) (counted (readAs sh today (contextOf st) kind (t .bytes))) st))
     (stop (Refused 3 k (t .start)))
 
 -- the judging ends with the first fault

@@ -2,6 +2,7 @@
 -- "What the library handles" is the crate sheet.
 -- "The batch"
 pub mod Read
+pub mod Warnings
 pub mod Bytes
 pub mod Numerals
 pub mod Days

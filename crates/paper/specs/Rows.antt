@@ -11,7 +11,7 @@ use Rattle.paper.specs.Bytes.{null}
 use Rattle.paper.specs.Accounts.{Account, account, isNobody}
 use Rattle.paper.specs.Batch.{Item, Thing, aFile, aGroup, anItem, strange}
 use Rattle.paper.specs.Lines.{Line}
-use Rattle.paper.specs.Entries.{Entry, head, file, group, item, closeGroup, closeFile, Said, got, no}
+use Rattle.paper.specs.Entries.{Entry, head, file, group, item, closeGroup, closeFile, Places, Counted, got, no}
 use Rattle.paper.specs.Spells.{Context, forItem, readLine}
 
 -- a row is 24 words of 8 bytes
@@ -102,18 +102,22 @@ itemRow start spots x =
     3 ∷ x .payer .prefix ∷ x .payer .base ∷ x .payee .prefix ∷ x .payee .base ∷ x .bank ∷ x .amount ∷ x .variable ∷ x .specific ∷ x .constant
     ∷ x .priority ∷ (textsWords start spots (x .parts ++ (x .name ∷ [])) ++ blanks 3)
 
+-- where the texts of an item begin: its parts and its name
+abbrev pub textSpots : Places → List ℕ
+textSpots p = p .parts ++ (p .name ∷ [])
+
 -- the row of a line that starts at `start`, if it has one
-unfoldable pub entryRow : ℕ → List ℕ → Entry → List (List ℕ)
-entryRow start spots (head h) = []
-entryRow start spots (file k n) = fileRow k n ∷ []
-entryRow start spots (group p t d) = groupRow d p ∷ []
-entryRow start spots (item x) = itemRow start spots x ∷ []
-entryRow start spots closeGroup = []
-entryRow start spots closeFile = []
+unfoldable pub entryRow : ℕ → Places → Entry → List (List ℕ)
+entryRow start q (head h) = []
+entryRow start q (file k n) = fileRow k n ∷ []
+entryRow start q (group p t d) = groupRow d p ∷ []
+entryRow start q (item x) = itemRow start (textSpots q) x ∷ []
+entryRow start q closeGroup = []
+entryRow start q closeFile = []
 
 -- a line that was refused has none
-unfoldable pub lineRow : ℕ → Said → List (List ℕ)
-lineRow start (got e v spots) = entryRow start spots e
+unfoldable pub lineRow : ℕ → Counted → List (List ℕ)
+lineRow start (got t) = entryRow start (t .places) (t .entry)
 lineRow start (no n off) = []
 
 -- behind a group's line its items are read as that group's
@@ -126,8 +130,8 @@ singleAfter b closeGroup = b
 singleAfter b closeFile = b
 
 -- a line that was refused changes nothing
-unfoldable pub singleBehind : Bool → Said → Bool
-singleBehind b (got e v spots) = singleAfter b e
+unfoldable pub singleBehind : Bool → Counted → Bool
+singleBehind b (got t) = singleAfter b (t .entry)
 singleBehind b (no n off) = b
 
 -- The context for lines that are accepted already: any number, and no kind or date. What a line says in its own context it says in this one.

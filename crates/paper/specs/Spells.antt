@@ -11,7 +11,7 @@ use Rattle.sheet.specs.declared.Sheet.{Sheet}
 use Rattle.paper.specs.Accounts.{isNobody}
 use Rattle.paper.specs.Batch.{Item, Group, AccountFile, Batch, Header, sum, most14}
 use Rattle.paper.specs.Lines.{Line, linesOf}
-use Rattle.paper.specs.Entries.{Entry, head, file, group, item, closeGroup, closeFile, Said, got, Kind, headLine, fileLine, groupLine, itemLine, groupEnd, fileEnd, kindOf}
+use Rattle.paper.specs.Entries.{Entry, head, file, group, item, closeGroup, closeFile, Places, Listed, Counted, said, counted, Kind, headLine, fileLine, groupLine, itemLine, groupEnd, fileEnd, kindOf}
 use Rattle.paper.specs.FirstLine.{readFirst}
 use Rattle.paper.specs.FileLine.{series, numberFault, readFile}
 use Rattle.paper.specs.GroupLine.{readGroup}
@@ -55,7 +55,7 @@ numberTest sh anyNumber n = 0
 numberTest sh (after h seen) n = numberFault (sh .interval) h seen n
 
 -- a line of a known kind, read by the definition of that kind
-unfoldable pub readAs : Sheet → ℕ → Context → Kind → List ℕ → Said
+unfoldable pub readAs : Sheet → ℕ → Context → Kind → List ℕ → Listed
 readAs sh today c headLine s = readFirst sh s
 readAs sh today c fileLine s = readFile sh (numberTest sh (c .numbers)) s
 readAs sh today c groupLine s = readGroup sh today s
@@ -63,13 +63,13 @@ readAs sh today c itemLine s = readItem sh (c .single) s
 readAs sh today c groupEnd s = readClose (sh .near) closeGroup s
 readAs sh today c fileEnd s = readClose (sh .near) closeFile s
 
--- a line, read by what its start says it is
-unfoldable pub readLine : Sheet → ℕ → Context → List ℕ → Said
-readLine sh today c s = readAs sh today c (kindOf s) s
+-- a line, read by what its start says it is, with its warnings counted
+unfoldable pub readLine : Sheet → ℕ → Context → List ℕ → Counted
+readLine sh today c s = counted (readAs sh today c (kindOf s) s)
 
 -- the line says the entry, with w warnings
 abbrev pub Reads : Sheet → ℕ → List ℕ → Context → Entry → ℕ → Type 0
-Reads sh today s c e w = (spots : List ℕ) × (readLine sh today c s ≡ got e w spots)
+Reads sh today s c e w = (p : Places) × (readLine sh today c s ≡ said e w p)
 
 -- ---- the lines of a batch
 

@@ -8,7 +8,16 @@ use Rattle.base.specs.Pick.{pick}
 use Rattle.base.specs.Seek.{all, starts, seek, before}
 use Rattle.sheet.specs.declared.Style.{Style}
 use Rattle.paper.specs.Read.{Field, value, fault}
+use Rattle.paper.specs.Warnings.{Warning, longPart, longName, Notice, notice}
 use Rattle.paper.specs.Bytes.{isText, bar, av, np, mark, null}
+
+-- What the style of a sheet asks of a text:
+--   flag     K    S    C    E    what it asks
+--   av       yes  no   yes  yes  a text has a byte or more, the first not a space, and its message begins `AV:`; else it is a message as it stands
+--   may      no   no   yes  no   .. but `AV:` may be missing
+--   names    no   no   yes  no   a name may follow the message
+--   cuts     no   no   yes  no   what is longer than 35 bytes is cut, with a warning; else it is refused
+--   most     4    1    4    4    so many parts at most
 
 -- a piece of a line: where it begins, and its bytes
 pub record Piece : Type 0 where
@@ -19,11 +28,15 @@ pub record Piece : Type 0 where
 abbrev pub piece : ℕ → List ℕ → Piece
 piece at s = record { place = at; bytes = s }
 
--- four parts and a name, and how many of them were cut
-pub record Texts : Type 0 where
+-- four parts and a name, and what is warned of: a list, or its count
+pub record Texts (W : Type 0) : Type 0 where
   pub parts : List Piece
   pub name : Piece
-  pub warnings : ℕ
+  pub warnings : W
+
+-- with what is warned of listed, from left to right
+abbrev pub Noted : Type 0
+Noted = Texts (List Notice)
 
 -- ---- reading
 
@@ -36,18 +49,22 @@ others at (x ∷ s) = pick (eqb x 124) (piece (at + 1) (before bar s) ∷ others
 abbrev pub divide : ℕ → List ℕ → List Piece
 divide at s = piece at (before bar s) ∷ others at s
 
--- A part or a name has at most 35 bytes: longer ones are cut, and each is counted. An empty one has the place 0.
+-- A part or a name has at most 35 bytes: longer ones are cut, and each is warned of. An empty one has the place 0.
 unfoldable pub cut : Piece → Piece
 cut p = pick (null (p .bytes)) (piece 0 []) (piece (p .place) (take 35 (p .bytes)))
 
--- one warning for a piece that is cut
-unfoldable pub over : Piece → ℕ
-over p = pick (ltb 35 (length (p .bytes))) 1 0
+-- a warning of its kind for a piece that is cut, at its first byte
+unfoldable pub over : Warning → Piece → List Notice
+over w p = pick (ltb 35 (length (p .bytes))) (notice w (p .place) ∷ []) []
 
--- .. for each of several
-unfoldable pub overs : List Piece → ℕ
-overs [] = 0
-overs (p ∷ ps) = over p + overs ps
+-- .. for each of several parts
+unfoldable pub overs : List Piece → List Notice
+overs [] = []
+overs (p ∷ ps) = over longPart p ++ overs ps
+
+-- .. for all parts and a name
+abbrev pub cuts : List Piece → Piece → List Notice
+cuts ps n = overs ps ++ over longName n
 
 -- n parts, the missing ones empty
 unfoldable pub pad : ℕ → List Piece → List Piece
@@ -62,11 +79,11 @@ opens (x ∷ t) = not (eqb x 32)
 
 module _ (y : Style) where
   -- Parts and name as found: 14 for more parts than the sheet takes, and for one too long where it is not cut.
-  unfoldable pub finish : List Piece → Piece → Field Texts
+  unfoldable pub finish : List Piece → Piece → Field Noted
   finish ps n =
       pick (ltb (y .most) (length ps)) (fault 14)
-      (pick (pick (y .cuts) true (eqb (overs ps + over n) 0))
-      (value (record { parts = pad 4 (map cut ps); name = cut n; warnings = overs ps + over n }))
+      (pick (pick (y .cuts) true (null (cuts ps n)))
+      (value (record { parts = pad 4 (map cut ps); name = cut n; warnings = cuts ps n }))
       (fault 14))
 
   -- where the message ends: before its first ` NP:`, where names are
@@ -74,18 +91,18 @@ module _ (y : Style) where
   messageEnd m = pick (y .names) (seek mark m) (length m)
 
   -- a message without its `AV:`, and the name behind its ` NP:`
-  unfoldable pub message : ℕ → List ℕ → Field Texts
+  unfoldable pub message : ℕ → List ℕ → Field Noted
   message at m = finish (divide at (take (messageEnd m) m)) (piece (at + (messageEnd m + 4)) (drop (messageEnd m + 4) m))
 
   -- C: a name alone begins after `NP:` at the text's start. A message begins after `AV:`, which on C may be missing; 14 elsewhere.
-  unfoldable pub marked : ℕ → List ℕ → Field Texts
+  unfoldable pub marked : ℕ → List ℕ → Field Noted
   marked at t =
       pick (pick (y .names) (starts np t) false) (finish (piece at [] ∷ []) (piece (at + 3) (drop 3 t)))
       (pick (starts av t) (message (at + 3) (drop 3 t))
       (pick (y .may) (message at t) (fault 14)))
 
   -- A text that begins at `at` of its line. First 4: a byte that is no text byte; off S a text that is empty or begins with a space.
-  unfoldable pub readText : ℕ → List ℕ → Field Texts
+  unfoldable pub readText : ℕ → List ℕ → Field Noted
   readText at t =
       pick (all isText t)
       (pick (y .av) (pick (opens t) (marked at t) (fault 4)) (message at t))

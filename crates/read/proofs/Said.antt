@@ -6,7 +6,7 @@ use Prim.Native.Nat.{ℕ}
 use Rattle.sheet.specs.declared.Sheet.{Sheet}
 use Rattle.paper.specs.Batch.{Batch, Header}
 use Rattle.paper.specs.Lines.{Line, linesOf}
-use Rattle.paper.specs.Entries.{Entry, head, file, group, item, closeGroup, closeFile, Said}
+use Rattle.paper.specs.Entries.{Entry, head, file, group, item, closeGroup, closeFile, Counted}
 use Rattle.paper.specs.Spells.{Context, readLine, Due, dues, SaysEntry, Each}
 use Rattle.paper.specs.Rows.{accepted, singleAfter, singleBehind}
 use Rattle.paper.specs.Judge.{Accepted, judge}
@@ -18,7 +18,7 @@ use Rattle.fill.specs.file.Judged.{AllSaid}
 
 -- one line: it says the same in the context of an item, and so do the lines behind it (P)
 module _ (sh : Sheet) (today : ℕ) (s : List ℕ) (b : Bool) (P : Bool → Type 0) where
-  abbrev said : Said
+  abbrev said : Counted
   said = readLine sh today (accepted b) s
 
   abbrev Goes : Type 0
@@ -26,12 +26,12 @@ module _ (sh : Sheet) (today : ℕ) (s : List ℕ) (b : Bool) (P : Bool → Type
 
   one : (c : Context) (e : Entry) (w : ℕ) → Meets b c e → SaysEntry sh today s c e w → P (singleAfter b e) → Goes
   unfolding isSaid singleAfter singleBehind
-  one c (head h) w _ (spots, q) r = rw (head-again sh today c b s w spots h q) (refl, r)
-  one c (file k n) w _ (spots, q) r = rw (file-line-again sh today c b s w spots k n q) (refl, r)
-  one c (group p exact d) w _ (total, v, (spots, q), _, _) r = rw (group-again sh today c b s v spots p total d q) (refl, r)
-  one c (item x) w i (spots, q) r = rw (item-again sh today c b s w spots x i q) (refl, r)
-  one c closeGroup w _ (spots, q) r = rw (group-end-again sh today c b s w spots q) (refl, r)
-  one c closeFile w _ (spots, q) r = rw (file-end-again sh today c b s w spots q) (refl, r)
+  one c (head h) w _ (p, q) r = rw (head-again sh today c b s w p h q) (refl, r)
+  one c (file k n) w _ (p, q) r = rw (file-line-again sh today c b s w p k n q) (refl, r)
+  one c (group a exact d) w _ (total, v, (p, q), _, _) r = rw (group-again sh today c b s v p a total d q) (refl, r)
+  one c (item x) w i (p, q) r = rw (item-again sh today c b s w p x i q) (refl, r)
+  one c closeGroup w _ (p, q) r = rw (group-end-again sh today c b s w p q) (refl, r)
+  one c closeFile w _ (p, q) r = rw (file-end-again sh today c b s w p q) (refl, r)
 
 -- all lines
 all-said : (sh : Sheet) (today : ℕ) (b : Bool) (ls : List Line) (ds : List Due) (w : ℕ) → Runs b ds → Each sh today ls ds w → AllSaid sh today b ls

@@ -8,10 +8,10 @@ use Rattle.sheet.specs.declared.Sheet.{Sheet}
 use Rattle.paper.specs.Accounts.{Account, isNobody}
 use Rattle.paper.specs.Batch.{Item, Group, AccountFile, Batch, Header, Thing, aFile, aGroup, anItem, itemThings, groupThings, things}
 use Rattle.paper.specs.Lines.{Line, linesOf}
-use Rattle.paper.specs.Entries.{Entry, head, file, group, item, closeGroup, closeFile, got}
+use Rattle.paper.specs.Entries.{Entry, head, file, group, item, closeGroup, closeFile, Places, said}
 use Rattle.paper.specs.FileLine.{series}
 use Rattle.paper.specs.Spells.{Context, forItem, readAs, readLine, Due, itemDues, groupDues, fileDues, dues, SaysEntry, Each}
-use Rattle.paper.specs.Rows.{thingsIn, fileRow, groupRow, itemRow, entryRow, lineRow, singleAfter, singleBehind, accepted, linesRows}
+use Rattle.paper.specs.Rows.{thingsIn, fileRow, groupRow, itemRow, textSpots, entryRow, lineRow, singleAfter, singleBehind, accepted, linesRows}
 use Rattle.scan.proofs.line.Places.{Stands, Stand}
 use Rattle.exact.proofs.Told.{told-line, kind-file, kind-group, kind-item}
 use Rattle.rowlaws.specs.Places.{Here}
@@ -54,26 +54,26 @@ Runs b (d ∷ ds) = Meets b (d .context) (d .entry) × Runs (singleAfter b (d .e
 -- ---- one line
 
 module _ (sh : Sheet) (today : ℕ) (f : List ℕ) where
-  module _ (c : Context) (s : List ℕ) (v : ℕ) (spots : List ℕ) where
-    pub line-file-row : (k n : ℕ) → readLine sh today c s ≡ got (file k n) v spots → Row f (fileRow k n) (aFile k n)
+  module _ (c : Context) (s : List ℕ) (v : ℕ) (q : Places) where
+    pub line-file-row : (k n : ℕ) → readLine sh today c s ≡ said (file k n) v q → Row f (fileRow k n) (aFile k n)
     unfolding readLine readAs
-    line-file-row k n q =
-        let i = kind-file (told-line sh today c s _ q) in
-        let m = kept-file sh s v spots _ k n (rw i at q) in
+    line-file-row k n e =
+        let i = kind-file (told-line sh today c s _ e) in
+        let m = kept-file sh s v q _ k n (rw i at e) in
         file-row f k n (m .0) (m .1)
 
-    pub line-group-row : (p : Account) (t d : ℕ) → readLine sh today c s ≡ got (group p t d) v spots → Row f (groupRow d p) (aGroup d p)
+    pub line-group-row : (p : Account) (t d : ℕ) → readLine sh today c s ≡ said (group p t d) v q → Row f (groupRow d p) (aGroup d p)
     unfolding readLine readAs
-    line-group-row p t d q =
-        let i = kind-group (told-line sh today c s _ q) in
-        let m = kept-group sh s v spots today p t d (rw i at q) in
+    line-group-row p t d e =
+        let i = kind-group (told-line sh today c s _ e) in
+        let m = kept-group sh s v q today p t d (rw i at e) in
         group-row f d p (m .0) (m .1)
 
-    pub line-item-row : (start : ℕ) (x : Item) → Here f start s → readLine sh today c s ≡ got (item x) v spots → Row f (itemRow start spots x) (anItem x)
+    pub line-item-row : (start : ℕ) (x : Item) → Here f start s → readLine sh today c s ≡ said (item x) v q → Row f (itemRow start (textSpots q) x) (anItem x)
     unfolding readLine readAs
-    line-item-row start x h q =
-        let i = kind-item (told-line sh today c s _ q) in
-        item-row f start s h x spots (kept-item sh s v spots _ x (rw i at q))
+    line-item-row start x h e =
+        let i = kind-item (told-line sh today c s _ e) in
+        item-row f start s h x q (kept-item sh s v q _ x (rw i at e))
 
   -- a line's row stands in front of those of the lines behind it
   module _ (t : Line) (stands : Stands f t) (b : Bool) (m : Bool → List (List ℕ)) (ts : List Thing) where
@@ -84,15 +84,15 @@ module _ (sh : Sheet) (today : ℕ) (f : List ℕ) where
 
     one : (c : Context) (e : Entry) (w : ℕ) → Meets b c e → SaysEntry sh today (t .bytes) c e w → Front e
     unfolding lineRow entryRow singleAfter singleBehind entryThings
-    one c (head h) w _ (spots, q) r = rw (head-again sh today c b (t .bytes) w spots h q) r
-    one c (file k n) w _ (spots, q) r =
-        rw (file-line-again sh today c b (t .bytes) w spots k n q) (next (line-file-row c (t .bytes) w spots k n q) r)
-    one c (group p exact d) w _ (total, v, (spots, q), _, _) r =
-        rw (group-again sh today c b (t .bytes) v spots p total d q) (next (line-group-row c (t .bytes) v spots p total d q) r)
-    one c (item x) w i (spots, q) r =
-        rw (item-again sh today c b (t .bytes) w spots x i q) (next (line-item-row c (t .bytes) w spots (t .start) x (stands .here) q) r)
-    one c closeGroup w _ (spots, q) r = rw (group-end-again sh today c b (t .bytes) w spots q) r
-    one c closeFile w _ (spots, q) r = rw (file-end-again sh today c b (t .bytes) w spots q) r
+    one c (head h) w _ (p, q) r = rw (head-again sh today c b (t .bytes) w p h q) r
+    one c (file k n) w _ (p, q) r =
+        rw (file-line-again sh today c b (t .bytes) w p k n q) (next (line-file-row c (t .bytes) w p k n q) r)
+    one c (group a exact d) w _ (total, v, (p, q), _, _) r =
+        rw (group-again sh today c b (t .bytes) v p a total d q) (next (line-group-row c (t .bytes) v p a total d q) r)
+    one c (item x) w i (p, q) r =
+        rw (item-again sh today c b (t .bytes) w p x i q) (next (line-item-row c (t .bytes) w p (t .start) x (stands .here) q) r)
+    one c closeGroup w _ (p, q) r = rw (group-end-again sh today c b (t .bytes) w p q) r
+    one c closeFile w _ (p, q) r = rw (file-end-again sh today c b (t .bytes) w p q) r
 
   -- ---- all lines
 

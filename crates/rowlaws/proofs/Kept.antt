@@ -9,8 +9,8 @@ use Rattle.sheet.specs.declared.Sheet.{Sheet}
 use Rattle.sheet.specs.declared.Style.{Style}
 use Rattle.paper.specs.Batch.{Item}
 use Rattle.paper.specs.Accounts.{Account, readAccount, readPayer}
-use Rattle.paper.specs.Texts.{Texts}
-use Rattle.paper.specs.Entries.{head, file, group, item, closeGroup, closeFile, Said, got, no, Kind}
+use Rattle.paper.specs.Texts.{Noted}
+use Rattle.paper.specs.Entries.{Entry, head, file, group, item, closeGroup, closeFile, Places, Listed, Counted, got, said, no, counted, Kind}
 use Rattle.paper.specs.FileLine.{readFile}
 use Rattle.paper.specs.GroupLine.{readGroup}
 use Rattle.paper.specs.ItemLine.{partBytes, places, readItem}
@@ -21,7 +21,7 @@ use Rattle.rowlaws.proofs.Pieces.{text-places}
 use Rattle.rowlaws.proofs.Below.{Short, nobody-short, kind-below, number-below, due-below, account-short, payer-short, bank-below}
 
 -- an item that the line w says, with the places of its texts
-pub record KeptItem (w : List ℕ) (x : Item) (spots : List ℕ) : Type 0 where
+pub record KeptItem (w : List ℕ) (x : Item) (q : Places) : Type 0 where
   pub payerIs : Short (x .payer)
   pub payeeIs : Short (x .payee)
   pub bankIs : x .bank < 10000
@@ -29,26 +29,29 @@ pub record KeptItem (w : List ℕ) (x : Item) (spots : List ℕ) : Type 0 where
   pub specificIs : x .specific < 10000000000
   pub constantIs : x .constant < 10000
   pub priorityIs : x .priority < 100
-  pub texts : Texts
+  pub texts : Noted
   pub placed : Placed w texts
   pub partsAre : x .parts ≡ partBytes texts
   pub nameIs : x .name ≡ texts .name .bytes
-  pub spotsAre : spots ≡ places texts
+  pub placesAre : q ≡ places texts
 
 -- what a line of an account file, of a group, of an item says, where it is not refused
-abbrev Kept : List ℕ → Said → Type 0
-Kept w (got (file k n) v spots) = (k < 10000) × (n < 1000000)
-Kept w (got (group p t d) v spots) = Short p × (d < 100000000)
-Kept w (got (item x) v spots) = KeptItem w x spots
-Kept w (got (head h) v spots) = Unit {0}
-Kept w (got closeGroup v spots) = Unit {0}
-Kept w (got closeFile v spots) = Unit {0}
+abbrev KeptAs : List ℕ → Entry → Places → Type 0
+KeptAs w (file k n) q = (k < 10000) × (n < 1000000)
+KeptAs w (group p t d) q = Short p × (d < 100000000)
+KeptAs w (item x) q = KeptItem w x q
+KeptAs w (head h) q = Unit {0}
+KeptAs w closeGroup q = Unit {0}
+KeptAs w closeFile q = Unit {0}
+
+abbrev Kept : List ℕ → Counted → Type 0
+Kept w (got t) = KeptAs w (t .entry) (t .places)
 Kept w (no n off) = Unit {0}
 
 -- ---- from the fields that were read
 
 -- the rest of the line stands in the line
-texts-kept : (y : Style) {w : List ℕ} {t : Texts} → Text y w t → Placed w t
+texts-kept : (y : Style) {w : List ℕ} {t : Noted} → Text y w t → Placed w t
 texts-kept y no-text = record { four = refl; parts = (refl, (refl, (refl, (refl, tt)))); name = refl }
 texts-kept y {w} (a-text at {t} e) = text-places w y at (drop at w) t (take-length (drop at w)) e
 
@@ -60,13 +63,14 @@ account-kept : (joined : Bool) (least : ℕ) {named : Bool} {a : Account} → Pa
 account-kept joined least (stands {a} f) = account-short (f .0) joined least a (f .1)
 account-kept joined least lacks = nobody-short
 
-keeps : (sh : Sheet) {today : ℕ} {test : ℕ → ℕ} {single : Bool} {w : List ℕ} {kind : Kind} {r : Said} → LineSays sh today test single w kind r → Kept w r
+keeps : (sh : Sheet) {today : ℕ} {test : ℕ → ℕ} {single : Bool} {w : List ℕ} {kind : Kind} {r : Listed} → LineSays sh today test single w kind r → Kept w (counted r)
+unfolding counted
 keeps sh (no-header _) = tt
 keeps sh (a-header _ _ _ _ _ _ _) = tt
 keeps sh {test = test} (a-file {kind = k} {number = n} f g _ _) = (kind-below (f .0) sh k (f .1), number-below (g .0) test n (g .1))
-keeps sh {today} (a-group {date = date} p _ d _ _) =
+keeps sh {today} (a-group {date = date} _ p _ d _ _) =
     (payer-kept (sh .emptypayer) (sh .zeropayer) (sh .joined) (sh .basemin) p, due-below (d .0) (sh .longdate) (sh .early) (sh .ahead) today date (d .1))
-keeps sh (an-item {payee = payee} {variable = variable} {bank = bank} {texts = texts} p f a v b _ s t) =
+keeps sh (an-item {payee = payee} {variable = variable} {bank = bank} {texts = texts} _ p f a v b _ s t) =
     let k = bank-below (b .0) (sh .priority) bank (b .1) in
     record {
       payerIs = account-kept (sh .joined) (sh .basemin) p;
@@ -80,7 +84,7 @@ keeps sh (an-item {payee = payee} {variable = variable} {bank = bank} {texts = t
       placed = texts-kept (sh .text) t;
       partsAre = refl;
       nameIs = refl;
-      spotsAre = refl;
+      placesAre = refl;
     }
 keeps sh a-group-end = tt
 keeps sh a-file-end = tt
@@ -88,12 +92,12 @@ keeps sh (refused _ _) = tt
 
 -- ---- a line that was read
 
-module _ (sh : Sheet) (w : List ℕ) (v : ℕ) (spots : List ℕ) where
-  pub kept-file : (test : ℕ → ℕ) (k n : ℕ) → readFile sh test w ≡ got (file k n) v spots → (k < 10000) × (n < 1000000)
+module _ (sh : Sheet) (w : List ℕ) (v : ℕ) (q : Places) where
+  pub kept-file : (test : ℕ → ℕ) (k n : ℕ) → counted (readFile sh test w) ≡ said (file k n) v q → (k < 10000) × (n < 1000000)
   kept-file test k n e = rw e at (keeps sh (file-says sh 0 test false w))
 
-  pub kept-group : (today : ℕ) (p : Account) (t d : ℕ) → readGroup sh today w ≡ got (group p t d) v spots → Short p × (d < 100000000)
+  pub kept-group : (today : ℕ) (p : Account) (t d : ℕ) → counted (readGroup sh today w) ≡ said (group p t d) v q → Short p × (d < 100000000)
   kept-group today p t d e = rw e at (keeps sh (group-says sh today (λ _. 0) false w))
 
-  pub kept-item : (single : Bool) (x : Item) → readItem sh single w ≡ got (item x) v spots → KeptItem w x spots
+  pub kept-item : (single : Bool) (x : Item) → counted (readItem sh single w) ≡ said (item x) v q → KeptItem w x q
   kept-item single x e = rw e at (keeps sh (item-says sh 0 (λ _. 0) single w))

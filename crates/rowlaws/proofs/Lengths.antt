@@ -9,9 +9,9 @@ use Rattle.sheet.specs.declared.Sheet.{Sheet}
 use Rattle.paper.specs.Batch.{Item}
 use Rattle.paper.specs.Texts.{Piece}
 use Rattle.paper.specs.Lines.{Line}
-use Rattle.paper.specs.Entries.{head, file, group, item, closeGroup, closeFile, Said, got, no}
+use Rattle.paper.specs.Entries.{head, file, group, item, closeGroup, closeFile, Entry, Places, Counted, got, said, no}
 use Rattle.paper.specs.Spells.{Context, readAs, readLine}
-use Rattle.paper.specs.Rows.{blanks, fileRow, groupRow, textsWords, itemRow, entryRow, lineRow, singleBehind, accepted, linesRows}
+use Rattle.paper.specs.Rows.{blanks, fileRow, groupRow, textsWords, itemRow, textSpots, entryRow, lineRow, singleBehind, accepted, linesRows}
 use Rattle.exact.proofs.Told.{told-line, kind-item}
 use Rattle.rowlaws.specs.Sizes.{Long}
 use Rattle.rowlaws.proofs.Kept.{KeptItem, kept-item}
@@ -32,22 +32,26 @@ item-long start spots x four =
     omega (arith, length-append (textsWords start spots all) (0 ∷ 0 ∷ 0 ∷ []), texts-long start spots all, length-append (x .parts) (x .name ∷ []))
 
 -- an item that was read has four parts
-pub item-four : (w : List ℕ) (x : Item) (spots : List ℕ) → KeptItem w x spots → length (x .parts) ≡ 4
-item-four w x spots k = ap length (k .partsAre) ∙ length-map (k .texts .parts) (λ (p : Piece). p .bytes) ∙ k .placed .four
+pub item-four : (w : List ℕ) (x : Item) (q : Places) → KeptItem w x q → length (x .parts) ≡ 4
+item-four w x q k = ap length (k .partsAre) ∙ length-map (k .texts .parts) (λ (p : Piece). p .bytes) ∙ k .placed .four
 
 -- ---- a line's row, if it has one
 
 module _ (sh : Sheet) (today : ℕ) (c : Context) (start : ℕ) (s : List ℕ) where
-  said-long : (r : Said) → readLine sh today c s ≡ r → Long (lineRow start r)
-  unfolding readLine readAs lineRow entryRow fileRow groupRow blanks
-  said-long (got (head h) v spots) q = tt
-  said-long (got (file k n) v spots) q = (refl, tt)
-  said-long (got (group p t d) v spots) q = (refl, tt)
-  said-long (got (item x) v spots) q =
-      let i = kind-item (told-line sh today c s _ q) in
-      (item-long start spots x (item-four s x spots (kept-item sh s v spots _ x (rw i at q))), tt)
-  said-long (got closeGroup v spots) q = tt
-  said-long (got closeFile v spots) q = tt
+  entry-long : (e : Entry) (v : ℕ) (q : Places) → readLine sh today c s ≡ said e v q → Long (entryRow start q e)
+  unfolding readLine readAs entryRow fileRow groupRow blanks
+  entry-long (head h) v q e = tt
+  entry-long (file k n) v q e = (refl, tt)
+  entry-long (group p t d) v q e = (refl, tt)
+  entry-long (item x) v q e =
+      let i = kind-item (told-line sh today c s _ e) in
+      (item-long start (textSpots q) x (item-four s x q (kept-item sh s v q _ x (rw i at e))), tt)
+  entry-long closeGroup v q e = tt
+  entry-long closeFile v q e = tt
+
+  said-long : (r : Counted) → readLine sh today c s ≡ r → Long (lineRow start r)
+  unfolding lineRow
+  said-long (got t) q = entry-long (t .entry) (t .warnings) (t .places) q
   said-long (no n off) q = tt
 
   pub line-long : Long (lineRow start (readLine sh today c s))

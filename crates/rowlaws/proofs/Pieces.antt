@@ -9,16 +9,16 @@ use Rattle.base.proofs.Cases.{either}
 use Rattle.sheet.specs.declared.Style.{Style}
 use Rattle.paper.specs.Read.{Field, value, fault}
 use Rattle.paper.specs.Bytes.{bar, null}
-use Rattle.paper.specs.Texts.{Piece, piece, Texts, others, divide, cut, pad, finish, messageEnd, message, marked, readText}
+use Rattle.paper.specs.Texts.{Piece, piece, Noted, others, divide, cut, pad, finish, messageEnd, message, marked, readText}
 use Rattle.rowlaws.specs.Places.{Here, Lies, Lie, Placed}
 use Rattle.rowlaws.proofs.Here.{here-take, here-drop}
 
 -- what is read has its pieces in their places
-pub data Outcome (w : List ℕ) : Field Texts → Type 0 where
-  of-value : {x : Texts} → Placed w x → Outcome w (value x)
+pub data Outcome (w : List ℕ) : Field Noted → Type 0 where
+  of-value : {x : Noted} → Placed w x → Outcome w (value x)
   of-fault : {n : ℕ} → Outcome w (fault n)
 
-pub outcome-value : {w : List ℕ} {x : Texts} → Outcome w (value x) → Placed w x
+pub outcome-value : {w : List ℕ} {x : Noted} → Outcome w (value x) → Placed w x
 outcome-value (of-value p) = p
 
 module _ (w : List ℕ) where
@@ -86,5 +86,5 @@ module _ (w : List ℕ) where
         (λ _. of-fault)
 
     -- the pieces of an accepted text stand where it says
-    pub text-places : (at : ℕ) (t : List ℕ) (x : Texts) → Here w at t → readText y at t ≡ value x → Placed w x
+    pub text-places : (at : ℕ) (t : List ℕ) (x : Noted) → Here w at t → readText y at t ≡ value x → Placed w x
     text-places at t x h e = outcome-value (rw e at (text-outcome at t h))

@@ -12,7 +12,8 @@ use Rattle.paper.specs.Bytes.{null}
 use Rattle.paper.specs.Accounts.{Account}
 use Rattle.paper.specs.Batch.{Item, Thing, aFile, aGroup, anItem, strange}
 use Rattle.paper.specs.Texts.{Piece}
-use Rattle.paper.specs.Rows.{textAt, thingIn, blanks, fileRow, groupRow, textWords, textsWords, itemRow}
+use Rattle.paper.specs.Entries.{Places}
+use Rattle.paper.specs.Rows.{textAt, thingIn, blanks, fileRow, groupRow, textWords, textsWords, itemRow, textSpots}
 use Rattle.rowlaws.specs.Sizes.{Small}
 use Rattle.rowlaws.specs.Places.{Here, Lies, Lie}
 use Rattle.rowlaws.proofs.Here.{here-in, here-inside}
@@ -227,13 +228,13 @@ module _ (f : List ℕ) (start : ℕ) (w : List ℕ) (here : Here f start w) (x 
         small = λ l m. line-small f x _ _ _ _ _ _ _ _ _ _ sa sb sc sd sn l m (k .payerIs) (k .payeeIs) (k .bankIs) (k .variableIs) (k .specificIs) (k .constantIs) (k .priorityIs);
       })
 
-  pub item-row : (spots : List ℕ) → KeptItem w x spots → Row f (itemRow start spots x) (anItem x)
-  item-row spots k =
+  pub item-row : (p : Places) → KeptItem w x p → Row f (itemRow start (textSpots p) x) (anItem x)
+  item-row p k =
       let q = four-of (k .texts .parts) (k .placed .four) in
       let l = subst (Lie w) (q .are) (k .placed .parts) in
       let n = k .texts .name in
       let ps : x .parts ≡ q .one .bytes ∷ q .two .bytes ∷ q .three .bytes ∷ q .four .bytes ∷ [] = k .partsAre ∙ ap (λ (l : List Piece). map (λ (p : Piece). p .bytes) l) (q .are) in
-      let os : spots ≡ q .one .place ∷ q .two .place ∷ q .three .place ∷ q .four .place ∷ n .place ∷ [] = k .spotsAre ∙ ap (λ (l : List Piece). map (λ (p : Piece). p .place) l ++ (n .place ∷ [])) (q .are) in
+      let os : textSpots p ≡ q .one .place ∷ q .two .place ∷ q .three .place ∷ q .four .place ∷ n .place ∷ [] = ap textSpots (k .placesAre) ∙ ap (λ (l : List Piece). map (λ (p : Piece). p .place) l ++ (n .place ∷ [])) (q .are) in
       rw os
       (subst (λ (y : Item). Row f (itemRow start (q .one .place ∷ q .two .place ∷ q .three .place ∷ q .four .place ∷ n .place ∷ []) y) (anItem y))
       (sym (made-is x _ _ ps (k .nameIs)))

@@ -3,7 +3,7 @@ use mathlib.Core.Path.{_≡_}
 use mathlib.Core.List.{List, [], _∷_}
 use Prim.Native.Nat.{ℕ}
 use lib.ListN.{length, take, drop}
-use Rattle.paper.specs.Texts.{Piece, Texts}
+use Rattle.paper.specs.Texts.{Piece, Noted}
 
 -- the bytes s stand in w from the place `at` on
 abbrev pub Here : List ℕ → ℕ → List ℕ → Type 0
@@ -19,7 +19,7 @@ Lie w [] = Unit {0}
 Lie w (p ∷ ps) = Lies w p × Lie w ps
 
 -- four parts and a name, each in its place
-pub record Placed (w : List ℕ) (x : Texts) : Type 0 where
+pub record Placed (w : List ℕ) (x : Noted) : Type 0 where
   pub four : length (x .parts) ≡ 4
   pub parts : Lie w (x .parts)
   pub name : Lies w (x .name)

@@ -7,9 +7,9 @@ use lib.ListN.{length}
 use Rattle.sheet.specs.declared.Sheet.{Sheet}
 use Rattle.paper.specs.Batch.{sum, things}
 use Rattle.paper.specs.Lines.{Line, linesOf}
-use Rattle.paper.specs.Entries.{Entry, head, file, group, item, closeGroup, closeFile, Said, got, no, Kind, headLine, fileLine, groupLine, itemLine, groupEnd, fileEnd, kindOf}
+use Rattle.paper.specs.Entries.{Entry, head, file, group, item, closeGroup, closeFile, Places, saying, Counted, got, no, counted, Kind, headLine, fileLine, groupLine, itemLine, groupEnd, fileEnd, kindOf, onHead, onFile, onGroup, onItem}
 use Rattle.paper.specs.Spells.{Context, readAs, differs, groupItems, fileItems}
-use Rattle.paper.specs.Judge.{InGroup, State, atFirst, atFile, atGroup, atItem, stop, seen, revOn, onHead, onFile, onGroup, onItem}
+use Rattle.paper.specs.Judge.{InGroup, State, atFirst, atFile, atGroup, atItem, stop, seen, revOn}
 use Rattle.paper.specs.Judge as judge
 use Rattle.paper.proofs.Lists.{empty-null, length-rev, items-rev}
 use Rattle.tally.specs.Tally.{brief}
@@ -77,7 +77,7 @@ module _ (sh : Sheet) (k at : ℕ) where
       let m : suc (length (y .groups)) ≡ length (y .groups) + 1 = omega arith in
       map-pick abs _ _ _ ∙ rw (s, n, d, r, m)
 
-  meets : (e : Entry) (v : ℕ) (q : List ℕ) (st : State) → abs (judge.meet sh k at e v q st) ≡ numbers.meet sh k at e v q (abs st)
+  meets : (e : Entry) (v : ℕ) (q : Places) (st : State) → abs (judge.meet sh k at (saying e v q) st) ≡ numbers.meet sh k at (saying e v q) (abs st)
   unfolding abs judge.meet numbers.meet onHead onFile onGroup onItem brief seen sum groupItems fileItems groupRows fileRows
   meets (head h) v q atFirst = refl
   meets (file n m) v q atFirst = refl
@@ -126,9 +126,9 @@ module _ (sh : Sheet) (k at : ℕ) where
   meets closeGroup v q (stop a) = refl
   meets closeFile v q (stop a) = refl
 
-  saids : (r : Said) (st : State) → abs (judge.onSaid sh k at r st) ≡ numbers.onSaid sh k at r (abs st)
+  saids : (r : Counted) (st : State) → abs (judge.onSaid sh k at r st) ≡ numbers.onSaid sh k at r (abs st)
   unfolding judge.onSaid numbers.onSaid abs brief
-  saids (got e v spots) st = meets e v spots st
+  saids (got t) st = meets (t .entry) (t .warnings) (t .places) st
   saids (no n off) st = refl
 
 module _ (sh : Sheet) (today k : ℕ) (t : Line) where
@@ -138,7 +138,7 @@ module _ (sh : Sheet) (today k : ℕ) (t : Line) where
       rw (
         map-pick abs (judge.isDue st kind),
         map-pick abs (judge.isFull sh st kind),
-        saids sh k (t .start) (readAs sh today (judge.contextOf st) kind (t .bytes)) st,
+        saids sh k (t .start) (counted (readAs sh today (judge.contextOf st) kind (t .bytes))) st,
         stops 15,
         stops 3,
         contexts sh today kind (t .bytes) st,

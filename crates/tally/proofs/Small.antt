@@ -1,7 +1,6 @@
 -- The numbers of the machine stay small: they are so before the first line, and each line keeps them so. Assumes nothing.
 use mathlib.Core.Path.{_≡_, sym}
 use mathlib.Core.Bool.{true, false}
-use mathlib.Core.List.{List}
 use Prim.Native.Nat.{ℕ, _+_, _≤_, _<_}
 use native.Mathlib.Omega.{arith}
 use lib.Dec.{eqb, leb}
@@ -14,9 +13,8 @@ use Rattle.sheet.proofs.Laws.{Sane}
 use Rattle.paper.specs.Lines.{Line}
 use Rattle.paper.specs.Accounts.{Account}
 use Rattle.paper.specs.Batch.{Item, Header}
-use Rattle.paper.specs.Entries.{head, file, group, item, closeGroup, closeFile, Said, Kind, fileLine, itemLine, groupEnd, kindOf}
+use Rattle.paper.specs.Entries.{head, file, group, item, closeGroup, closeFile, Places, saying, Counted, Kind, fileLine, itemLine, groupEnd, kindOf, onHead, onFile, onGroup, onItem}
 use Rattle.paper.specs.Spells.{differs}
-use Rattle.paper.specs.Judge.{onHead, onFile, onGroup, onItem}
 use Rattle.tally.specs.Tally.{Book, Shelf, Open, Tally, tFirst, tFile, tGroup, tItem, tStop, No, warned, groupMore, contextOf, isDue, isFull, closed, meet, onSaid, read, step}
 use Rattle.tally.specs.Small.{SmallFile, SmallGroup, SmallItem, Small, Limits}
 use Rattle.tally.proofs.Light.{Light, a-head, a-file, a-group, an-item, a-group-end, a-file-end, refused, line-light}
@@ -63,8 +61,8 @@ closed-small sh b s o some small = either Small _ (λ _. tt) (λ _. go)
           groups = omega arith;
         }
 
-module _ (sh : Sheet) (k at : ℕ) (p : List ℕ) where
-  head-small : (h : Header) (c : Tally) → Small (meet sh k at (head h) 0 p c)
+module _ (sh : Sheet) (k at : ℕ) (p : Places) where
+  head-small : (h : Header) (c : Tally) → Small (meet sh k at (saying (head h) 0 p) c)
   unfolding meet onHead onFile onGroup onItem Small
   head-small h tFirst = record { files = omega arith; items = omega arith; rows = omega arith; warnings = omega arith }
   head-small h (tFile b) = tt
@@ -72,7 +70,7 @@ module _ (sh : Sheet) (k at : ℕ) (p : List ℕ) where
   head-small h (tItem b s o) = tt
   head-small h (tStop a) = tt
 
-  file-small : (n m : ℕ) (c : Tally) → isFull sh c fileLine ≡ false → Small c → Small (meet sh k at (file n m) 0 p c)
+  file-small : (n m : ℕ) (c : Tally) → isFull sh c fileLine ≡ false → Small c → Small (meet sh k at (saying (file n m) 0 p) c)
   unfolding meet onHead onFile onGroup onItem Small
   file-small n m tFirst room small = tt
   file-small n m (tFile b) room small =
@@ -82,7 +80,7 @@ module _ (sh : Sheet) (k at : ℕ) (p : List ℕ) where
   file-small n m (tItem b s o) room small = tt
   file-small n m (tStop a) room small = tt
 
-  group-small : (y : Account) (t d v : ℕ) (c : Tally) → v ≤ 1 → Small c → Small (meet sh k at (group y t d) v p c)
+  group-small : (y : Account) (t d v : ℕ) (c : Tally) → v ≤ 1 → Small c → Small (meet sh k at (saying (group y t d) v p) c)
   unfolding meet onHead onFile onGroup onItem Small
   group-small y t d v tFirst one small = tt
   group-small y t d v (tFile b) one small = tt
@@ -100,7 +98,7 @@ module _ (sh : Sheet) (k at : ℕ) (p : List ℕ) where
   group-small y t d v (tStop a) one small = tt
 
   item-small : (x : Item) (v : ℕ) (c : Tally) → v ≤ 6 → x .amount ≤ 99999999999999 → isFull sh c itemLine ≡ false → Small c
-      → Small (meet sh k at (item x) v p c)
+      → Small (meet sh k at (saying (item x) v p) c)
   unfolding meet onHead onFile onGroup onItem Small
   item-small x v tFirst six most room small = tt
   item-small x v (tFile b) six most room small = tt
@@ -118,7 +116,7 @@ module _ (sh : Sheet) (k at : ℕ) (p : List ℕ) where
       }
   item-small x v (tStop a) six most room small = tt
 
-  group-end-small : (c : Tally) → isDue c groupEnd ≡ true → Small c → Small (meet sh k at closeGroup 0 p c)
+  group-end-small : (c : Tally) → isDue c groupEnd ≡ true → Small c → Small (meet sh k at (saying closeGroup 0 p) c)
   unfolding meet onHead onFile onGroup onItem Small
   group-end-small tFirst due small = tt
   group-end-small (tFile b) due small = tt
@@ -126,7 +124,7 @@ module _ (sh : Sheet) (k at : ℕ) (p : List ℕ) where
   group-end-small (tItem b s o) due small = closed-small sh b s o (some-item b s o due) small
   group-end-small (tStop a) due small = tt
 
-  file-end-small : (c : Tally) → Small c → Small (meet sh k at closeFile 0 p c)
+  file-end-small : (c : Tally) → Small c → Small (meet sh k at (saying closeFile 0 p) c)
   unfolding meet onHead onFile onGroup onItem Small
   file-end-small tFirst small = tt
   file-end-small (tFile b) small = tt
@@ -135,7 +133,7 @@ module _ (sh : Sheet) (k at : ℕ) (p : List ℕ) where
   file-end-small (tItem b s o) small = tt
   file-end-small (tStop a) small = tt
 
-said-small : (sh : Sheet) (k at : ℕ) {kind : Kind} {r : Said} (c : Tally) → Light kind r → isDue c kind ≡ true → isFull sh c kind ≡ false → Small c
+said-small : (sh : Sheet) (k at : ℕ) {kind : Kind} {r : Counted} (c : Tally) → Light kind r → isDue c kind ≡ true → isFull sh c kind ≡ false → Small c
     → Small (onSaid sh k at r c)
 unfolding onSaid
 said-small sh k at c a-head due room small = head-small sh k at _ _ c

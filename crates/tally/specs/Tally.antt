@@ -10,10 +10,10 @@ use Rattle.sheet.specs.declared.Sheet.{Sheet}
 use Rattle.paper.specs.Accounts.{isNobody}
 use Rattle.paper.specs.Batch.{Header, things}
 use Rattle.paper.specs.Lines.{Line, linesOf}
-use Rattle.paper.specs.Entries.{Entry, Said, got, no, Kind, headLine, fileLine, groupLine, itemLine, groupEnd, fileEnd, kindOf}
+use Rattle.paper.specs.Entries.{Saying, Counted, got, no, counted, Kind, headLine, fileLine, groupLine, itemLine, groupEnd, fileEnd, kindOf, onHead, onFile, onGroup, onItem}
 use Rattle.paper.specs.FileLine.{series}
 use Rattle.paper.specs.Spells.{Context, forHead, forFile, forGroup, forItem, readAs, differs}
-use Rattle.paper.specs.Judge.{Answer, Refused, Accepted, is, totalBroken, firstOr0, onHead, onFile, onGroup, onItem}
+use Rattle.paper.specs.Judge.{Answer, Refused, Accepted, is, totalBroken}
 
 -- the judge's answer in brief: number, line and byte; or the header and the counts of rows and warnings
 pub data Brief : Type 0 where
@@ -115,20 +115,23 @@ closed sh b s o v =
     (tStop (No 10 (o .line) (o .byte)))
     (tGroup (warned b (v + differs (o .total) (o .sum))) (groupMore s))
 
-unfoldable pub meet : Sheet → ℕ → ℕ → Entry → ℕ → List ℕ → Tally → Tally
-meet sh k at e v spots tFirst = onHead e (λ h. tFile (newBook h v)) (tStop (No 3 k at))
-meet sh k at e v spots (tFile b) = onFile e (λ kind number. tGroup (moreFile b number v) noShelf) (tStop (No 3 k at))
-meet sh k at e v spots (tGroup b s) =
-    onGroup e
-    (λ payer total date. tItem (moreGroup b v) s (opened (isNobody payer) total k (at + firstOr0 spots)))
-    (tFile (warned b v))
+unfoldable pub meet : Sheet → ℕ → ℕ → Saying ℕ → Tally → Tally
+meet sh k at t tFirst = onHead (t .entry) (λ h. tFile (newBook h (t .warnings))) (tStop (No 3 k at))
+meet sh k at t (tFile b) = onFile (t .entry) (λ kind number. tGroup (moreFile b number (t .warnings)) noShelf) (tStop (No 3 k at))
+meet sh k at t (tGroup b s) =
+    onGroup (t .entry)
+    (λ payer total date. tItem (moreGroup b (t .warnings)) s (opened (isNobody payer) total k (at + t .places .total)))
+    (tFile (warned b (t .warnings)))
     (tStop (No 3 k at))
-meet sh k at e v spots (tItem b s o) =
-    onItem e (λ x. tItem (moreItem b v) (itemMore s) (added o (x .amount))) (closed sh b s o v) (tStop (No 3 k at))
-meet sh k at e v spots (tStop a) = tStop a
+meet sh k at t (tItem b s o) =
+    onItem (t .entry)
+    (λ x. tItem (moreItem b (t .warnings)) (itemMore s) (added o (x .amount)))
+    (closed sh b s o (t .warnings))
+    (tStop (No 3 k at))
+meet sh k at t (tStop a) = tStop a
 
-unfoldable pub onSaid : Sheet → ℕ → ℕ → Said → Tally → Tally
-onSaid sh k at (got e v spots) c = meet sh k at e v spots c
+unfoldable pub onSaid : Sheet → ℕ → ℕ → Counted → Tally → Tally
+onSaid sh k at (got t) c = meet sh k at t c
 onSaid sh k at (no n off) c = tStop (No n k (at + off))
 
 unfoldable pub read : Sheet → ℕ → ℕ → Line → Kind → Tally → Tally
@@ -136,7 +139,7 @@ read sh today k t kind c =
     pick (isDue c kind)
     (pick (isFull sh c kind)
     (tStop (No 15 k (t .start)))
-    (onSaid sh k (t .start) (readAs sh today (contextOf c) kind (t .bytes)) c))
+    (onSaid sh k (t .start) (counted (readAs sh today (contextOf c) kind (t .bytes))) c))
     (tStop (No 3 k (t .start)))
 
 unfoldable pub step : Sheet → ℕ → ℕ → Line → Tally → Tally

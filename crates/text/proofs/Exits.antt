@@ -1,5 +1,5 @@
 -- The ways out of the functions that read a text. Assumes nothing.
-use mathlib.Core.Path.{_≡_, refl, sym, _∙_}
+use mathlib.Core.Path.{_≡_, refl, sym, ap, _∙_}
 use mathlib.Core.Bool.{Bool, true, false}
 use mathlib.Core.List.{List, []}
 use Prim.Native.Nat.{ℕ, _+_, _-_, _≤_, _<_}
@@ -16,8 +16,8 @@ use Rattle.base.proofs.Lists.{drop-take}
 use Rattle.sheet.specs.declared.Style.{Style}
 use Rattle.paper.specs.Read.{Field, fault}
 use Rattle.paper.specs.Bytes.{isText, av, np, mark, null}
-use Rattle.paper.specs.Texts.{Piece, piece, Texts, others, divide, cut, over, opens, finish, messageEnd, message, marked, readText}
-use Rattle.text.specs.Told.{told, Inside, Tells}
+use Rattle.paper.specs.Texts.{Piece, piece, Noted, others, divide, cut, over, opens, finish, messageEnd, message, marked, readText}
+use Rattle.text.specs.Told.{countText, told, Inside, Tells}
 use Rattle.text.specs.Begun.{ofText, meant, Begins}
 use Rattle.text.specs.Finish.{finishOne, finishAt, nameAt}
 use Rattle.text.specs.declared.Begun.{Begun}
@@ -131,23 +131,24 @@ pub ruleset beginnings = (begun-name, av-long, begun-av, begun-may, begun-none, 
 
 -- read_text: b is what all_text answered, q what begin_text did
 module _ (y : Style) (s : List ℕ) (from : ℕ) (h : from ≤ length s) (b : Bool) (g : b ≡ all isText (drop from s)) where
-  pub read-bytes : b ≡ false → fault 4 ≡ readText y from (drop from s)
-  unfolding readText
-  read-bytes e = sym (pick-false _ _ (sym g ∙ e))
+  pub read-bytes : b ≡ false → fault 4 ≡ countText (readText y from (drop from s))
+  unfolding readText countText
+  read-bytes e = ap countText (sym (pick-false _ (fault 4) (sym g ∙ e)))
 
   module _ (e : b ≡ true) (q : Begun) (t : Begins y s from q (ofText y from (drop from s))) where
     begun-read : meant y s from q ≡ readText y from (drop from s)
     unfolding readText
     begun-read = t .means ∙ sym (pick-true _ _ (sym g ∙ e))
 
-    pub read-refused : (n : ℕ) → q ≡ begun.Refused n → fault n ≡ readText y from (drop from s)
-    read-refused n k = rw k at begun-read
+    pub read-refused : (n : ℕ) → q ≡ begun.Refused n → fault n ≡ countText (readText y from (drop from s))
+    unfolding countText
+    read-refused n k = ap countText (rw k at begun-read)
 
     pub message-within : (at : ℕ) → q ≡ begun.Message at → at ≤ length s
     message-within at k = rw k at (t .room)
 
-    pub read-message : (at : ℕ) (r : TextRead) → q ≡ begun.Message at → Tells s r (message y at (drop at s)) → told s r ≡ readText y from (drop from s)
-    read-message at r k u = u .says ∙ (rw k at begun-read)
+    pub read-message : (at : ℕ) (r : TextRead) → q ≡ begun.Message at → Tells s r (message y at (drop at s)) → told s r ≡ countText (readText y from (drop from s))
+    read-message at r k u = u .says ∙ ap countText (rw k at begun-read)
 
     module _ (k : q ≡ begun.Name) where
       pub name-within : from + 3 ≤ length s
@@ -168,13 +169,13 @@ module _ (y : Style) (s : List ℕ) (from : ℕ) (h : from ≤ length s) (b : Bo
           (rw (m, take-all (length s - from - 3) (drop (from + 3) s) n) (rw k at begun-read))
           (finish-right y small s (take from s) from refl from (omega arith) (from + 3) (length s - from - 3) (omega (arith, name-within)))
 
-      pub read-name : y .most ≤ 4 → (r : TextRead) → r ≡ finishOne y from 0 (from + 3) (length s - from - 3) → told s r ≡ readText y from (drop from s)
+      pub read-name : y .most ≤ 4 → (r : TextRead) → r ≡ finishOne y from 0 (from + 3) (length s - from - 3) → told s r ≡ countText (readText y from (drop from s))
       read-name small r w = name-tells small r w .says
 
       pub inside-name : y .most ≤ 4 → (r : TextRead) → r ≡ finishOne y from 0 (from + 3) (length s - from - 3) → Inside s r
       inside-name small r w = name-tells small r w .inside
 
-pub tells-inside : (s : List ℕ) (r : TextRead) (x : Field Texts) → Tells s r x → Inside s r
+pub tells-inside : (s : List ℕ) (r : TextRead) (x : Field Noted) → Tells s r x → Inside s r
 tells-inside s r x t = t .inside
 
 pub ruleset outs = (read-bytes, read-refused, message-within, read-message, name-within, name-long, read-name, inside-name, tells-inside)

@@ -27,7 +27,7 @@ ghost use Rattle.base.specs.Seek.{starts, seek};
 ghost use Rattle.paper.specs.Bytes.{np, mark};
 ghost use Rattle.paper.specs.Texts.{opens, messageEnd, message, marked, readText};
 ghost use Rattle.text.specs.span.Places.{partAt};
-ghost use Rattle.text.specs.Told.{told, Inside, Tells};
+ghost use Rattle.text.specs.Told.{countText, told, Inside, Tells};
 ghost use Rattle.text.specs.Begun.{ofText, Begins};
 ghost use Rattle.text.specs.Finish.{judged, finishOne, finishAt, nameAt};
 
@@ -226,7 +226,7 @@ pub fn begin_text(y: Style, s: &[u8], from: usize) -> Begun
 pub fn read_text(y: Style, s: &[u8], from: usize) -> TextRead
     requires { ⌜ y .most ≤ 4 ⌝ }
     requires { ⌜ from ≤ length (now s) ⌝ }
-    ensures { λ r. ⌜ told (now (s .entry)) r ≡ readText y from (drop from (now (s .entry))) ⌝ }
+    ensures { λ r. ⌜ told (now (s .entry)) r ≡ countText (readText y from (drop from (now (s .entry)))) ⌝ }
     ensures { λ r. ⌜ Inside (now (s .entry)) r ⌝ }
 {
     if all_text(s, from) {

@@ -2,9 +2,10 @@
 use mathlib.Core.Path.{_≡_, refl, sym, ap, _∙_}
 use mathlib.Core.Bool.{Bool, true, false}
 use mathlib.Core.List.{List, [], _∷_}
-use Prim.Native.Nat.{ℕ, _+_}
+use Prim.Native.Nat.{ℕ}
 use native.Mathlib.Omega.{arith}
 use lib.Dec.{eqb}
+use lib.ListN.{length, length-append}
 use Rattle.base.specs.Pick.{pick}
 use Rattle.base.proofs.Cases.{either, either-way, pick-not, pick-false}
 use Rattle.base.proofs.Seek.{never}
@@ -13,10 +14,11 @@ use Rattle.paper.specs.Read.{Field, value, fault}
 use Rattle.paper.specs.Accounts.{Account, nobody}
 use Rattle.paper.specs.Amounts.{readTotal}
 use Rattle.paper.specs.BankField.{readBank}
+use Rattle.paper.specs.Warnings.{pastDay, lowPriority, Notice, notices}
 use Rattle.paper.specs.Days.{dueWarnings}
 use Rattle.paper.specs.Batch.{Header, noHeader}
-use Rattle.paper.specs.Texts.{Texts, readText}
-use Rattle.paper.specs.Entries.{Entry, head, file, group, item, closeGroup, closeFile, Said, got, onField, field, Kind, headLine, fileLine, groupLine, itemLine, groupEnd, fileEnd, kindOf}
+use Rattle.paper.specs.Texts.{Noted, readText}
+use Rattle.paper.specs.Entries.{Entry, head, file, group, item, closeGroup, closeFile, Places, Listed, said, plain, onField, field, Kind, headLine, fileLine, groupLine, itemLine, groupEnd, fileEnd, kindOf}
 use Rattle.paper.specs.FirstLine.{readFirst}
 use Rattle.paper.specs.FileLine.{numberFault, numberAllowed, readFile}
 use Rattle.paper.specs.GroupLine.{hasPayer, totalAndDate, readGroup}
@@ -24,11 +26,12 @@ use Rattle.paper.specs.ItemLine.{isValue, readSymbol, fixedTail, afterSymbol, o
 use Rattle.paper.specs.ClosingLine.{plusAt, readClose}
 use Rattle.paper.specs.Spells.{Numbers, anyNumber, after, Context, numberTest, readAs, readLine}
 use Rattle.uncut.specs.Wider.{Heads, read-alike, read-none, TextsOf, Wider}
+use Rattle.paper.proofs.Passing.{same-parts}
 use Rattle.uncut.proofs.Tests.{same-test, easier, besides}
 use Rattle.uncut.proofs.Takes.{Takes, alike}
 use Rattle.uncut.proofs.Fields.{kind-takes, code-takes, number-takes, account-takes, payer-takes, due-takes, amount-takes, item-amount-takes}
 use Rattle.uncut.proofs.Texts.{text-takes}
-use Rattle.uncut.proofs.Kept.{turned, Kept, said-kept, refused-kept, same-kept, field-kept, on-gone, place-gone, gap-kept, end-kept}
+use Rattle.uncut.proofs.Kept.{turned, Kept, said-kept, refused-kept, same-kept, field-kept, on-gone, place-gone, gap-kept, end-kept, counted-kept}
 
 -- what becomes of the numbers that account files may have, where headers are turned
 abbrev turnedNumbers : (Header → Header) → Numbers → Numbers
@@ -55,20 +58,20 @@ same-number : (interval interval′ : Bool) (h g : Header) (seen : List ℕ) (n 
 same-number interval interval′ h g seen n i e q = rw (← i, e) q
 
 module _ (Only : Entry → ℕ → Type 0) (turn : Header → Header) (a b : Sheet) (wider : Wider Only turn a b) where
-  abbrev K : Said → Said → Type 0
+  abbrev K : Listed → Listed → Type 0
   K = Kept Only turn
 
   -- ---- the first line
 
-  none-kept : (h : Header) → turn h ≡ noHeader → K (got (head h) 0 []) (got (head noHeader) 0 [])
-  none-kept h t = record { keeps = λ e w spots o q. ap (λ (g : Header). got (head g) 0 []) (sym t) ∙ said-kept {Only = Only} {turn = turn} (head h) refl .keeps e w spots o q }
+  none-kept : (h : Header) → turn h ≡ noHeader → K (plain (head h)) (plain (head noHeader))
+  none-kept h t = record { keeps = λ e w p o q. ap (λ (g : Header). plain (head g)) (sym t) ∙ said-kept {Only = Only} {turn = turn} (head h) refl .keeps e w p o q }
 
   first-kept : Heads turn a b → (s : List ℕ) → K (readFirst a s) (readFirst b s)
   unfolding readFirst
   first-kept (read-alike t h short i) s = rw (h, short, i) (same-kept t)
   first-kept (read-none t off i) s =
-      rw (pick-false _ (got (head noHeader) 0 []) off)
-      (either (λ r. K r (got (head noHeader) 0 [])) (a .header)
+      rw (pick-false _ (plain (head noHeader)) off)
+      (either (λ r. K r (plain (head noHeader))) (a .header)
       (λ _. place-gone 6 _ _ _ λ date a1 s1. place-gone 20 _ _ _ λ name a2 s2. place-gone 10 _ _ _ λ client a3 s3. place-gone 3 _ _ _ λ from a4 s4.
       place-gone 3 _ _ _ λ to a5 s5. on-gone _ _ λ rest. none-kept _ (t _))
       (λ _. none-kept noHeader (t noHeader)))
@@ -103,7 +106,7 @@ module _ (Only : Entry → ℕ → Type 0) (turn : Header → Header) (a b : She
       field-kept _ _ (total-takes (a .comma) (b .comma) (wider .comma)) at s λ total a1 s1.
       gap-kept a1 s1 λ a2 s2.
       field-kept _ _ (due-takes _ _ (wider .early) _ _ (wider .ahead) today _ _ (wider .long)) a2 s2 λ date a3 s3.
-      end-kept a3 s3 (said-kept (group payer total date) (ap (λ (warns : Bool). dueWarnings warns today date) (wider .past)))
+      end-kept a3 s3 (said-kept (group payer total date) (ap (λ (warns : Bool). notices pastDay a2 (dueWarnings warns today date)) (wider .past)))
 
   group-kept : (today : ℕ) (s : List ℕ) → K (readGroup a today s) (readGroup b today s)
   unfolding readGroup
@@ -116,19 +119,19 @@ module _ (Only : Entry → ℕ → Type 0) (turn : Header → Header) (a b : She
 
   -- ---- an item
 
-  module _ {k : ℕ → Texts → Said} (own : (specific : ℕ) (t : Texts) → K (k specific t) (k specific t))
-      (through : (specific : ℕ) (t : Texts) (e : Entry) (w : ℕ) (spots : List ℕ) → Only e w → k specific t ≡ got e w spots → TextsOf Only t) where
+  module _ {k : ℕ → Noted → Listed} (own : (specific : ℕ) (t : Noted) → K (k specific t) (k specific t))
+      (through : (specific : ℕ) (t : Noted) (e : Entry) (w : List Notice) (p : Places) → Only e (length w) → k specific t ≡ said e w p → TextsOf Only t) where
     text-kept : (specific at : ℕ) (s : List ℕ) → K (onField at (readText (a .text) at s) (k specific)) (onField at (readText (b .text) at s) (k specific))
     unfolding onField
     text-kept specific at s = kept (readText (a .text) at s) refl
       where
-        kept : (x : Field Texts) → readText (a .text) at s ≡ x → K (onField at x (k specific)) (onField at (readText (b .text) at s) (k specific))
+        kept : (x : Field Noted) → readText (a .text) at s ≡ x → K (onField at x (k specific)) (onField at (readText (b .text) at s) (k specific))
         kept (value t) r =
             record {
               keeps =
-                  λ e w spots o q.
-                  let on = through specific t e w spots o q in
-                  rw (text-takes (TextsOf Only) (a .text) (b .text) (wider .texts) at s t on r) (own specific t .keeps e w spots o q);
+                  λ e w p o q.
+                  let on = through specific t e w p o q in
+                  rw (text-takes (TextsOf Only) (a .text) (b .text) (wider .texts) at s t on r) (own specific t .keeps e w p o q);
             }
         kept (fault n) r = refused-kept
 
@@ -142,7 +145,7 @@ module _ (Only : Entry → ℕ → Type 0) (turn : Header → Header) (a b : She
     after-kept specific at [] = own specific _
     after-kept specific at (x ∷ s) = text-kept specific _ s
 
-    no-symbol : (at : ℕ) (x : Field ℕ) (l : ℕ → Said) {q : Said} → isValue x ≡ false → K (onField at x l) q
+    no-symbol : (at : ℕ) (x : Field ℕ) (l : ℕ → Listed) {q : Listed} → isValue x ≡ false → K (onField at x l) q
     unfolding onField isValue
     no-symbol at (value v) l e = never e
     no-symbol at (fault n) l e = refused-kept
@@ -171,14 +174,15 @@ module _ (Only : Entry → ℕ → Type 0) (turn : Header → Header) (a b : She
       field-kept _ _ (bank-takes _ _ (wider .priority)) a6 s6 λ bank a7 s7.
       tail-kept
       (λ specific t. said-kept (item (itemOf payer payee amount variable specific bank t)) refl)
-      (λ specific t e w spots o q.
+      (λ specific t e w p o q.
+      let (z, n, _) = same-parts q in
       record {
         of = itemOf payer payee amount variable specific bank t;
-        warned = w;
-        only = (let z : e ≡ item (itemOf payer payee amount variable specific bank t) = cc in rw z at o);
+        warned = length w;
+        only = (rw (← z) at o);
         parts = refl;
         name = refl;
-        warnings = (let z : bank .warnings + t .warnings ≡ w = cc in omega arith);
+        warnings = omega (arith, ap length n, length-append (notices lowPriority a6 (bank .warnings)) (t .warnings));
       })
       a7 s7
 
@@ -212,6 +216,7 @@ module _ (Only : Entry → ℕ → Type 0) (turn : Header → Header) (a b : She
     as-kept groupEnd s = close-kept closeGroup s
     as-kept fileEnd s = close-kept closeFile s
 
-    pub line-kept : (s : List ℕ) → K (readLine a today c s) (readLine b today (turnedIn turn c) s)
+    pub line-kept : (s : List ℕ) (e : Entry) (w : ℕ) (p : Places) → Only e w → readLine a today c s ≡ said e w p
+        → readLine b today (turnedIn turn c) s ≡ said (turned turn e) w p
     unfolding readLine
-    line-kept s = as-kept (kindOf s) s
+    line-kept s = counted-kept (readAs a today c (kindOf s) s) (readAs b today (turnedIn turn c) (kindOf s) s) (as-kept (kindOf s) s)

@@ -1,11 +1,12 @@
 -- What is accepted without a warning: nothing in it was cut, and its totals are exact. For any sheet and any day. Assumes nothing.
-use mathlib.Core.Path.{_≡_, refl, sym}
+use mathlib.Core.Path.{_≡_, refl, sym, _∙_}
 use mathlib.Core.Bool.{Bool, true}
 use mathlib.Core.List.{List, [], _∷_}
 use Prim.Native.Nat.{ℕ, _+_}
 use native.Mathlib.Omega.{arith}
 use lib.Dec.{eqb}
-use borrow.Author.Tests.{eqb-true}
+use lib.ListN.{length}
+use borrow.Author.Tests.{eqb-true, eq-eqb}
 use Rattle.base.specs.Pick.{pick}
 use Rattle.base.proofs.Cases.{by-test}
 use Rattle.base.proofs.Seek.{never}
@@ -17,6 +18,7 @@ use Rattle.paper.specs.Batch.{Batch, Header}
 use Rattle.paper.specs.Entries.{Entry, group}
 use Rattle.paper.specs.Spells.{Due, differs, dues}
 use Rattle.paper.specs.Judge.{Accepted, judge}
+use Rattle.paper.proofs.Lists.{empty-null, null-none}
 use Rattle.uncut.specs.Wider.{read-alike, named-alike, WiderStyle, TextsOf, Wider, Throughout}
 use Rattle.uncut.specs.Severe.{uncutting, restyled, severe}
 use Rattle.uncut.proofs.Walk.{taken-too}
@@ -80,7 +82,7 @@ module _ (sh : Sheet) where
   silent-wider : Wider Silent (λ h. h) sh (severe sh)
   silent-wider =
       restyled-wider Silent sh (sh .text) (uncutting (sh .text)) (sh .strict) true
-      (record { av = refl; may = λ e. e; names = named-alike refl; most = omega arith; cuts = λ t on _ _. omega (arith, on .only, on .warnings) })
+      (record { av = refl; may = λ e. e; names = named-alike refl; most = omega arith; cuts = λ t on _ _. null-none (t .warnings) (sym (empty-null (t .warnings)) ∙ eq-eqb (length (t .warnings)) 0 (omega (arith, on .only, on .warnings))) })
       (λ payer total sum date v o. (omega arith, λ _ _. same-total total sum (omega arith)))
 
   -- and all that is read there is read here

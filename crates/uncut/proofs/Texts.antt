@@ -1,22 +1,24 @@
 -- A text: what the narrower style reads, of what is let through, the wider one reads alike. Assumes nothing.
 use mathlib.Core.Path.{_≡_, refl, sym, ap, subst, _∙_}
 use mathlib.Core.Bool.{Bool, true, false}
-use mathlib.Core.List.{List, [], _∷_, map}
+use mathlib.Core.List.{List, [], _∷_, _++_, map, append-eq-nil-iff}
 use Prim.Native.Nat.{ℕ, _+_, _≤_}
 use native.Mathlib.Omega.{arith}
 use lib.Dec.{eqb, ltb}
 use lib.ListN.{length, take, drop}
 use lib.Seq.{take-length}
-use borrow.Author.Tests.{eqb-true, eq-eqb, ne-eqb, ltb-false, le-ltb}
+use borrow.Author.Tests.{eqb-true, ne-eqb, ltb-false, le-ltb}
 use Rattle.base.specs.Pick.{pick}
 use Rattle.base.specs.Seek.{starts, seek, Free}
 use Rattle.base.proofs.Cases.{by-test, either-way, pick-same, pick-true, pick-false}
 use Rattle.base.proofs.Seek.{never}
 use Rattle.sheet.specs.declared.Style.{Style}
 use Rattle.paper.specs.Read.{Field, value, fault}
-use Rattle.paper.specs.Bytes.{mark, np, av}
-use Rattle.paper.specs.Texts.{Piece, piece, Texts, divide, cut, over, overs, pad, finish, messageEnd, message, marked, readText}
+use Rattle.paper.specs.Warnings.{longName, Notice}
+use Rattle.paper.specs.Bytes.{mark, np, av, null}
+use Rattle.paper.specs.Texts.{Piece, piece, Noted, divide, cut, over, overs, cuts, pad, finish, messageEnd, message, marked, readText}
 use Rattle.paper.specs.ItemLine.{partBytes}
+use Rattle.paper.proofs.Lists.{null-none}
 use Rattle.uncut.specs.Wider.{Unmarked, Names, named-alike, named-more, WiderStyle}
 use Rattle.uncut.proofs.Tests.{same-test, easier, besides}
 use Rattle.uncut.proofs.Takes.{TakesOn, refused}
@@ -25,36 +27,36 @@ use Rattle.uncut.proofs.Unmarked.{pieces-free}
 -- ---- parts and name as found
 
 -- the texts that they make
-abbrev made : List Piece → Piece → Texts
-made ps n = record { parts = pad 4 (map cut ps); name = cut n; warnings = overs ps + over n }
+abbrev made : List Piece → Piece → Noted
+made ps n = record { parts = pad 4 (map cut ps); name = cut n; warnings = cuts ps n }
 
 -- a style takes them, as these texts
-record Finished (y : Style) (ps : List Piece) (n : Piece) (t : Texts) : Type 0 where
+record Finished (y : Style) (ps : List Piece) (n : Piece) (t : Noted) : Type 0 where
   few : length ps ≤ y .most
-  fits : pick (y .cuts) true (eqb (overs ps + over n) 0) ≡ true
+  fits : pick (y .cuts) true (null (cuts ps n)) ≡ true
   is : made ps n ≡ t
 
-module _ (y : Style) (ps : List Piece) (n : Piece) (t : Texts) where
+module _ (y : Style) (ps : List Piece) (n : Piece) (t : Noted) where
   finish-only : finish y ps n ≡ value t → Finished y ps n t
   unfolding finish pick
   finish-only e =
       by-test (ltb (y .most) (length ps))
       (λ many. absurd (let q : fault 14 ≡ value t = rw many at e in let z : _≡_ {A = ℕ} 0 1 = cc in omega arith))
-      (λ few. by-test (pick (y .cuts) true (eqb (overs ps + over n) 0))
+      (λ few. by-test (pick (y .cuts) true (null (cuts ps n)))
       (λ fits. let q : value (made ps n) ≡ value t = rw (few, fits) at e in record { few = ltb-false (y .most) (length ps) few; fits = fits; is = cc })
       (λ long. absurd (let q : fault 14 ≡ value t = rw (few, long) at e in let z : _≡_ {A = ℕ} 0 1 = cc in omega arith)))
 
   finish-also : Finished y ps n t → finish y ps n ≡ value t
   unfolding finish
   finish-also f =
-      pick-false _ _ (le-ltb (y .most) (length ps) (f .few)) ∙ pick-true _ _ (f .fits) ∙ ap (λ (x : Texts). value x) (f .is)
+      pick-false _ _ (le-ltb (y .most) (length ps) (f .few)) ∙ pick-true _ _ (f .fits) ∙ ap (λ (x : Noted). value x) (f .is)
 
 -- a text that is too long is taken where it is cut, or where it is not too long
-fits-too : (cuts cuts′ : Bool) (w : ℕ) → (cuts ≡ true → cuts′ ≡ false → w ≡ 0) → pick cuts true (eqb w 0) ≡ true → pick cuts′ true (eqb w 0) ≡ true
-unfolding pick
-fits-too cuts true w h e = refl
-fits-too true false w h e = eq-eqb w 0 (h refl refl)
-fits-too false false w h e = e
+fits-too : (may may′ : Bool) (l : List Notice) → (may ≡ true → may′ ≡ false → l ≡ []) → pick may true (null l) ≡ true → pick may′ true (null l) ≡ true
+unfolding pick null
+fits-too may true l h e = refl
+fits-too true false l h e = rw (h refl refl)
+fits-too false false l h e = e
 
 -- a name alone is no message
 np-not-av : (t : List ℕ) → starts np t ≡ true → starts av t ≡ false
@@ -65,12 +67,12 @@ np-not-av (x ∷ t) e =
 
 -- ---- the readings of two styles
 
-module _ (On : Texts → Type 0) where
-  abbrev Reads : Field Texts → Field Texts → Type 0
+module _ (On : Noted → Type 0) where
+  abbrev Reads : Field Noted → Field Noted → Type 0
   Reads = TakesOn On
 
   -- a text that begins `NP:`, where a message begins `AV:`
-  not-begun : (t : List ℕ) → starts np t ≡ true → (may : Bool) → may ≡ false → (x w : Field Texts) {r : Field Texts}
+  not-begun : (t : List ℕ) → starts np t ≡ true → (may : Bool) → may ≡ false → (x w : Field Noted) {r : Field Noted}
       → Reads (pick (starts av t) x (pick may w (fault 14))) r
   unfolding pick
   not-begun t e may off x w = rw (np-not-av t e, off) refused
@@ -85,7 +87,7 @@ module _ (On : Texts → Type 0) where
               finish-also z ps n t
               (record {
                 few = omega (arith, f .few, wider .most);
-                fits = fits-too (y .cuts) (z .cuts) _ (λ c d. ap (λ (x : Texts). x .warnings) (f .is) ∙ wider .cuts t on c d) (f .fits);
+                fits = fits-too (y .cuts) (z .cuts) _ (λ c d. ap (λ (x : Noted). x .warnings) (f .is) ∙ wider .cuts t on c d) (f .fits);
                 is = f .is;
               });
         }
@@ -96,17 +98,17 @@ module _ (On : Texts → Type 0) where
       ends-takes e = rw e (finish-takes _ _)
 
       -- the parts are let through, so the message ends where the line does on both sheets
-      no-name : y .names ≡ false → y .cuts ≡ false → y .most ≤ 4 → (t : Texts) → Unmarked (partBytes t) → message y at m ≡ value t
+      no-name : y .names ≡ false → y .cuts ≡ false → y .most ≤ 4 → (t : Noted) → Unmarked (partBytes t) → message y at m ≡ value t
           → messageEnd y m ≡ messageEnd z m
       unfolding message messageEnd
-      no-name names cuts most t u e =
+      no-name names uncut most t u e =
           let end : messageEnd y m ≡ length m = pick-false _ _ names in
           let front = take (messageEnd y m) m in
           let f = finish-only y (divide at front) _ t e in
           let few : length (divide at front) ≤ 4 = omega (arith, f .few) in
-          let none : overs (divide at front) + over (piece (at + (messageEnd y m + 4)) (drop (messageEnd y m + 4) m)) ≡ 0 =
-          eqb-true _ 0 (sym (pick-false _ _ cuts) ∙ f .fits) in
-          let free : Free mark front = pieces-free at front 4 few (omega arith) (subst (λ (x : Texts). Unmarked (partBytes x)) (sym (f .is)) u) in
+          let name = over longName (piece (at + (messageEnd y m + 4)) (drop (messageEnd y m + 4) m)) in
+          let none : overs (divide at front) ++ name ≡ [] = null-none _ (sym (pick-false _ _ uncut) ∙ f .fits) in
+          let free : Free mark front = pieces-free at front 4 few (append-eq-nil-iff {p = overs (divide at front)} {q = name} .0 none .0) (subst (λ (x : Noted). Unmarked (partBytes x)) (sym (f .is)) u) in
           let all : front ≡ m = ap (λ (k : ℕ). take k m) end ∙ take-length m in
           let sought : seek mark m ≡ length m = rw all at free in
           end ∙ sym (ap (λ (k : ℕ). pick (z .names) k (length m)) sought ∙ pick-same (z .names) (length m))
@@ -132,7 +134,7 @@ module _ (On : Texts → Type 0) where
         besides Reads (y .names) (z .names) (starts np t) (λ _. on) (finish-takes _ _) (begun-takes at t)
         (λ e. not-begun t e (y .may) may _ _)
 
-    pub text-takes : (at : ℕ) (s : List ℕ) (t : Texts) → On t → readText y at s ≡ value t → readText z at s ≡ value t
+    pub text-takes : (at : ℕ) (s : List ℕ) (t : Noted) → On t → readText y at s ≡ value t → readText z at s ≡ value t
     unfolding readText
     text-takes at s =
         either-way Reads _

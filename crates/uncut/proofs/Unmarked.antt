@@ -1,7 +1,7 @@
 -- A message whose parts, uncut, hold no ` NP:` holds none itself. Assumes nothing.
 use mathlib.Core.Path.{_≡_, refl, sym, _∙_}
 use mathlib.Core.Bool.{true, false, not}
-use mathlib.Core.List.{List, [], _∷_, map}
+use mathlib.Core.List.{List, [], _∷_, map, append-eq-nil-iff, cons-ne-nil}
 use Prim.Native.Nat.{ℕ, zero, suc, _+_, _≤_}
 use native.Mathlib.Omega.{arith}
 use lib.Dec.{eqb, ltb}
@@ -12,6 +12,7 @@ use Rattle.base.specs.Pick.{pick}
 use Rattle.base.specs.Seek.{all, starts, seek, before, Free}
 use Rattle.base.proofs.Cases.{by-test, pick-false}
 use Rattle.base.proofs.Seek.{all-head, all-tail, free-starts, free-tail, free-cons}
+use Rattle.paper.specs.Warnings.{Warning, longPart, notice}
 use Rattle.paper.specs.Bytes.{bar, mark, null}
 use Rattle.paper.specs.Texts.{Piece, piece, others, divide, cut, over, overs, pad}
 use Rattle.uncut.specs.Wider.{Unmarked}
@@ -22,19 +23,21 @@ bytesOf ps = map (λ (p : Piece). p .bytes) ps
 
 -- ---- parts that were not cut
 
-whole-cut : (at : ℕ) (s : List ℕ) → over (piece at s) ≡ 0 → cut (piece at s) .bytes ≡ s
+whole-cut : (w : Warning) (at : ℕ) (s : List ℕ) → over w (piece at s) ≡ [] → cut (piece at s) .bytes ≡ s
 unfolding over cut null pick
-whole-cut at [] e = refl
-whole-cut at (x ∷ s) e =
+whole-cut w at [] e = refl
+whole-cut w at (x ∷ s) e =
     by-test (ltb 35 (length (x ∷ s)))
-    (λ l. absurd (let z : _≡_ {A = ℕ} 1 0 = rw l at e in omega arith))
+    (λ l. absurd (cons-ne-nil (notice w at) [] (rw l at e)))
     (λ l. take-all 35 (x ∷ s) (ltb-false 35 (length (x ∷ s)) l))
 
-parts-back : (k : ℕ) (ps : List Piece) → length ps ≤ k → overs ps ≡ 0 → Unmarked (bytesOf (pad k (map cut ps))) → Unmarked (bytesOf ps)
+parts-back : (k : ℕ) (ps : List Piece) → length ps ≤ k → overs ps ≡ [] → Unmarked (bytesOf (pad k (map cut ps))) → Unmarked (bytesOf ps)
 unfolding overs pad
 parts-back k [] l z u = tt
 parts-back zero (p ∷ ps) l z u = absurd (omega arith)
-parts-back (suc k) (p ∷ ps) l z (first, rest) = (rw (whole-cut (p .place) (p .bytes) (omega arith)) at first, parts-back k ps (omega arith) (omega arith) rest)
+parts-back (suc k) (p ∷ ps) l z (first, rest) =
+    let (here, others) = append-eq-nil-iff {p = over longPart p} {q = overs ps} .0 z in
+    (rw (whole-cut longPart (p .place) (p .bytes) here) at first, parts-back k ps (omega arith) others rest)
 
 -- ---- parts between bars
 
@@ -76,6 +79,6 @@ divide-free at (x ∷ s) u =
 
 -- ---- both
 
-pub pieces-free : (at : ℕ) (s : List ℕ) (k : ℕ) → length (divide at s) ≤ k → overs (divide at s) ≡ 0
+pub pieces-free : (at : ℕ) (s : List ℕ) (k : ℕ) → length (divide at s) ≤ k → overs (divide at s) ≡ []
     → Unmarked (bytesOf (pad k (map cut (divide at s)))) → Free mark s
 pieces-free at s k l z u = divide-free at s (parts-back k (divide at s) l z u)

@@ -48,7 +48,7 @@ module _ (Only : Entry → ℕ → Type 0) (turn : Header → Header) (a b : She
 
   module _ (s : List ℕ) (c : Context) where
     reads-too : (e : Entry) (w : ℕ) → Only e w → Reads a today s c e w → Reads b today s (turnedIn turn c) (turned turn e) w
-    reads-too e w o (spots, q) = (spots, line-kept Only turn a b wider today c s .keeps e w spots o q)
+    reads-too e w o (p, q) = (p, line-kept Only turn a b wider today c s e w p o q)
 
     says-too : (e : Entry) (w : ℕ) → Only e w → SaysEntry a today s c e w → SaysEntry b today s (turnedIn turn c) (turned turn e) w
     says-too (head h) w o r = reads-too _ w o r

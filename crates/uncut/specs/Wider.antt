@@ -3,6 +3,7 @@ use Prim.Native.Nat.{ℕ, _+_, _≤_}
 use mathlib.Core.Path.{_≡_}
 use mathlib.Core.Bool.{true, false}
 use mathlib.Core.List.{List, [], _∷_}
+use lib.ListN.{length}
 use Rattle.base.specs.Seek.{Free}
 use Rattle.sheet.specs.declared.Sheet.{Sheet}
 use Rattle.sheet.specs.declared.Style.{Style}
@@ -10,7 +11,7 @@ use Rattle.sheet.specs.Sheets.{bankAllowed}
 use Rattle.paper.specs.Bytes.{mark}
 use Rattle.paper.specs.Accounts.{Account}
 use Rattle.paper.specs.Batch.{Item, Header, noHeader}
-use Rattle.paper.specs.Texts.{Texts}
+use Rattle.paper.specs.Texts.{Noted}
 use Rattle.paper.specs.ItemLine.{partBytes}
 use Rattle.paper.specs.Entries.{Entry, group, item}
 use Rattle.paper.specs.Spells.{Due, differs}
@@ -27,26 +28,26 @@ Unmarked (p ∷ ps) = Free mark p × Unmarked ps
 
 -- Names: both sheets read them or neither does. Or the wider one alone, of texts (`On`) without ` NP:` for which the narrower one asks `AV:`, and
 -- which it does not cut.
-pub data Names (On : Texts → Type 0) (y z : Style) : Type 0 where
+pub data Names (On : Noted → Type 0) (y z : Style) : Type 0 where
   named-alike : y .names ≡ z .names → Names On y z
-  named-more : y .names ≡ false → z .names ≡ true → y .may ≡ false → y .cuts ≡ false → y .most ≤ 4 → ((t : Texts) → On t → Unmarked (partBytes t)) → Names On y z
+  named-more : y .names ≡ false → z .names ≡ true → y .may ≡ false → y .cuts ≡ false → y .most ≤ 4 → ((t : Noted) → On t → Unmarked (partBytes t)) → Names On y z
 
 -- Of the texts that `On` lets through: what the narrower style y reads the wider style z reads alike.
-pub record WiderStyle (On : Texts → Type 0) (y z : Style) : Type 0 where
+pub record WiderStyle (On : Noted → Type 0) (y z : Style) : Type 0 where
   pub av : y .av ≡ z .av
   pub may : y .may ≡ true → z .may ≡ true
   pub names : Names On y z
   pub most : y .most ≤ z .most
-  pub cuts : (t : Texts) → On t → y .cuts ≡ true → z .cuts ≡ false → t .warnings ≡ 0
+  pub cuts : (t : Noted) → On t → y .cuts ≡ true → z .cuts ≡ false → t .warnings ≡ []
 
 -- these are the texts of an item that is let through with the warnings of its line, some of them for its texts
-pub record TextsOf (Only : Entry → ℕ → Type 0) (t : Texts) : Type 0 where
+pub record TextsOf (Only : Entry → ℕ → Type 0) (t : Noted) : Type 0 where
   pub of : Item
   pub warned : ℕ
   pub only : Only (item of) warned
   pub parts : of .parts ≡ partBytes t
   pub name : of .name ≡ t .name .bytes
-  pub warnings : t .warnings ≤ warned
+  pub warnings : length (t .warnings) ≤ warned
 
 -- Of the entries, each with the warnings of its line, that `Only` lets through: what the narrower sheet a reads the wider sheet b reads alike.
 -- What is warned of on one is warned of on the other. A field that has to be the same on both is not compared.

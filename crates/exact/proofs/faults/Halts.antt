@@ -8,9 +8,9 @@ use Rattle.base.proofs.Cases.{pick-true, pick-false}
 use Rattle.sheet.specs.declared.Sheet.{Sheet}
 use Rattle.paper.specs.Bytes.{null}
 use Rattle.paper.specs.Lines.{Line}
-use Rattle.paper.specs.Entries.{kindOf, groupEnd, no}
+use Rattle.paper.specs.Entries.{kindOf, groupEnd, no, onItem}
 use Rattle.paper.specs.Spells.{readLine}
-use Rattle.paper.specs.Judge.{Answer, Refused, State, atFirst, atFile, atGroup, atItem, stop, contextOf, isDue, isFull, closed, onItem, meet, onSaid, read, step, endOf, run}
+use Rattle.paper.specs.Judge.{Answer, Refused, State, atFirst, atFile, atGroup, atItem, stop, contextOf, isDue, isFull, closed, meet, onSaid, read, step, endOf, run}
 use Rattle.paper.specs.FirstFault.{Lawful, Broken, ends-first, ends-none, ends-file, ends-group, not-due, full, in-line, total}
 use Rattle.exact.proofs.Told.{told-line, kind-group-end}
 use Rattle.exact.proofs.Moves.{passes}
@@ -56,6 +56,6 @@ module _ (sh : Sheet) (today : ℕ) where
     halts r (not-due {st = st} {t = t} {ts = ts} d) = stopped t ts st (reads k t st r ∙ other k t st d)
     halts r (full {st = st} {t = t} {ts = ts} d f) = stopped t ts st (reads k t st r ∙ over k t st d f)
     halts r (in-line {st = st} {t = t} {ts = ts} {n = n} {off = off} d f q) = stopped t ts st (reads k t st r ∙ faulty k t st n off d f q)
-    halts r (total {x = x} {t = t} {ts = ts} some (spots, q) e) =
+    halts r (total {x = x} {t = t} {ts = ts} some (p, q) e) =
         stopped t ts (atItem x)
         (passes sh today k t (atItem x) groupEnd _ (kind-group-end (told-line sh today _ (t .bytes) _ q)) (rw some) refl q ∙ pick-true _ _ e)

@@ -17,7 +17,7 @@ module _ (sh : Sheet) (today : ℕ) where
   lawful-on l (heads q) = header l q
   lawful-on l (opens few q) = opened l few q
   lawful-on l (begins q) = begun l q
-  lawful-on {t = t} l (more free (spots, q)) = added {t = t} l (rw (kind-item (told-line sh today _ (t .bytes) _ q)) free) (spots, q)
+  lawful-on {t = t} l (more free (p, q)) = added {t = t} l (rw (kind-item (told-line sh today _ (t .bytes) _ q)) free) (p, q)
   lawful-on l (closes some q good) = closed l some q good
   lawful-on l (finishes some q) = finished l some q
 
@@ -37,7 +37,7 @@ module _ (sh : Sheet) (today : ℕ) where
     reached (header {t = t} l q) after = reached l (t ∷ after) ∙ moved (heads q) after
     reached (opened {t = t} l few q) after = reached l (t ∷ after) ∙ moved (opens few q) after
     reached (begun {t = t} l q) after = reached l (t ∷ after) ∙ moved (begins q) after
-    reached (added {t = t} l free (spots, q)) after =
-        reached l (t ∷ after) ∙ moved (more (rw (kind-item (told-line sh today _ (t .bytes) _ q)) at free) (spots, q)) after
+    reached (added {t = t} l free (p, q)) after =
+        reached l (t ∷ after) ∙ moved (more (rw (kind-item (told-line sh today _ (t .bytes) _ q)) at free) (p, q)) after
     reached (closed {t = t} l some q good) after = reached l (t ∷ after) ∙ moved (closes some q good) after
     reached (finished {t = t} l some q) after = reached l (t ∷ after) ∙ moved (finishes some q) after

@@ -5,9 +5,8 @@ use mathlib.Core.List.{List}
 use Prim.Native.Nat.{ℕ, _≤_}
 use lib.ListN.{length}
 use Rattle.sheet.specs.declared.Sheet.{Sheet}
-use Rattle.paper.specs.Entries.{Said, Kind, kindOf}
+use Rattle.paper.specs.Entries.{Listed, counted, Kind, kindOf}
 use Rattle.paper.specs.Spells.{Context, readLine}
-use Rattle.paper.specs.Judge.{firstOr0}
 use Rattle.paper.proofs.Starts.{least, kind-long}
 use Rattle.paper.proofs.LineSays as lines
 use Rattle.paper.proofs.LineSays.{Blamed, LineSays}
@@ -35,14 +34,14 @@ module _ (sh : Sheet) where
   own g (lines.by-symbol f) = own-number (symbol-named (f .0)) (f .1)
   own g (lines.by-text at f) = own-number (text-named (sh .text) at (f .0)) (f .1)
 
-  name : {today : ℕ} {test : ℕ → ℕ} {single : Bool} {w : List ℕ} {kind : Kind} {r : Said} → Tests test → LineSays sh today test single w kind r
-      → least kind ≤ length w → Named (length w) r
-  unfolding firstOr0
+  name : {today : ℕ} {test : ℕ → ℕ} {single : Bool} {w : List ℕ} {kind : Kind} {r : Listed} → Tests test → LineSays sh today test single w kind r
+      → least kind ≤ length w → Named (length w) (counted r)
+  unfolding counted
   name g (lines.no-header _) h = says tt
   name g (lines.a-header _ _ _ _ _ _ _) h = says tt
   name g (lines.a-file _ _ _ _) h = says tt
-  name g (lines.a-group _ _ _ _ l) h = says (l h)
-  name g (lines.an-item _ _ _ _ _ _ _ _) h = says tt
+  name g (lines.a-group _ _ _ _ _ l) h = says (l h)
+  name g (lines.an-item _ _ _ _ _ _ _ _ _) h = says tt
   name g lines.a-group-end h = says tt
   name g lines.a-file-end h = says tt
   name g (lines.refused b l) h = refuses (own g b) (l h)

@@ -7,7 +7,7 @@ use lib.ListN.{length}
 use Rattle.base.proofs.Cases.{either}
 use Rattle.sheet.specs.declared.Sheet.{Sheet}
 use Rattle.paper.specs.Lines.{Line, first, ended, behind, linesOf}
-use Rattle.paper.specs.Judge.{revOn, State, atFirst, atFile, atGroup, atItem, stop, contextOf, firstOr0}
+use Rattle.paper.specs.Judge.{revOn, State, atFirst, atFile, atGroup, atItem, stop, contextOf}
 use Rattle.paper.specs.FirstFault.{Lawful, nothing, header, opens, begins, more, closes, finishes}
 use Rattle.exact.proofs.named.Named.{named-got}
 use Rattle.exact.proofs.named.Lines.{any-named}
@@ -68,7 +68,6 @@ Kept size n (stop a) = Unit {0}
 
 module _ (sh : Sheet) (today size : ℕ) where
   pub lawful-kept : {ts : List Line} {st : State} → Lawful sh today ts st → Within size ts → Kept size (length ts) st
-  unfolding firstOr0
   lawful-kept nothing w = tt
   lawful-kept (header l q) w = tt
   lawful-kept (opens l few q) w = tt

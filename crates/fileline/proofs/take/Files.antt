@@ -1,7 +1,7 @@
 -- The line that begins an account file: its kind and its number stand at their places. Assumes nothing.
 use mathlib.Core.Path.{_≡_, refl, sym, _∙_}
 use mathlib.Core.Bool.{true}
-use mathlib.Core.List.{List, []}
+use mathlib.Core.List.{List}
 use Prim.Native.Nat.{ℕ, _*_, _+_, _≤_}
 use native.Mathlib.Omega.{arith}
 use mir.Val.{Fits}
@@ -13,7 +13,7 @@ use Rattle.sheet.specs.Sheets.{kindAllowed}
 use Rattle.paper.specs.Read.{value}
 use Rattle.paper.specs.Bytes.{fieldOf}
 use Rattle.paper.specs.Numerals.{digits}
-use Rattle.paper.specs.Entries.{file, Said, got, field, gap, lineEnd}
+use Rattle.paper.specs.Entries.{file, Listed, plain, field, gap, lineEnd}
 use Rattle.paper.specs.FileLine.{readKind, readNumber, readCode, readFile}
 use Rattle.numeral.proofs.Sound.{same, digits-sound}
 use Rattle.numeral.specs.field.At.{found, fieldAt}
@@ -28,10 +28,10 @@ use Rattle.numeral.proofs.placed.Last.{tested, known-long, known-digits, last-i
 
 module _ (sh : Sheet) (s : List ℕ) (h : isSaid (readFile sh anyNumber s) ≡ true) where
   -- what follows KIND, and what follows NUMBER
-  abbrev fromCode : ℕ → ℕ → ℕ → List ℕ → Said
-  fromCode kind number at t = field (readCode sh) at t λ bank a1 s1. lineEnd a1 s1 (got (file kind number) 0 [])
+  abbrev fromCode : ℕ → ℕ → ℕ → List ℕ → Listed
+  fromCode kind number at t = field (readCode sh) at t λ bank a1 s1. lineEnd a1 s1 (plain (file kind number))
 
-  abbrev fromNumber : ℕ → ℕ → List ℕ → Said
+  abbrev fromNumber : ℕ → ℕ → List ℕ → Listed
   fromNumber kind at t = field (readNumber anyNumber) at t λ number a1 s1. gap a1 s1 λ a2 s2. fromCode kind number a2 s2
 
   kind-there : There (readKind sh) s 2
@@ -80,8 +80,8 @@ module _ (sh : Sheet) (s : List ℕ) (h : isSaid (readFile sh anyNumber s) ≡ t
   said-code : isSaid (fromCode kind number 14 (drop 14 s)) ≡ true
   said-code = said-as _ _ said-number to-code
 
-  says : fromCode kind number 14 (drop 14 s) ≡ got (file kind number) 0 []
-  says = last-is (readCode sh) s 14 (λ bank. got (file kind number) 0 []) said-code
+  says : fromCode kind number 14 (drop 14 s) ≡ plain (file kind number)
+  says = last-is (readCode sh) s 14 (λ bank. plain (file kind number)) said-code
 
   -- ---- at their places
 
@@ -101,7 +101,7 @@ module _ (sh : Sheet) (s : List ℕ) (h : isSaid (readFile sh anyNumber s) ≡ t
   number-second = placed-part 2 4 6 s 7 (omega arith) number-placed
 
   pub file-is : (a b c : ℕ) → digits 4 4 (take 4 (drop 2 s)) ≡ value a → digits 4 4 (take 4 (drop 7 s)) ≡ value b → digits 2 2 (take 2 (drop 11 s)) ≡ value c
-      → got (file a (b * 100 + c)) 0 [] ≡ readFile sh anyNumber s
+      → plain (file a (b * 100 + c)) ≡ readFile sh anyNumber s
   file-is a b c x y z =
       let k : a ≡ kind = same a kind (sym x ∙ known-digits 4 (drop 2 s) kind kind-digits) in
       let n : b * 100 + c ≡ number = same (b * 100 + c) number (sym (placed-join 4 2 s 7 b c y z) ∙ known-digits 6 (drop 7 s) number number-digits) in

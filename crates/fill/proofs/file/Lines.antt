@@ -9,7 +9,7 @@ use lib.ListN.{length, take, drop, length-append, length-take, length-drop}
 use Rattle.base.specs.Put.{put, Wrote}
 use Rattle.base.proofs.Put.{_then_}
 use Rattle.sheet.specs.declared.Sheet.{Sheet}
-use Rattle.paper.specs.Entries.{Said}
+use Rattle.paper.specs.Entries.{Counted}
 use Rattle.paper.specs.Lines.{linesOf, linesFrom}
 use Rattle.paper.specs.Spells.{readLine}
 use Rattle.paper.specs.Rows.{accepted, lineRow, singleBehind, linesRows, wordsBytes, rowsBytes}
@@ -36,7 +36,7 @@ module _ (f : List ℕ) (sh : Sheet) (today : ℕ) where
   whole = linesRows sh today false (linesOf 0 f)
 
   -- what the line that starts at `at` says
-  abbrev said : Bool → ℕ → Cut → Said
+  abbrev said : Bool → ℕ → Cut → Counted
   said single at r = readLine sh today (accepted single) (take (r .stop - at) (drop at f))
 
   -- the rows of the lines before `at` stand in o1, and the others follow them

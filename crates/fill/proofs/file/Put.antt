@@ -8,12 +8,12 @@ use lib.ListN.{length}
 use Rattle.base.specs.Put.{Wrote}
 use Rattle.sheet.specs.declared.Sheet.{Sheet}
 use Rattle.paper.specs.Accounts.{Account, account, isNobody}
-use Rattle.paper.specs.Entries.{file, group, item, Said, got, kindOf}
+use Rattle.paper.specs.Entries.{file, group, item, nowhere, Counted, said, plain, counted, kindOf}
 use Rattle.paper.specs.FileLine.{readFile}
 use Rattle.paper.specs.GroupLine.{readGroup}
 use Rattle.paper.specs.ItemLine.{places, readItem}
 use Rattle.paper.specs.Spells.{readLine}
-use Rattle.paper.specs.Rows.{accepted, blanks, fileRow, groupRow, itemRow, entryRow, lineRow, singleAfter, singleBehind, wordsBytes, rowsBytes}
+use Rattle.paper.specs.Rows.{accepted, blanks, fileRow, groupRow, itemRow, textSpots, entryRow, lineRow, singleAfter, singleBehind, wordsBytes, rowsBytes}
 use Rattle.out.proofs.put.Room.{wrote-none}
 use Rattle.out.proofs.word.Laws.{words-length}
 use Rattle.text.specs.span.Held.{textsAt, Held}
@@ -27,6 +27,7 @@ use Rattle.groupline.specs.declared.take.Group.{Group}
 use Rattle.fileline.specs.take.Any.{anyNumber}
 use Rattle.groupline.specs.take.Taken.{Opens}
 use Rattle.numeral.specs.placed.Said.{isSaid}
+use Rattle.numeral.proofs.placed.Goes.{said-counted}
 use Rattle.fill.specs.itemrow.Place.{Reached}
 use Rattle.fill.proofs.itemrow.Texts.{item-length, reached}
 use Rattle.fill.specs.declared.file.Step.{Step}
@@ -48,7 +49,7 @@ row-room row next m e h = let z : length (wordsBytes row ++ []) ≡ length (word
 
 module _ (o : List ℕ) (next at : ℕ) (single : Bool) where
   -- a line that has no row
-  quiet-step : (r : Said) → next ≤ length o → Quiet at single r → Stepped o next single at r o (step next single)
+  quiet-step : (r : Counted) → next ≤ length o → Quiet at single r → Stepped o next single at r o (step next single)
   unfolding rowsBytes
   quiet-step r h q = record { wrote = rw (q .rows) (wrote-none o next h); after = sym (q .same) }
 
@@ -65,11 +66,12 @@ module _ (sh : Sheet) (today : ℕ) (single : Bool) (s : List ℕ) (k : LineKind
 
   module _ (e : k ≡ kind.File) where
     pub judged-file : isSaid (readLine sh today (accepted single) s) ≡ true → isSaid (readFile sh anyNumber s) ≡ true
-    judged-file h = rw (said-file sh today single s k g e) at h
+    judged-file h = sym (said-counted (readFile sh anyNumber s)) ∙ (rw (said-file sh today single s k g e) at h)
 
-    module _ (x : File) (f : got (file (x .kind) (x .number)) 0 [] ≡ readFile sh anyNumber s) where
-      file-says : readLine sh today (accepted single) s ≡ got (file (x .kind) (x .number)) 0 []
-      file-says = said-file sh today single s k g e ∙ sym f
+    module _ (x : File) (f : plain (file (x .kind) (x .number)) ≡ readFile sh anyNumber s) where
+      file-says : readLine sh today (accepted single) s ≡ said (file (x .kind) (x .number)) 0 nowhere
+      unfolding counted
+      file-says = said-file sh today single s k g e ∙ ap counted (sym f)
 
       pub room-file : next + 192 ≤ length o
       unfolding lineRow entryRow fileRow blanks
@@ -82,14 +84,15 @@ module _ (sh : Sheet) (today : ℕ) (single : Bool) (s : List ℕ) (k : LineKind
 
   module _ (e : k ≡ kind.Group) where
     pub judged-group : isSaid (readLine sh today (accepted single) s) ≡ true → isSaid (readGroup sh today s) ≡ true
-    judged-group h = rw (said-group sh today single s k g e) at h
+    judged-group h = sym (said-counted (readGroup sh today s)) ∙ (rw (said-group sh today single s k g e) at h)
 
     module _ (x : Group) (f : Opens (readGroup sh today s) x) where
       abbrev payer : Account
       payer = account (x .prefix) (x .base)
 
-      group-says : readLine sh today (accepted single) s ≡ got (group payer (f .total) (x .date)) (f .warnings) (f .spots)
-      group-says = said-group sh today single s k g e ∙ f .says
+      group-says : readLine sh today (accepted single) s ≡ said (group payer (f .total) (x .date)) (length (f .warnings)) (f .places)
+      unfolding counted
+      group-says = said-group sh today single s k g e ∙ ap counted (f .says)
 
       pub room-group : next + 192 ≤ length o
       unfolding lineRow entryRow groupRow blanks
@@ -102,10 +105,10 @@ module _ (sh : Sheet) (today : ℕ) (single : Bool) (s : List ℕ) (k : LineKind
 
   module _ (e : k ≡ kind.Item) where
     pub judged-item : isSaid (readLine sh today (accepted single) s) ≡ true → isSaid (readItem sh single s) ≡ true
-    judged-item h = rw (said-item sh today single s k g e) at h
+    judged-item h = sym (said-counted (readItem sh single s)) ∙ (rw (said-item sh today single s k g e) at h)
 
-    module _ (x : Fields) (f : item-told.told s x ≡ readItem sh single s) (t : item-told.Sound s x) where
-      item-says : readLine sh today (accepted single) s ≡ got (item (item-told.itemAt s x)) (x .warnings) (places (textsAt s (x .texts)))
+    module _ (x : Fields) (f : item-told.told s x ≡ counted (readItem sh single s)) (t : item-told.Sound s x) where
+      item-says : readLine sh today (accepted single) s ≡ said (item (item-told.itemAt s x)) (x .warnings) (places (textsAt s (x .texts)))
       item-says = said-item sh today single s k g e ∙ sym f
 
       item-held : Held s (x .texts)
@@ -113,13 +116,13 @@ module _ (sh : Sheet) (today : ℕ) (single : Bool) (s : List ℕ) (k : LineKind
 
       pub room-item : next + 192 ≤ length o
       unfolding lineRow entryRow
-      room-item = row-room (itemRow at (places (textsAt s (x .texts))) (item-told.itemAt s x)) next (length o) (item-length at x s item-held) (rw item-says at room)
+      room-item = row-room (itemRow at (textSpots (places (textsAt s (x .texts)))) (item-told.itemAt s x)) next (length o) (item-length at x s item-held) (rw item-says at room)
 
       pub reach-item : at + length s < 18446744073709551616 → Reached at (x .texts)
       reach-item h = reached at s (x .texts) item-held h
 
       pub step-item : (o1 : List ℕ) (p : ℕ)
-          → ((u : List ℕ) → Held u (x .texts) → Wrote o next (wordsBytes (itemRow at (places (textsAt u (x .texts))) (item-told.itemAt u x))) o1 p)
+          → ((u : List ℕ) → Held u (x .texts) → Wrote o next (wordsBytes (itemRow at (textSpots (places (textsAt u (x .texts)))) (item-told.itemAt u x))) o1 p)
           → Stepped o next single at (readLine sh today (accepted single) s) o1 (step p single)
       unfolding lineRow entryRow singleBehind singleAfter
-      step-item o1 p w = rw item-says (record { wrote = one-row o o1 next p (itemRow at (places (textsAt s (x .texts))) (item-told.itemAt s x)) (w s item-held); after = refl })
+      step-item o1 p w = rw item-says (record { wrote = one-row o o1 next p (itemRow at (textSpots (places (textsAt s (x .texts)))) (item-told.itemAt s x)) (w s item-held); after = refl })

@@ -1,7 +1,7 @@
 -- Total and date of a line that was judged: the date ends the line, and the byte before six digits tells it from eight. Assumes nothing.
 use mathlib.Core.Path.{_≡_, refl, sym, _∙_}
 use mathlib.Core.Bool.{Bool, true, false}
-use mathlib.Core.List.{List, [], _∷_}
+use mathlib.Core.List.{List}
 use Prim.Native.Nat.{ℕ, _+_, _-_, _≤_, _<_}
 use native.Mathlib.Omega.{arith}
 use lib.Dec.{eqb}
@@ -11,11 +11,12 @@ use Rattle.base.specs.Seek.{seek}
 use Rattle.base.proofs.Cases.{by-test}
 use Rattle.sheet.specs.declared.Sheet.{Sheet}
 use Rattle.paper.specs.Read.{Field, value}
+use Rattle.paper.specs.Warnings.{pastDay, notices}
 use Rattle.paper.specs.Accounts.{Account, account}
 use Rattle.paper.specs.Amounts.{readTotal}
 use Rattle.paper.specs.Bytes.{space, fieldOf}
 use Rattle.paper.specs.Days.{shortDay, longDay, readDay, dueAllowed, dueWarnings, readDue}
-use Rattle.paper.specs.Entries.{group, Said, got, field, lineEnd}
+use Rattle.paper.specs.Entries.{group, totalAt, Listed, said, field, lineEnd}
 use Rattle.paper.specs.GroupLine.{totalAndDate}
 use Rattle.paper.specs.ItemLine.{isValue}
 use Rattle.numeral.proofs.given.Given.{value-same}
@@ -52,11 +53,11 @@ module _ (sh : Sheet) (today : ℕ) (payer : Account) (s : List ℕ) (at : ℕ) 
   abbrev dateOf : List ℕ → Field ℕ
   dateOf = readDue (sh .longdate) (sh .early) (sh .ahead) today
 
-  abbrev opens : ℕ → ℕ → Said
-  opens total date = got (group payer total date) (dueWarnings (sh .warnpast) today date) (at ∷ [])
+  abbrev opens : ℕ → ℕ → ℕ → Listed
+  opens due total date = said (group payer total date) (notices pastDay due (dueWarnings (sh .warnpast) today date)) (totalAt at)
 
-  abbrev fromDate : ℕ → ℕ → List ℕ → Said
-  fromDate total a2 s2 = field dateOf a2 s2 λ date a3 s3. lineEnd a3 s3 (opens total date)
+  abbrev fromDate : ℕ → ℕ → List ℕ → Listed
+  fromDate total a2 s2 = field dateOf a2 s2 λ date a3 s3. lineEnd a3 s3 (opens a2 total date)
 
   there : There totalOf s at
   unfolding totalAndDate
@@ -79,20 +80,20 @@ module _ (sh : Sheet) (today : ℕ) (payer : Account) (s : List ℕ) (at : ℕ) 
   said-date = said-as _ _ h to-date
 
   date-some : (d : ℕ) × (dateOf (fieldOf (drop (end + 1) s)) ≡ value d)
-  date-some = last-some dateOf s (end + 1) (opens total) said-date
+  date-some = last-some dateOf s (end + 1) (opens (end + 1) total) said-date
 
   abbrev date : ℕ
   date = date-some .0
 
-  says : totalAndDate sh today payer at (drop at s) ≡ opens total date
+  says : totalAndDate sh today payer at (drop at s) ≡ opens (end + 1) total date
   unfolding date-some
-  says = to-date ∙ last-is dateOf s (end + 1) (opens total) said-date
+  says = to-date ∙ last-is dateOf s (end + 1) (opens (end + 1) total) said-date
 
   day-there : readDay (sh .longdate) (drop (end + 1) s) ≡ value date
   unfolding readDue
   day-there =
       tested (dueAllowed (sh .early) (sh .ahead) today) 11 (readDay (sh .longdate) (drop (end + 1) s)) date
-      (rw (last-whole dateOf s (end + 1) (opens total) said-date) at (date-some .1))
+      (rw (last-whole dateOf s (end + 1) (opens (end + 1) total) said-date) at (date-some .1))
 
   dated : Dated s (end + 1) date
   dated = day-dated (sh .longdate) s (end + 1) date (omega (arith, there .on)) day-there
@@ -146,7 +147,7 @@ module _ (sh : Sheet) (today : ℕ) (payer : Account) (s : List ℕ) (at : ℕ) 
   date-byte = omega (arith, date-room)
 
   opened : (v : ℕ) → date ≡ v → (g : Group) → g ≡ record { prefix = payer .prefix; base = payer .base; date = v } → Opens (totalAndDate sh today payer at (drop at s)) g
-  opened v e g q = record { total = total; warnings = dueWarnings (sh .warnpast) today date; spots = at ∷ []; says = says ∙ rw (q, e) }
+  opened v e g q = record { total = total; warnings = notices pastDay (end + 1) (dueWarnings (sh .warnpast) today date); places = totalAt at; says = says ∙ rw (q, e) }
 
 module _ (sh : Sheet) (today prefix base : ℕ) (s : List ℕ) (at : ℕ) (h : isSaid (totalAndDate sh today (account prefix base) at (drop at s)) ≡ true) where
   abbrev with : ℕ → Group

@@ -16,7 +16,7 @@ use Rattle.paper.specs.Read.{Field, value}
 use Rattle.paper.specs.Accounts as paper
 use Rattle.paper.specs.Accounts.{nobody, readPayer}
 use Rattle.paper.specs.Bytes.{space, fieldOf}
-use Rattle.paper.specs.Entries.{Said, field, gap}
+use Rattle.paper.specs.Entries.{Listed, field, gap}
 use Rattle.paper.specs.GroupLine.{hasPayer, totalAndDate, readGroup}
 use Rattle.numeral.specs.field.At.{found, fieldAt}
 use Rattle.numeral.specs.placed.Known.{There}
@@ -46,7 +46,7 @@ module _ (sh : Sheet) (today : ℕ) (s : List ℕ) (h : isSaid (readGroup sh tod
   -- ---- with one
 
   module _ (t : hasPayer (sh .emptypayer) s ≡ true) where
-    abbrev fromTotal : paper.Account → ℕ → List ℕ → Said
+    abbrev fromTotal : paper.Account → ℕ → List ℕ → Listed
     fromTotal payer a2 s2 = totalAndDate sh today payer a2 s2
 
     first : readGroup sh today s ≡ field payerOf 2 (drop 2 s) (λ payer a1 s1. gap a1 s1 λ a2 s2. fromTotal payer a2 s2)

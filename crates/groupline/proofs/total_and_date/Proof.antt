@@ -1,7 +1,6 @@
 -- `total_and_date` meets its contract: the two fields and the end of the line, one after the other. Assumes nothing.
 use borrow.Author.Needs.{needs}
-use Rattle.groupline.proofs.Fields.{groups, bounds}
-use Rattle.paper.specs.GroupLine.{totalAndDate}
+use Rattle.groupline.proofs.Fields.{total-counted, groups, bounds}
 use Rattle.groupline.proofs.total_and_date.Statement.{statement}
 use Rattle.groupline.proofs.total_and_date.Tie as tie
 
@@ -15,8 +14,7 @@ enum-known-total : tie.Need-enum-known-total
 enum-known-total c = search needs
 
 returns : tie.Need-returns
-unfolding totalAndDate
-returns c = ((λ payer. search groups depth 12), (search (bounds, needs), search (bounds, needs)))
+returns c = ((λ payer. total-counted _ _ payer _ _ _ (search groups depth 12)), (search (bounds, needs), search (bounds, needs)))
 
 add-from : tie.Need-add-from
 add-from c = search needs
@@ -34,23 +32,19 @@ enum-known-date : tie.Need-enum-known-date
 enum-known-date c = search needs
 
 returns-2 : tie.Need-returns-2
-unfolding totalAndDate
-returns-2 c = ((λ payer. search groups depth 12), (search (bounds, needs), search (bounds, needs)))
+returns-2 c = ((λ payer. total-counted _ _ payer _ _ _ (search groups depth 12)), (search (bounds, needs), search (bounds, needs)))
 
 due-warnings-requires : tie.Need-due-warnings-requires
 due-warnings-requires c κs = search (bounds, needs)
 
 returns-3 : tie.Need-returns-3
-unfolding totalAndDate
-returns-3 c = ((λ payer. search groups depth 12), (search (bounds, needs), search (bounds, needs)))
+returns-3 c = ((λ payer. total-counted _ _ payer _ _ _ (search groups depth 12)), (search (bounds, needs), search (bounds, needs)))
 
 returns-4 : tie.Need-returns-4
-unfolding totalAndDate
-returns-4 c = ((λ payer. search groups depth 12), (search (bounds, needs), search (bounds, needs)))
+returns-4 c = ((λ payer. total-counted _ _ payer _ _ _ (search groups depth 12)), (search (bounds, needs), search (bounds, needs)))
 
 returns-5 : tie.Need-returns-5
-unfolding totalAndDate
-returns-5 c = ((λ payer. search groups depth 12), (search (bounds, needs), search (bounds, needs)))
+returns-5 c = ((λ payer. total-counted _ _ payer _ _ _ (search groups depth 12)), (search (bounds, needs), search (bounds, needs)))
 
 pub total-and-date-spec : {M : Type 1} → statement M
 total-and-date-spec =

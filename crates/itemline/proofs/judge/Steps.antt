@@ -5,13 +5,15 @@ use mathlib.Core.List.{List}
 use Prim.Native.Nat.{ℕ, _+_, _≤_}
 use native.Mathlib.Nat.{add-zero}
 use lib.ListN.{length, drop}
+use Rattle.sheet.specs.declared.Style.{Style}
 use Rattle.sheet.specs.declared.Sheet.{Sheet}
 use Rattle.sheet.specs.declared.Limits.{Limits}
 use Rattle.sheet.specs.Sheets.{LimitsOf}
 use Rattle.paper.specs.Accounts.{readAccount}
 use Rattle.paper.specs.Amounts.{readItemAmount}
 use Rattle.paper.specs.BankField.{readBank}
-use Rattle.paper.specs.Entries.{Said, no, gap}
+use Rattle.paper.specs.Texts.{Noted, readText}
+use Rattle.paper.specs.Entries.{Counted, no, counted, gap}
 use Rattle.paper.specs.ItemLine.{readSymbol, readItem}
 use Rattle.base.proofs.Cases.{pick-true}
 use Rattle.base.proofs.Lists.{drop-none}
@@ -25,10 +27,18 @@ use Rattle.numeral.specs.field.Told.{passed}
 use Rattle.numeral.specs.declared.field.Passed.{Passed}
 use Rattle.numeral.specs.declared.field.Passed.the-variants as pass
 use Rattle.numeral.proofs.field.Kept.{kept-field, missed-kept, passed-field, refused-field, passed-within}
+use Rattle.text.specs.declared.span.Spans.{Spans}
+use Rattle.text.specs.declared.TextRead.{TextRead}
+use Rattle.text.specs.declared.TextRead.the-variants as text
+use Rattle.text.specs.Told as texts
+use Rattle.text.specs.Told.{countText}
 use Rattle.bank.specs.at.Warned.{warningsOf}
 use Rattle.bank.proofs.at.Steps.{bank-within, bank-low}
-use Rattle.itemline.proofs.tail.Steps.{onward, text-within}
+use Rattle.itemline.proofs.tail.Steps.{step-plain, step-text, step-no-tail, text-within}
+use Rattle.itemline.specs.declared.tail.TailRead.{TailRead}
+use Rattle.itemline.specs.declared.tail.TailRead.the-variants.{Text}
 use Rattle.itemline.specs.tail.Told.{tailOf}
+use Rattle.itemline.specs.tail.Told as tail
 use Rattle.itemline.specs.Walk.{spaced, fromBank, fromVariable, fromAmount, fromPayee, payerFirst}
 use Rattle.itemline.proofs.Steps.{step-texts, step-no-texts, texts-few}
 use Rattle.itemline.specs.declared.judge.PayeeFrom.{PayeeFrom}
@@ -41,6 +51,16 @@ use Rattle.itemline.proofs.judge.Brief.{line-brief}
 pub kept-plain : (amount warnings : ℕ) → kept amount warnings ≡ kept amount (warnings + 0)
 kept-plain amount warnings = rw (add-zero warnings)
 
+-- ---- a tail with a text: t is what the tail's reader answered, x what the text's did
+
+module _ (s : List ℕ) (at : ℕ) (fixed bare : Bool) (t : TailRead) (g : (y : Style) (k : ℕ → Noted → Counted) → tail.told y s t k ≡ tailOf y fixed bare k at (drop at s))
+    (y : Style) (v from : ℕ) (f : t ≡ Text v from) (x : TextRead) (h : texts.told s x ≡ countText (readText y from (drop from s))) (r : Counted) (amount w : ℕ) where
+  pub tail-texts : (p : Spans) → x ≡ text.Texts p → r ≡ kept amount (w + p .warnings) → r ≡ tailOf y fixed bare (keptTexts amount w) at (drop at s)
+  tail-texts p e q = step-text s at fixed bare t g y r (keptTexts amount w) v from f (step-texts y s from x h r amount w v p e q)
+
+  pub tail-no-texts : (c : ℕ) → x ≡ text.Refused c → r ≡ no c from → r ≡ tailOf y fixed bare (keptTexts amount w) at (drop at s)
+  tail-no-texts c e q = step-text s at fixed bare t g y r (keptTexts amount w) v from f (step-no-texts y s from x h r amount w v c e q)
+
 -- ---- the amount, within the limits that the sheet gave: n is what its reader answered
 
 pub amount-limit : (sh : Sheet) (l : Limits) → LimitsOf sh l → (may : Bool) (s : List ℕ) (at : ℕ) (n : NumAt)
@@ -49,7 +69,7 @@ amount-limit sh l of may s at n g = rw (of .digits, of .amount) at g
 
 -- ---- the bank field: n is what its judge answered
 
-module _ (sh : Sheet) (amount : ℕ) (s : List ℕ) (at : ℕ) (n : NumAt) (g : number.told n ≡ keeping warningsOf (fieldAt (readBank (sh .priority)) s at)) (r : Said) where
+module _ (sh : Sheet) (amount : ℕ) (s : List ℕ) (at : ℕ) (n : NumAt) (g : number.told n ≡ keeping warningsOf (fieldAt (readBank (sh .priority)) s at)) (r : Counted) where
   pub step-bank : (w e : ℕ) → n ≡ Value w e → r ≡ tailOf (sh .text) (sh .fixedtail) (sh .bare) (keptTexts amount w) e (drop e s) → r ≡ fromBank sh (keptBank amount) at (drop at s)
   unfolding fromBank keptBank
   step-bank w e f q = q ∙ sym (kept-field warningsOf (readBank (sh .priority)) s at w e (rw f at g) (λ w a t. tailOf (sh .text) (sh .fixedtail) (sh .bare) (keptTexts amount w) a t))
@@ -60,7 +80,7 @@ module _ (sh : Sheet) (amount : ℕ) (s : List ℕ) (at : ℕ) (n : NumAt) (g : 
 
 -- ---- the variable symbol: n is what its judge answered
 
-module _ (sh : Sheet) (amount : ℕ) (s : List ℕ) (at : ℕ) (n : Passed) (g : passed n ≡ keeping nothing (fieldAt readSymbol s at)) (r : Said) where
+module _ (sh : Sheet) (amount : ℕ) (s : List ℕ) (at : ℕ) (n : Passed) (g : passed n ≡ keeping nothing (fieldAt readSymbol s at)) (r : Counted) where
   pub step-variable : (e : ℕ) → n ≡ pass.At e → r ≡ gap e (drop e s) (λ a t. fromBank sh (keptBank amount) a t) → r ≡ fromVariable sh (keptVariable amount) at (drop at s)
   unfolding fromVariable spaced keptVariable
   step-variable e f q = q ∙ sym (passed-field readSymbol s at n g e f (λ a t. gap a t (λ b u. fromBank sh (keptBank amount) b u)))
@@ -71,7 +91,7 @@ module _ (sh : Sheet) (amount : ℕ) (s : List ℕ) (at : ℕ) (n : Passed) (g :
 
 -- ---- accounts: n is what their judge answered
 
-module _ (n : Passed) (s : List ℕ) (r : Said) where
+module _ (n : Passed) (s : List ℕ) (r : Counted) where
   module _ (sh : Sheet) (at : ℕ) (g : passed n ≡ keeping nothing (fieldAt (readAccount (sh .joined) (sh .basemin)) s at)) where
     pub step-payee : (e : ℕ) → n ≡ pass.At e → r ≡ gap e (drop e s) (λ a t. fromAmount sh keptVariable a t) → r ≡ fromPayee sh keptPayee at (drop at s)
     unfolding fromPayee spaced keptPayee
@@ -82,7 +102,7 @@ module _ (n : Passed) (s : List ℕ) (r : Said) where
     step-no-payee c f q = q ∙ sym (refused-field (readAccount (sh .joined) (sh .basemin)) s at n g c f _)
 
   -- the line's first field, where the group is single
-  module _ (joined : Bool) (least : ℕ) (g : passed n ≡ keeping nothing (fieldAt (readAccount joined least) s 0)) (single : Bool) (y : single ≡ true) (k : ℕ → List ℕ → Said) where
+  module _ (joined : Bool) (least : ℕ) (g : passed n ≡ keeping nothing (fieldAt (readAccount joined least) s 0)) (single : Bool) (y : single ≡ true) (k : ℕ → List ℕ → Counted) where
     pub step-first : (e : ℕ) → n ≡ pass.At e → r ≡ gap e (drop e s) k → r ≡ payerFirst joined least single s (anyPayer k)
     unfolding payerFirst spaced anyPayer
     step-first e f q =
@@ -96,11 +116,11 @@ module _ (n : Passed) (s : List ℕ) (r : Said) where
 -- ---- the payer: t is what its reader answered
 
 -- the whole line is read where the payer is not there
-pub no-payer : (s : List ℕ) (k : ℕ → List ℕ → Said) → k 0 (drop 0 s) ≡ k 0 s
+pub no-payer : (s : List ℕ) (k : ℕ → List ℕ → Counted) → k 0 (drop 0 s) ≡ k 0 s
 no-payer s k = rw drop-none
 
 module _ (joined : Bool) (least : ℕ) (single : Bool) (s : List ℕ) (t : PayeeFrom)
-    (g : (k : ℕ → List ℕ → Said) → toldFrom s t k ≡ payerFirst joined least single s (anyPayer k)) (r : Said) (k : ℕ → List ℕ → Said) where
+    (g : (k : ℕ → List ℕ → Counted) → toldFrom s t k ≡ payerFirst joined least single s (anyPayer k)) (r : Counted) (k : ℕ → List ℕ → Counted) where
   pub step-payer : (at : ℕ) → t ≡ before.At at → r ≡ k at (drop at s) → r ≡ payerFirst joined least single s (anyPayer k)
   step-payer at f q = q ∙ (rw f at (g k))
 
@@ -112,9 +132,9 @@ payer-within s t i at f = rw f at i
 
 -- ---- the whole line
 
-pub by-stages : (sh : Sheet) (single : Bool) (s : List ℕ) (r : Said) → r ≡ payerFirst (sh .joined) (sh .basemin) single s (anyPayer (fromPayee sh keptPayee)) → r ≡ brief (readItem sh single s)
+pub by-stages : (sh : Sheet) (single : Bool) (s : List ℕ) (r : Counted) → r ≡ payerFirst (sh .joined) (sh .basemin) single s (anyPayer (fromPayee sh keptPayee)) → r ≡ brief (counted (readItem sh single s))
 by-stages sh single s r q = q ∙ sym (line-brief sh single s)
 
-pub ruleset items = (amount-limit, step-payee, step-no-payee, step-first, step-no-first, step-variable, step-no-variable, step-bank, step-no-bank, step-texts, step-no-texts, onward, kept-plain, step-payer, step-no-payer, no-payer, by-stages, steps)
+pub ruleset items = (amount-limit, step-payee, step-no-payee, step-first, step-no-first, step-variable, step-no-variable, step-bank, step-no-bank, tail-texts, tail-no-texts, step-plain, step-no-tail, kept-plain, step-payer, step-no-payer, no-payer, by-stages, steps)
 
 pub ruleset bounds = (passed-within, number-within, bank-within, text-within, payer-within, bank-low, texts-few)

@@ -5,15 +5,15 @@ use mathlib.Core.List.{List}
 use Prim.Native.Nat.{ℕ, _≤_}
 use lib.ListN.{length, drop}
 use Rattle.sheet.specs.declared.Style.{Style}
-use Rattle.paper.specs.Texts.{Texts, readText}
-use Rattle.paper.specs.Entries.{Said, no, toEnd}
+use Rattle.paper.specs.Texts.{Noted, readText}
+use Rattle.paper.specs.Entries.{Counted, no, toEnd}
 use Rattle.paper.specs.ItemLine.{noTexts}
 use Rattle.itemline.specs.declared.tail.TailRead.{TailRead}
 use Rattle.itemline.specs.declared.tail.TailRead.the-variants.{Plain, Text, Refused}
 use Rattle.itemline.specs.tail.Told.{told, Inside, tailOf}
 
-module _ (s : List ℕ) (at : ℕ) (fixed bare : Bool) (t : TailRead) (g : (y : Style) (k : ℕ → Texts → Said) → told y s t k ≡ tailOf y fixed bare k at (drop at s)) where
-  module _ (y : Style) (r : Said) (k : ℕ → Texts → Said) where
+module _ (s : List ℕ) (at : ℕ) (fixed bare : Bool) (t : TailRead) (g : (y : Style) (k : ℕ → Noted → Counted) → told y s t k ≡ tailOf y fixed bare k at (drop at s)) where
+  module _ (y : Style) (r : Counted) (k : ℕ → Noted → Counted) where
     pub step-plain : (v : ℕ) → t ≡ Plain v → r ≡ k v noTexts → r ≡ tailOf y fixed bare k at (drop at s)
     step-plain v f q = q ∙ (rw f at (g y k))
 
@@ -27,5 +27,3 @@ module _ (s : List ℕ) (at : ℕ) (fixed bare : Bool) (t : TailRead) (g : (y : 
 -- where a text begins is in the line, or its end
 pub text-within : (s : List ℕ) (t : TailRead) → Inside s t → (v from : ℕ) → t ≡ Text v from → from ≤ length s
 text-within s t i v from f = rw f at i
-
-pub ruleset onward = (step-plain, step-text, step-no-tail)

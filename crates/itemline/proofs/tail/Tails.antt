@@ -14,8 +14,8 @@ use Rattle.sheet.specs.declared.Style.{Style}
 use Rattle.paper.specs.Read.{Field, value, fault}
 use Rattle.paper.specs.Bytes.{fieldOf, null}
 use Rattle.paper.specs.Numerals.{digits, digitsOn}
-use Rattle.paper.specs.Texts.{Texts, readText}
-use Rattle.paper.specs.Entries.{Said, no, field, toEnd}
+use Rattle.paper.specs.Texts.{Noted, readText}
+use Rattle.paper.specs.Entries.{Counted, no, field, toEnd}
 use Rattle.paper.specs.ItemLine.{readSymbol, readSymbolOrNone, isValue, noTexts, afterSymbol, fixedTail, openTail}
 use Rattle.numeral.specs.field.At.{ending, fieldAt}
 use Rattle.numeral.specs.declared.field.NumAt.{NumAt}
@@ -33,7 +33,7 @@ unfolding readSymbolOrNone digits null digitsOn pick
 no-digit [] = refl
 no-digit (x ∷ s) = simp (le-ltb (suc (length s)) 1 (omega arith), le-ltb (suc (length s)) 0 (omega arith))
 
-module _ (r : Said) (s : List ℕ) (at : ℕ) (k : ℕ → ℕ → List ℕ → Said) (n : NumAt) (g : told n ≡ fieldAt (digits 0 10) s at) where
+module _ (r : Counted) (s : List ℕ) (at : ℕ) (k : ℕ → ℕ → List ℕ → Counted) (n : NumAt) (g : told n ≡ fieldAt (digits 0 10) s at) where
   none-at : told n ≡ fieldAt readSymbolOrNone s at
   unfolding fieldAt
   none-at = g ∙ ap (ending _) (sym (no-digit (fieldOf (drop at s))))
@@ -61,7 +61,7 @@ module _ (bare : Bool) (x : Field ℕ) where
 
 -- ---- behind a symbol, and before it
 
-module _ (y : Style) (k : ℕ → Texts → Said) (r : Said) (s : List ℕ) where
+module _ (y : Style) (k : ℕ → Noted → Counted) (r : Counted) (s : List ℕ) where
   module _ (v e : ℕ) where
     pub after-none : length s ≤ e → r ≡ k v noTexts → r ≡ afterSymbol y k v e (drop e s)
     unfolding afterSymbol
@@ -102,13 +102,13 @@ module _ (y : Style) (k : ℕ → Texts → Said) (r : Said) (s : List ℕ) wher
 -- ---- the two kinds of tail: r is what the reader of the kind answered
 
 module _ (fixed bare : Bool) (s : List ℕ) (at : ℕ) (r : TailRead) where
-  pub tail-fixed : fixed ≡ true → ((y : Style) (k : ℕ → Texts → Said) → tail.told y s r k ≡ fixedTail y k at (drop at s))
-      → (y : Style) (k : ℕ → Texts → Said) → tail.told y s r k ≡ tailOf y fixed bare k at (drop at s)
+  pub tail-fixed : fixed ≡ true → ((y : Style) (k : ℕ → Noted → Counted) → tail.told y s r k ≡ fixedTail y k at (drop at s))
+      → (y : Style) (k : ℕ → Noted → Counted) → tail.told y s r k ≡ tailOf y fixed bare k at (drop at s)
   unfolding tailOf
   tail-fixed h q y k = q y k ∙ sym (pick-true _ _ h)
 
-  pub tail-open : fixed ≡ false → ((y : Style) (k : ℕ → Texts → Said) → tail.told y s r k ≡ openTail y k bare at (drop at s))
-      → (y : Style) (k : ℕ → Texts → Said) → tail.told y s r k ≡ tailOf y fixed bare k at (drop at s)
+  pub tail-open : fixed ≡ false → ((y : Style) (k : ℕ → Noted → Counted) → tail.told y s r k ≡ openTail y k bare at (drop at s))
+      → (y : Style) (k : ℕ → Noted → Counted) → tail.told y s r k ≡ tailOf y fixed bare k at (drop at s)
   unfolding tailOf
   tail-open h q y k = q y k ∙ sym (pick-false _ _ h)
 

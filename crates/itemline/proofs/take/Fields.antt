@@ -21,7 +21,7 @@ use Rattle.paper.specs.BankField as banks
 use Rattle.paper.specs.BankField.{readBank}
 use Rattle.paper.specs.Batch.{most14}
 use Rattle.paper.specs.Bytes.{fieldOf}
-use Rattle.paper.specs.Entries.{Said, gap}
+use Rattle.paper.specs.Entries.{Counted, counted, gap}
 use Rattle.paper.specs.ItemLine.{isValue, readItem}
 use Rattle.amount.proofs.Sound.{amount-within}
 use Rattle.bank.proofs.Sound.{bank-warnings}
@@ -39,7 +39,7 @@ use Rattle.itemline.specs.declared.take.Paid.{Paid}
 use Rattle.itemline.specs.declared.take.Front.{Front}
 use Rattle.numeral.specs.placed.Said.{isSaid}
 use Rattle.itemline.specs.take.Made.{taken, madePaid, made, Small}
-use Rattle.numeral.proofs.placed.Goes.{said-as, field-value}
+use Rattle.numeral.proofs.placed.Goes.{said-as, said-counted, field-value}
 use Rattle.itemline.proofs.take.Stages.{stage-there}
 
 -- ---- the amount: v and e are its value and its end
@@ -78,7 +78,7 @@ module _ (ranked : Bool) (s : List ℕ) (at : ℕ) (b : Bank) (g : toldBank b �
   front-small paid variable l = record { low = l; few = bank-few }
 
 module _ (sh : Sheet) (paid : Paid) (variable : ℕ) (s : List ℕ) (at : ℕ) where
-  abbrev rest : banks.Bank → ℕ → List ℕ → Said
+  abbrev rest : banks.Bank → ℕ → List ℕ → Counted
   rest b a1 s1 = tailOf (sh .text) (sh .fixedtail) (sh .bare) (madePaid paid variable b) a1 s1
 
   pub bank-value : isSaid (fromBank sh (madePaid paid variable) at (drop at s)) ≡ true → isValue (readBank (sh .priority) (fieldOf (drop at s))) ≡ true
@@ -93,7 +93,7 @@ module _ (sh : Sheet) (paid : Paid) (variable : ℕ) (s : List ℕ) (at : ℕ) w
     pub bank-said : isSaid (fromBank sh (madePaid paid variable) at (drop at s)) ≡ true → isSaid (tailOf (sh .text) (sh .fixedtail) (sh .bare) (made (front paid variable b)) (b .end) (drop (b .end) s)) ≡ true
     bank-said h = said-as _ _ h to-tail
 
-    pub bank-is : (r : Said) → r ≡ tailOf (sh .text) (sh .fixedtail) (sh .bare) (made (front paid variable b)) (b .end) (drop (b .end) s) → r ≡ fromBank sh (madePaid paid variable) at (drop at s)
+    pub bank-is : (r : Counted) → r ≡ tailOf (sh .text) (sh .fixedtail) (sh .bare) (made (front paid variable b)) (b .end) (drop (b .end) s) → r ≡ fromBank sh (madePaid paid variable) at (drop at s)
     bank-is r e = e ∙ sym to-tail
 
 pub ruleset bankings = (bank-value, bank-within, front-small, bank-said, bank-is)
@@ -101,7 +101,7 @@ pub ruleset bankings = (bank-value, bank-within, front-small, bank-said, bank-is
 -- ---- the payer, where the group is single: p is what its taker answered
 
 -- the line's first field
-at-first : {A : Type 0} (read : List ℕ → Field A) (s : List ℕ) (k : A → ℕ → List ℕ → Said) → spaced read 0 (drop 0 s) k ≡ spaced read 0 s k
+at-first : {A : Type 0} (read : List ℕ → Field A) (s : List ℕ) (k : A → ℕ → List ℕ → Counted) → spaced read 0 (drop 0 s) k ≡ spaced read 0 s k
 at-first read s k = rw drop-none
 
 module _ (joined : Bool) (least : ℕ) (single : Bool) (s : List ℕ) (y : single ≡ true) (h : single ≡ true → There (readAccount joined least) s 0) where
@@ -115,14 +115,14 @@ module _ (joined : Bool) (least : ℕ) (single : Bool) (s : List ℕ) (y : singl
     pub payer-room : length s < 18446744073709551616 → Fits w64 (p .end + 1)
     payer-room l = omega (arith, inside)
 
-    pub payer-is : (k : paper.Account → ℕ → List ℕ → Said) (r : Said) → r ≡ k (taken p) (p .end + 1) (drop (p .end + 1) s) → r ≡ payerFirst joined least single s k
+    pub payer-is : (k : paper.Account → ℕ → List ℕ → Counted) (r : Counted) → r ≡ k (taken p) (p .end + 1) (drop (p .end + 1) s) → r ≡ payerFirst joined least single s k
     unfolding payerFirst spaced
     payer-is k r e =
         step-gap r s (p .end) inside (λ a2 s2. k (taken p) a2 s2) e
         ∙ (sym (found-field (readAccount joined least) s 0 (taken p) (p .end) g (λ payer a1 s1. gap a1 s1 λ a2 s2. k payer a2 s2))
         ∙ (at-first (readAccount joined least) s k ∙ sym (pick-true _ _ y)))
 
-pub no-payer : (joined : Bool) (least : ℕ) (single : Bool) (s : List ℕ) → single ≡ false → (k : paper.Account → ℕ → List ℕ → Said) (r : Said)
+pub no-payer : (joined : Bool) (least : ℕ) (single : Bool) (s : List ℕ) → single ≡ false → (k : paper.Account → ℕ → List ℕ → Counted) (r : Counted)
     → r ≡ k (paper.account 0 0) 0 (drop 0 s) → r ≡ payerFirst joined least single s k
 unfolding payerFirst
 no-payer joined least single s y k r e = rw drop-none at e ∙ sym (pick-false _ _ y)
@@ -136,17 +136,17 @@ module _ (sh : Sheet) (single : Bool) (s : List ℕ) (h : isSaid (readItem sh si
   unfolding walk payerFirst
   first-there y =
       stage-there (readAccount (sh .joined) (sh .basemin)) s 0 (λ payer at rest. fromPayee sh (itemSaid payer) at rest)
-      (said-as _ _ h (item-walk sh single s ∙ (pick-true _ _ y ∙ sym (at-first (readAccount (sh .joined) (sh .basemin)) s (λ payer at rest. fromPayee sh (itemSaid payer) at rest)))))
+      (said-as _ _ (said-counted _ ∙ h) (item-walk sh single s ∙ (pick-true _ _ y ∙ sym (at-first (readAccount (sh .joined) (sh .basemin)) s (λ payer at rest. fromPayee sh (itemSaid payer) at rest)))))
 
-  module _ (p : Account) (g : (k : paper.Account → ℕ → List ℕ → Said) → k (taken p) (p .end) (drop (p .end) s) ≡ payerFirst (sh .joined) (sh .basemin) single s k) where
-    to-payee : readItem sh single s ≡ fromPayee sh (itemSaid (taken p)) (p .end) (drop (p .end) s)
+  module _ (p : Account) (g : (k : paper.Account → ℕ → List ℕ → Counted) → k (taken p) (p .end) (drop (p .end) s) ≡ payerFirst (sh .joined) (sh .basemin) single s k) where
+    to-payee : counted (readItem sh single s) ≡ fromPayee sh (itemSaid (taken p)) (p .end) (drop (p .end) s)
     unfolding walk
     to-payee = item-walk sh single s ∙ sym (g (λ payer at rest. fromPayee sh (itemSaid payer) at rest))
 
     pub payee-said : isSaid (fromPayee sh (itemSaid (taken p)) (p .end) (drop (p .end) s)) ≡ true
-    payee-said = said-as _ _ h to-payee
+    payee-said = said-as _ _ (said-counted _ ∙ h) to-payee
 
-    pub item-is : (r : Said) → r ≡ fromPayee sh (itemSaid (taken p)) (p .end) (drop (p .end) s) → r ≡ readItem sh single s
+    pub item-is : (r : Counted) → r ≡ fromPayee sh (itemSaid (taken p)) (p .end) (drop (p .end) s) → r ≡ counted (readItem sh single s)
     item-is r e = e ∙ sym to-payee
 
 pub ruleset lines = (first-there, payee-said, item-is)

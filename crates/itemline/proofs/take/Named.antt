@@ -15,9 +15,9 @@ use Rattle.base.specs.Seek.{all, seek}
 use Rattle.base.proofs.Cases.{by-eq, by-test, pick-true}
 use Rattle.base.proofs.Seek.{never, seek-within}
 use Rattle.sheet.specs.declared.Style.{Style}
-use Rattle.paper.specs.Read.{Field, value}
+use Rattle.paper.specs.Read.{Field, value, fault}
 use Rattle.paper.specs.Bytes.{isText, bar, mark}
-use Rattle.paper.specs.Texts.{Texts, others, messageEnd, message, readText}
+use Rattle.paper.specs.Texts.{Noted, others, messageEnd, message, readText}
 use Rattle.paper.specs.ItemLine.{isValue}
 use Rattle.text.specs.declared.span.Part.{Part}
 use Rattle.text.specs.declared.span.Span.{Span}
@@ -30,7 +30,7 @@ use Rattle.text.specs.declared.TextRead.{TextRead}
 use Rattle.text.specs.declared.TextRead.the-variants as answer
 use Rattle.text.specs.declared.Begun.{Begun}
 use Rattle.text.specs.declared.Begun.the-variants as begun
-use Rattle.text.specs.Told.{told, Tells}
+use Rattle.text.specs.Told.{countText, told, Tells}
 use Rattle.text.specs.Begun.{ofText, Begins}
 use Rattle.text.specs.Finish.{judged, finishOne, finishAt, nameAt}
 use Rattle.text.proofs.Exits.{message-read, read-name, inside-name}
@@ -209,7 +209,13 @@ value-four s y m from at len h =
     (λ e. by-test (y .cuts) (λ f. (simp (e, f), e))
     (λ f. by-test (eqb (fourFrom m from at len .warnings) 0) (λ g. (simp (e, f, g), e)) (λ g. never (sym (simp (e, f, g) at h)))))
 
-tells-value : (s : List ℕ) (r : TextRead) (f : Spans) (x : Field Texts) → Tells s r x → r ≡ answer.Texts f → (value (textsAt s f) ≡ x) × Held s f
+-- texts that are read are so with their warnings counted
+value-counted : (x : Field Noted) → isValue x ≡ true → isValue (countText x) ≡ true
+unfolding countText isValue
+value-counted (value z) h = refl
+value-counted (fault n) h = h
+
+tells-value : (s : List ℕ) (r : TextRead) (f : Spans) (x : Field Noted) → Tells s r x → r ≡ answer.Texts f → (value (textsAt s f) ≡ countText x) × Held s f
 tells-value s r f x t e = (rw e at (t .says), rw e at (t .inside))
 
 -- take_message, where there are names
@@ -232,25 +238,25 @@ module _ (y : Style) (small : y .most ≤ 4) (s : List ℕ) (from : ℕ) (l : fr
         (ap (λ (x : List ℕ). finishAt y x from (nameOf s from .at) (nameOf s from .len)) (sym same-line))
 
     good : isValue (told s judged-so) ≡ true
-    good = value-as _ _ h (sym (tells .says))
+    good = value-as _ _ (value-counted _ h) (sym (tells .says))
 
     pub message-few : length (others from (drop from (unnamed s from))) < 4
     unfolding judged-so
     message-few =
         omega (arith, leb-false (y .most) (length (others from (drop from (unnamed s from)))) (value-four s y (unnamed s from) from (nameOf s from .at) (nameOf s from .len) good .1))
 
-    named-found : (value (textsAt s (withName s from)) ≡ message y from (drop from s)) × Held s (withName s from)
+    named-found : (value (textsAt s (withName s from)) ≡ countText (message y from (drop from s))) × Held s (withName s from)
     unfolding judged-so withName
     named-found = tells-value s judged-so (withName s from) _ tells (value-four s y (unnamed s from) from (nameOf s from .at) (nameOf s from .len) good .0)
 
-    pub named-is : (r : Spans) → r ≡ withName s from → value (textsAt s r) ≡ message y from (drop from s)
+    pub named-is : (r : Spans) → r ≡ withName s from → value (textsAt s r) ≡ countText (message y from (drop from s))
     named-is r e = rw e (named-found .0)
 
     pub named-held : (r : Spans) → r ≡ withName s from → Held s r
     named-held r e = rw e (named-found .1)
 
   module _ (none : y .names ≡ false) where
-    pub nameless-is : (r : Spans) → r ≡ fourFrom s from 0 0 → value (textsAt s r) ≡ message y from (drop from s)
+    pub nameless-is : (r : Spans) → r ≡ fourFrom s from 0 0 → value (textsAt s r) ≡ countText (message y from (drop from s))
     nameless-is r e = rw e (message-is y small none s from l h)
 
     pub nameless-held : (r : Spans) → r ≡ fourFrom s from 0 0 → Held s r
@@ -271,7 +277,7 @@ module _ (y : Style) (s : List ℕ) (from : ℕ) (l : from ≤ length s) (h : is
     unfolding isValue
     nothing = never (sym (value-as _ _ h (of-text .1 ∙ sym (rw e at (t .means)))))
 
-    pub refused-not : value (textsAt s f) ≡ readText y from (drop from s)
+    pub refused-not : value (textsAt s f) ≡ countText (readText y from (drop from s))
     refused-not = nothing
 
     pub refused-none : Held s f
@@ -292,12 +298,12 @@ module _ (y : Style) (s : List ℕ) (from : ℕ) (l : from ≤ length s) (h : is
             inside = inside-name y s from l (all isText (drop from s)) refl (of-text .0) q t e small _ refl;
           }
 
-      name-found : (value (textsAt s (oneAt from 0 (from + 3) (length s - from - 3))) ≡ readText y from (drop from s)) × Held s (oneAt from 0 (from + 3) (length s - from - 3))
+      name-found : (value (textsAt s (oneAt from 0 (from + 3) (length s - from - 3))) ≡ countText (readText y from (drop from s))) × Held s (oneAt from 0 (from + 3) (length s - from - 3))
       name-found =
           tells-value s _ (oneAt from 0 (from + 3) (length s - from - 3)) _ name-tells
-          (value-one s y from 0 (from + 3) (length s - from - 3) (value-as _ _ h (sym (name-tells .says))))
+          (value-one s y from 0 (from + 3) (length s - from - 3) (value-as _ _ (value-counted _ h) (sym (name-tells .says))))
 
-      pub name-is : (r : Spans) → r ≡ oneAt from 0 (from + 3) (length s - from - 3) → value (textsAt s r) ≡ readText y from (drop from s)
+      pub name-is : (r : Spans) → r ≡ oneAt from 0 (from + 3) (length s - from - 3) → value (textsAt s r) ≡ countText (readText y from (drop from s))
       name-is r k = rw k (name-found .0)
 
       pub name-held : (r : Spans) → r ≡ oneAt from 0 (from + 3) (length s - from - 3) → Held s r
@@ -313,7 +319,7 @@ module _ (y : Style) (s : List ℕ) (from : ℕ) (l : from ≤ length s) (h : is
     pub begins-value : isValue (message y at (drop at s)) ≡ true
     begins-value = value-as _ _ h (sym same)
 
-    pub begins-is : (r : Spans) → value (textsAt s r) ≡ message y at (drop at s) → value (textsAt s r) ≡ readText y from (drop from s)
-    begins-is r k = k ∙ same
+    pub begins-is : (r : Spans) → value (textsAt s r) ≡ countText (message y at (drop at s)) → value (textsAt s r) ≡ countText (readText y from (drop from s))
+    begins-is r k = k ∙ ap countText same
 
 pub ruleset varied-texts = (refused-not, refused-none, name-room, name-long, name-is, name-held, begins-within, begins-value, begins-is)

@@ -8,7 +8,7 @@ use mir.Val.{Fits}
 use mir.Syntax.{w64}
 use lib.ListN.{length, drop}
 use Rattle.paper.specs.Read.{Field}
-use Rattle.paper.specs.Entries.{Said}
+use Rattle.paper.specs.Entries.{Counted}
 use Rattle.numeral.specs.field.At.{found, fieldAt}
 use Rattle.itemline.specs.Walk.{spaced}
 use Rattle.numeral.specs.placed.Known.{There}
@@ -17,7 +17,7 @@ use Rattle.numeral.proofs.placed.Goes.{said-as, next-inside, next-goes, next-th
 
 -- v and e are the field's value and end
 
-module _ {A : Type 0} (read : List ℕ → Field A) (s : List ℕ) (at : ℕ) (k : A → ℕ → List ℕ → Said) (h : isSaid (spaced read at (drop at s) k) ≡ true) where
+module _ {A : Type 0} (read : List ℕ → Field A) (s : List ℕ) (at : ℕ) (k : A → ℕ → List ℕ → Counted) (h : isSaid (spaced read at (drop at s) k) ≡ true) where
   pub stage-there : There read s at
   unfolding spaced
   stage-there = next-there read s at k h
@@ -39,10 +39,10 @@ module _ {A : Type 0} (read : List ℕ → Field A) (s : List ℕ) (at : ℕ) (k
     stage-room l = omega (arith, inside)
 
     -- the next stage, n, says something; what it says, r, is what this one says
-    pub stage-said : (n : Said) → n ≡ k v (e + 1) (drop (e + 1) s) → isSaid n ≡ true
+    pub stage-said : (n : Counted) → n ≡ k v (e + 1) (drop (e + 1) s) → isSaid n ≡ true
     stage-said n q = said-as _ _ h (to-next ∙ sym q)
 
-    pub stage-is : (r : Said) → r ≡ k v (e + 1) (drop (e + 1) s) → r ≡ spaced read at (drop at s) k
+    pub stage-is : (r : Counted) → r ≡ k v (e + 1) (drop (e + 1) s) → r ≡ spaced read at (drop at s) k
     stage-is r q = q ∙ sym to-next
 
 pub ruleset stages = (stage-there, stage-within, stage-room, stage-said, stage-is, refl)

@@ -14,8 +14,8 @@ use Rattle.sheet.specs.declared.Style.{Style}
 use Rattle.paper.specs.Read.{value}
 use Rattle.paper.specs.Bytes.{fieldOf, null}
 use Rattle.paper.specs.Numerals.{digits}
-use Rattle.paper.specs.Texts.{Texts, readText}
-use Rattle.paper.specs.Entries.{Said, no, field, gap, toEnd}
+use Rattle.paper.specs.Texts.{Noted, readText}
+use Rattle.paper.specs.Entries.{Counted, no, field, gap, toEnd}
 use Rattle.paper.specs.ItemLine.{readSymbolOrNone, noTexts, afterSymbol, fixedTail, openTail}
 use Rattle.numeral.specs.field.At.{missed, fieldAt}
 use Rattle.numeral.specs.field.Digits.{run}
@@ -28,12 +28,12 @@ use Rattle.itemline.proofs.tail.Tails.{step-symbol, step-no-symbol, aft
 use Rattle.numeral.specs.placed.Said.{isSaid}
 use Rattle.numeral.proofs.placed.Goes.{not-said, said-as, gap-inside, gap-goes}
 
-module _ (y : Style) (fixed bare : Bool) (k : ℕ → Texts → Said) (s : List ℕ) (at : ℕ) (h : isSaid (tailOf y fixed bare k at (drop at s)) ≡ true) where
-  abbrev all : Said
+module _ (y : Style) (fixed bare : Bool) (k : ℕ → Noted → Counted) (s : List ℕ) (at : ℕ) (h : isSaid (tailOf y fixed bare k at (drop at s)) ≡ true) where
+  abbrev all : Counted
   all = tailOf y fixed bare k at (drop at s)
 
   -- the text that begins at a place
-  abbrev text : ℕ → ℕ → Said
+  abbrev text : ℕ → ℕ → Counted
   text v from = toEnd (readText y from) from (drop from s) (λ texts. k v texts)
 
   is-fixed : fixed ≡ true → all ≡ fixedTail y k at (drop at s)
@@ -48,7 +48,7 @@ module _ (y : Style) (fixed bare : Bool) (k : ℕ → Texts → Said) (s : List 
   unfolding fixedTail gap
   short-fixed l = rw (drop-of-length-le s l)
 
-  pub tail-none : length s ≤ at → (w : Said) → w ≡ k 0 noTexts → w ≡ tailOf y fixed bare k at (drop at s)
+  pub tail-none : length s ≤ at → (w : Counted) → w ≡ k 0 noTexts → w ≡ tailOf y fixed bare k at (drop at s)
   tail-none l w z =
       z
       ∙ by-test fixed
@@ -61,7 +61,7 @@ module _ (y : Style) (fixed bare : Bool) (k : ℕ → Texts → Said) (s : List 
 
     -- both spaces stand there
     module _ (f : fixed ≡ true) where
-      abbrev behind : ℕ → ℕ → List ℕ → Said
+      abbrev behind : ℕ → ℕ → List ℕ → Counted
       behind specific a2 s2 = gap a2 s2 λ a3 s3. toEnd (readText y a3) a3 s3 λ texts. k specific texts
 
       to-symbol : all ≡ field readSymbolOrNone (at + 1) (drop (at + 1) s) (λ specific a2 s2. behind specific a2 s2)
@@ -93,7 +93,7 @@ module _ (y : Style) (fixed bare : Bool) (k : ℕ → Texts → Said) (s : List 
 
     -- a symbol and a text may be missing
     module _ (f : fixed ≡ false) where
-      open-value : at + 1 < e → ended ≡ true → (q : Said) → q ≡ afterSymbol y k v e (drop e s) → q ≡ all
+      open-value : at + 1 < e → ended ≡ true → (q : Counted) → q ≡ afterSymbol y k v e (drop e s) → q ≡ all
       open-value l t q c =
           open-symbol y k q s bare at b (num.Value v e)
           (number-value s (at + 1) 1 10 e v r ended refl t g (omega arith)) v e refl c
@@ -107,7 +107,7 @@ module _ (y : Style) (fixed bare : Bool) (k : ℕ → Texts → Said) (s : List 
           (is-open f ∙ sym (open-refused y k (no 4 (at + 1)) s bare at b (num.Refused 4) c 4 refl t refl)) h)
 
     module _ (l : at + 1 < e) where
-      pub tail-plain : length s ≤ e → (w : Said) → w ≡ k v noTexts → w ≡ tailOf y fixed bare k at (drop at s)
+      pub tail-plain : length s ≤ e → (w : Counted) → w ≡ k v noTexts → w ≡ tailOf y fixed bare k at (drop at s)
       tail-plain c w z =
           z
           ∙ by-test fixed
@@ -115,21 +115,21 @@ module _ (y : Style) (fixed bare : Bool) (k : ℕ → Texts → Said) (s : List 
           (λ f. open-value f l (sym (ends-here s e c)) (k v noTexts) (after-none y k (k v noTexts) s v e c refl))
 
       module _ (c : e < length s) where
-        pub tail-text : getD s e 0 ≡ 32 → (w : Said) → w ≡ toEnd (readText y (e + 1)) (e + 1) (drop (e + 1) s) (λ texts. k v texts) → w ≡ tailOf y fixed bare k at (drop at s)
+        pub tail-text : getD s e 0 ≡ 32 → (w : Counted) → w ≡ toEnd (readText y (e + 1)) (e + 1) (drop (e + 1) s) (λ texts. k v texts) → w ≡ tailOf y fixed bare k at (drop at s)
         tail-text q w z =
             z
             ∙ by-test fixed fixed-is
             (λ f. open-value f l (sym (ends-byte s e c) ∙ eq-eqb (getD s e 0) 32 q) (text v (e + 1))
             (after-text y k (text v (e + 1)) s v e c refl))
 
-        pub tail-bare : (getD s e 0 ≡ 32 → ⊥) → (w : Said) → w ≡ toEnd (readText y (at + 1)) (at + 1) (drop (at + 1) s) (λ texts. k 0 texts) → w ≡ tailOf y fixed bare k at (drop at s)
+        pub tail-bare : (getD s e 0 ≡ 32 → ⊥) → (w : Counted) → w ≡ toEnd (readText y (at + 1)) (at + 1) (drop (at + 1) s) (λ texts. k 0 texts) → w ≡ tailOf y fixed bare k at (drop at s)
         tail-bare q w z =
             let n : ended ≡ false = sym (ends-byte s e c) ∙ ne-eqb (getD s e 0) 32 q in
             z
             ∙ by-test fixed (λ f. never (sym (fixed-ends f) ∙ n)) (λ f. open-not f (number-long s (at + 1) 1 10 e v r ended refl n))
 
     module _ (l : e ≤ at + 1) where
-      pub tail-fixed : fixed ≡ true → (w : Said) → w ≡ toEnd (readText y (e + 1)) (e + 1) (drop (e + 1) s) (λ texts. k v texts) → w ≡ tailOf y fixed bare k at (drop at s)
+      pub tail-fixed : fixed ≡ true → (w : Counted) → w ≡ toEnd (readText y (e + 1)) (e + 1) (drop (e + 1) s) (λ texts. k v texts) → w ≡ tailOf y fixed bare k at (drop at s)
       tail-fixed f w z = z ∙ fixed-is f
 
       pub fixed-within : fixed ≡ true → e + 1 ≤ length s
@@ -138,7 +138,7 @@ module _ (y : Style) (fixed bare : Bool) (k : ℕ → Texts → Said) (s : List 
       pub fixed-room : fixed ≡ true → length s < 18446744073709551616 → Fits w64 (e + 1)
       fixed-room f c = omega (arith, fixed-inside f)
 
-      pub tail-open : fixed ≡ false → (w : Said) → w ≡ toEnd (readText y (at + 1)) (at + 1) (drop (at + 1) s) (λ texts. k 0 texts) → w ≡ tailOf y fixed bare k at (drop at s)
+      pub tail-open : fixed ≡ false → (w : Counted) → w ≡ toEnd (readText y (at + 1)) (at + 1) (drop (at + 1) s) (λ texts. k 0 texts) → w ≡ tailOf y fixed bare k at (drop at s)
       tail-open f w z =
           z
           ∙ by-test ended

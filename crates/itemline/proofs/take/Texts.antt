@@ -6,7 +6,7 @@ use Prim.Native.Nat.{ℕ, _+_, _≤_, _<_}
 use native.Mathlib.Omega.{arith}
 use mir.Val.{Fits}
 use mir.Syntax.{w64}
-use lib.Dec.{eqb, ltb}
+use lib.Dec.{ltb}
 use lib.ListN.{length, drop, drop-of-length-le, length-drop}
 use lib.Seq.{take-length, drop-drop}
 use borrow.Author.Tests.{ltb-false}
@@ -17,11 +17,12 @@ use Rattle.base.proofs.Seek.{never, starts-long}
 use Rattle.sheet.specs.declared.Style.{Style}
 use Rattle.paper.specs.Read.{Field, value, fault}
 use Rattle.paper.specs.Bytes.{isText, av, np, mark, null}
-use Rattle.paper.specs.Texts.{Piece, piece, Texts, divide, cut, over, overs, pad, opens, finish, messageEnd, message, marked, readText}
+use Rattle.paper.specs.Texts.{Piece, piece, Noted, divide, cut, over, cuts, pad, opens, finish, messageEnd, message, marked, readText}
 use Rattle.paper.specs.ItemLine.{isValue}
 use Rattle.text.specs.declared.span.Spans.{Spans}
 use Rattle.text.specs.span.Held.{textsAt, Held}
 use Rattle.text.specs.span.Places.{fourFrom}
+use Rattle.text.specs.Told.{countText}
 use Rattle.text.proofs.span.Right.{found-right, found-held}
 
 -- ---- a value came through a test
@@ -40,12 +41,12 @@ value-as x z h e = rw e at h
 
 -- ---- parts and name
 
-abbrev done : List Piece → Piece → Texts
-done ps n = record { parts = pad 4 (map cut ps); name = cut n; warnings = overs ps + over n }
+abbrev done : List Piece → Piece → Noted
+done ps n = record { parts = pad 4 (map cut ps); name = cut n; warnings = cuts ps n }
 
 module _ (y : Style) (ps : List Piece) (n : Piece) (h : isValue (finish y ps n) ≡ true) where
-  inner : Field Texts
-  inner = pick (pick (y .cuts) true (eqb (overs ps + over n) 0)) (value (done ps n)) (fault 14)
+  inner : Field Noted
+  inner = pick (pick (y .cuts) true (null (cuts ps n))) (value (done ps n)) (fault 14)
 
   few : length ps ≤ y .most
   unfolding finish inner
@@ -55,7 +56,7 @@ module _ (y : Style) (ps : List Piece) (n : Piece) (h : isValue (finish y ps n) 
   unfolding finish inner
   finished =
       let e = past-not (ltb (y .most) (length ps)) 14 inner h .1 in
-      e ∙ past-yes (pick (y .cuts) true (eqb (overs ps + over n) 0)) 14 (value (done ps n)) (value-as _ _ h e) .1
+      e ∙ past-yes (pick (y .cuts) true (null (cuts ps n))) 14 (value (done ps n)) (value-as _ _ h e) .1
 
 -- a message with no name behind it
 module _ (y : Style) (small : y .most ≤ 4) (nameless : y .names ≡ false) (s : List ℕ) (from : ℕ) (l : from ≤ length s)
@@ -70,13 +71,13 @@ module _ (y : Style) (small : y .most ≤ 4) (nameless : y .names ≡ false) (s 
       let n : length (drop from s) ≤ length (drop from s) + 4 = omega arith in
       rw (e, take-length, drop-of-length-le (drop from s) n)
 
-  pub message-is : value (textsAt s (fourFrom s from 0 0)) ≡ message y from (drop from s)
-  unfolding cut over null pick no-name
+  pub message-is : value (textsAt s (fourFrom s from 0 0)) ≡ countText (message y from (drop from s))
+  unfolding cut over null pick no-name countText
   message-is =
       let g = value-as _ _ h ends in
       let c : length (divide from (drop from s)) ≤ 4 = omega (arith, few y (divide from (drop from s)) no-name g) in
       let r = found-right s s (length s) (sym (take-length s)) from l 0 0 (omega arith) c in
-      ap value r ∙ sym (ends ∙ finished y (divide from (drop from s)) no-name g)
+      ap value r ∙ ap countText (sym (ends ∙ finished y (divide from (drop from s)) no-name g))
 
 pub parts-held : (s : List ℕ) (from : ℕ) (f : Spans) → from ≤ length s → f ≡ fourFrom s from 0 0 → Held s f
 parts-held s from f l e = rw e (found-held s s (length s) (sym (take-length s)) from l 0 0 (omega arith))
@@ -95,7 +96,7 @@ module _ (y : Style) (s : List ℕ) (from : ℕ) (l : from ≤ length s) (plain 
   must : y .may ≡ false
   must = sym (pick-false _ _ nameless) ∙ plain
 
-  body : Field Texts
+  body : Field Noted
   body = pick (y .av) (pick (opens t) (marked y from t) (fault 4)) (message y from t)
 
   text-body : readText y from t ≡ body
@@ -116,7 +117,7 @@ module _ (y : Style) (s : List ℕ) (from : ℕ) (l : from ≤ length s) (plain 
     unfolding marked
     to-av =
         let n : pick (y .names) (starts np t) false ≡ false = pick-false _ _ nameless in
-        pick-false _ _ n ∙ ap (λ (x : Field Texts). pick (starts av t) (message y (from + 3) (drop 3 t)) x) (pick-false _ _ must)
+        pick-false _ _ n ∙ ap (λ (x : Field Noted). pick (starts av t) (message y (from + 3) (drop 3 t)) x) (pick-false _ _ must)
 
     av-there : (starts av t ≡ true) × (pick (starts av t) (message y (from + 3) (drop 3 t)) (fault 14) ≡ message y (from + 3) (drop 3 t))
     av-there = past-yes (starts av t) 14 (message y (from + 3) (drop 3 t)) (value-as _ _ h (to-marked ∙ to-av))
@@ -143,10 +144,10 @@ module _ (y : Style) (s : List ℕ) (from : ℕ) (l : from ≤ length s) (plain 
     pub start-within : m ≤ length s
     start-within = begins (y .av) refl .0
 
-    pub text-is : y .most ≤ 4 → (f : Spans) → f ≡ fourFrom s m 0 0 → value (textsAt s f) ≡ readText y from (drop from s)
+    pub text-is : y .most ≤ 4 → (f : Spans) → f ≡ fourFrom s m 0 0 → value (textsAt s f) ≡ countText (readText y from (drop from s))
     text-is small f e =
         let q = begins (y .av) refl .1 in
-        rw e (message-is y small nameless s m start-within (value-as _ _ h q) ∙ sym q)
+        rw e (message-is y small nameless s m start-within (value-as _ _ h q) ∙ ap countText (sym q))
 
     pub text-held : (f : Spans) → f ≡ fourFrom s m 0 0 → Held s f
     text-held f e = parts-held s m f start-within e

@@ -3,8 +3,8 @@ use Prim.Native.Nat.{ℕ, _+_, _≤_}
 use Rattle.paper.specs.Accounts as paper
 use Rattle.paper.specs.BankField.{Bank}
 use Rattle.paper.specs.Batch.{most14}
-use Rattle.paper.specs.Texts.{Texts}
-use Rattle.paper.specs.Entries.{Said}
+use Rattle.paper.specs.Texts.{Noted}
+use Rattle.paper.specs.Entries.{Counted}
 use Rattle.text.specs.declared.span.Spans.{Spans}
 use Rattle.itemline.specs.declared.Fields.{Fields}
 use Rattle.itemline.specs.Walk.{itemSaid}
@@ -17,11 +17,11 @@ abbrev pub taken : Account → paper.Account
 taken a = paper.account (a .prefix) (a .base)
 
 -- the item, behind the amount
-abbrev pub madePaid : Paid → ℕ → Bank → ℕ → Texts → Said
+abbrev pub madePaid : Paid → ℕ → Bank → ℕ → Noted → Counted
 madePaid x = itemSaid (paper.account (x .payerprefix) (x .payerbase)) (paper.account (x .payeeprefix) (x .payeebase)) (x .amount)
 
 -- the item, behind the bank field
-unfoldable pub made : Front → ℕ → Texts → Said
+unfoldable pub made : Front → ℕ → Noted → Counted
 made x =
     madePaid (x .paid) (x .variable)
     (record { bank = x .bank; constant = x .constant; priority = x .priority; warnings = x .warnings })

@@ -1,7 +1,7 @@
 -- The line of an account file, and the file's end: where reading stands behind it. Assumes nothing.
 use mathlib.Core.Path.{_≡_, refl, ap, _∙_}
 use mathlib.Core.Bool.{Bool, false}
-use mathlib.Core.List.{List, [], _∷_}
+use mathlib.Core.List.{List, _∷_}
 use Prim.Native.Nat.{ℕ, _+_, _/_, _≤_, _<_}
 use native.Mathlib.Omega.{arith}
 use lib.ListN.{length}
@@ -9,9 +9,9 @@ use borrow.Author.Tests.{le-leb, lt-leb, eq-eqb, ne-eqb}
 use Rattle.base.specs.Pick.{pick}
 use Rattle.sheet.specs.declared.Sheet.{Sheet}
 use Rattle.paper.specs.Batch.{Header}
-use Rattle.paper.specs.Entries.{file, got, no, Kind, fileLine, kindOf}
+use Rattle.paper.specs.Entries.{file, Places, plain, said, no, counted, Kind, fileLine, kindOf, onFile}
+use Rattle.paper.specs.Warnings.{Notice}
 use Rattle.paper.specs.Spells.{numberTest, readAs}
-use Rattle.paper.specs.Judge.{onFile}
 use Rattle.paper.specs.FileLine.{series, numberFault, readFile}
 use Rattle.paper.proofs.LineSays.{LineSays, a-file, file-says, refusal-in}
 use Rattle.paper.proofs.Starts.{kind-long}
@@ -44,14 +44,14 @@ cut-inside f at cut cuts = omega (arith, cuts .to, cuts .inside)
 
 -- ---- a number has six digits
 
-low-of : {sh : Sheet} {today : ℕ} {test : ℕ → ℕ} {single : Bool} {w : List ℕ} {kind : Kind} {k n v : ℕ} {p : List ℕ}
-    → LineSays sh today test single w kind (got (file k n) v p) → n < 1000000
+low-of : {sh : Sheet} {today : ℕ} {test : ℕ → ℕ} {single : Bool} {w : List ℕ} {kind : Kind} {k n : ℕ} {v : List Notice} {p : Places}
+    → LineSays sh today test single w kind (said (file k n) v p) → n < 1000000
 low-of {test = test} (a-file {number = n} _ g _ _) = number-tested test (g .0) n (g .1) .0
 
 -- the first three digits of a number that was read
 pub series-low : (sh : Sheet) (test : ℕ → ℕ) (s : List ℕ) (r : FileRead) → files.told r ≡ readFile sh test s → (kind number : ℕ) → r ≡ reads.File kind number → number / 1000 < 1000
 series-low sh test s r t kind number e =
-    let u : got (file kind number) 0 [] ≡ readFile sh test s = rw e at t in
+    let u : plain (file kind number) ≡ readFile sh test s = rw e at t in
     omega (arith, low-of (rw (← u) at (file-says sh 0 test false s)))
 
 pub file-within : (sh : Sheet) (test : ℕ → ℕ) (f : List ℕ) (at : ℕ) (cut : Cut) → Cuts f at cut → kindOf (cut-of f at (cut .stop)) ≡ fileLine
@@ -122,27 +122,27 @@ module _ (sh : Sheet) (f : List ℕ) (at k : ℕ) (c : Counts) (cut : Cut) (cuts
 
       module _ (room : c .files < 1000) (r : FileRead) (t : files.told r ≡ readFile sh (faultIn (sh .interval) from to words) (cut-of f at (cut .stop))) where
         -- r was found to be v; the header and the words say which numbers are allowed
-        said : (v : FileRead) → r ≡ v → (today : ℕ) (h : Header) → h .from ≡ from → h .to ≡ to → (l : List ℕ) → Holds words l
-            → onSaid sh k at (files.told v) (tFile (bookOf h l c)) ≡ step sh today k (lineIn f at (cut .stop)) (tFile (bookOf h l c))
+        says : (v : FileRead) → r ≡ v → (today : ℕ) (h : Header) → h .from ≡ from → h .to ≡ to → (l : List ℕ) → Holds words l
+            → onSaid sh k at (counted (files.told v)) (tFile (bookOf h l c)) ≡ step sh today k (lineIn f at (cut .stop)) (tFile (bookOf h l c))
         unfolding step isDue isFull contextOf readAs numberTest
-        said v x today h p q l held =
+        says v x today h p q l held =
             let free : faultIn (sh .interval) from to words ≡ numberFault (sh .interval) h l = rw (← p, ← q) (same-fault (sh .interval) h words l held) in
             let u : files.told v ≡ readFile sh (numberFault (sh .interval) h l) (cut-of f at (cut .stop)) = (rw x at t) ∙ ap (λ (test : ℕ → ℕ). readFile sh test (cut-of f at (cut .stop))) free in
-            by-fields sh today k (lineIn f at (cut .stop)) (tFile (bookOf h l c)) refl fileLine e refl (lt-leb _ _ room) _ u
+            by-fields sh today k (lineIn f at (cut .stop)) (tFile (bookOf h l c)) refl fileLine e refl (lt-leb _ _ room) _ (ap counted u)
 
         pub file-refused : (n off : ℕ) → r ≡ reads.Refused n off → (byte : ℕ) → byte ≡ at + off → Stepped sh from to f (left.File at k c) words words (left.Refused n k byte)
-        unfolding onSaid
-        file-refused n off x byte y = rw y (stops n (at + off) (said (reads.Refused n off) x))
+        unfolding onSaid counted
+        file-refused n off x byte y = rw y (stops n (at + off) (says (reads.Refused n off) x))
 
         -- the words have the number's first three digits besides
         module _ (good : AtFile f at k c) (kind number : ℕ) (x : r ≡ reads.File kind number) (after : List ℕ) (marks : (l : List ℕ) → Holds words l → Holds after (series number ∷ l)) where
           opened-same : (today : ℕ) (h : Header) → h .from ≡ from → h .to ≡ to → (l : List ℕ) → Holds words l
               → resume sh today f h (series number ∷ l) (left.Group (cut .next) (k + 1) (fileMore c) (record { items = 0; groups = 0 }))
               ≡ resume sh today f h l (left.File at k c)
-          unfolding resume onSaid meet onFile
+          unfolding resume onSaid meet onFile counted
           opened-same today h p q l held =
               let z : c .warnings + 0 ≡ c .warnings = omega arith in
-              run-on sh today (length f) k f at cut cuts (tFile (bookOf h l c)) _ (rw z at (said (reads.File kind number) x today h p q l held))
+              run-on sh today (length f) k f at cut cuts (tFile (bookOf h l c)) _ (rw z at (says (reads.File kind number) x today h p q l held))
 
           pub file-opened : (more : Counts) → more ≡ fileMore c
               → Stepped sh from to f (left.File at k c) words after (left.Group (cut .next) (k + 1) more (record { items = 0; groups = 0 }))

@@ -1,7 +1,7 @@
 -- A whole group, and the line that closes an account file: where reading stands behind it. Assumes nothing.
-use mathlib.Core.Path.{_≡_, refl, _∙_}
+use mathlib.Core.Path.{_≡_, refl, ap, _∙_}
 use mathlib.Core.Bool.{Bool, false}
-use mathlib.Core.List.{List, [], _∷_}
+use mathlib.Core.List.{List}
 use Prim.Native.Nat.{ℕ, _+_, _≤_}
 use native.Mathlib.Omega.{arith}
 use lib.ListN.{length}
@@ -10,11 +10,11 @@ use Rattle.base.specs.Pick.{pick}
 use Rattle.sheet.specs.declared.Sheet.{Sheet}
 use Rattle.paper.specs.Accounts.{isNobody}
 use Rattle.paper.specs.Batch.{Header}
-use Rattle.paper.specs.Entries.{Entry, group, closeFile, got, no, groupLine, fileEnd, kindOf}
+use Rattle.paper.specs.Entries.{Entry, group, closeFile, totalAt, counted, groupLine, fileEnd, kindOf, onGroup}
 use Rattle.paper.specs.GroupLine.{readGroup}
 use Rattle.paper.specs.ClosingLine.{readClose}
 use Rattle.paper.specs.Spells.{readAs}
-use Rattle.paper.specs.Judge.{firstOr0, onGroup}
+use Rattle.paper.proofs.Passing.{counted-said, counted-no}
 use Rattle.paper.proofs.LineSays.{group-says, refusal-in, total-in}
 use Rattle.paper.proofs.Starts.{kind-long}
 use Rattle.scan.specs.declared.line.Cut.{Cut}
@@ -52,13 +52,13 @@ module _ (f : List ℕ) (at stop : ℕ) (p : at ≤ stop) (q : stop ≤ length f
   -- a refusal's, and the total's
   pub group-within : (n off : ℕ) → r ≡ reads.Refused n off → at + off ≤ stop
   group-within n off x =
-      let u : no n off ≡ readGroup sh today (cut-of f at stop) = rw x at (t .says) in
+      let u = counted-no (readGroup sh today (cut-of f at stop)) n off (rw x at (t .says)) in
       within f at stop off p q (refusal-in (rw (← u) at (group-says sh today (λ _. 0) false (cut-of f at stop))) (kind-long (cut-of f at stop) groupLine e))
 
   pub total-within : (single : Bool) (total date warnings spot : ℕ) → r ≡ reads.Group single total date warnings spot → at + spot ≤ stop
   total-within single total date warnings spot x =
-      let u : got (group (t .payer) total date) warnings (spot ∷ []) ≡ readGroup sh today (cut-of f at stop) = rw x at (t .says) in
-      within f at stop spot p q (total-in (rw (← u) at (group-says sh today (λ _. 0) false (cut-of f at stop))) (kind-long (cut-of f at stop) groupLine e))
+      let (w, u) = counted-said (readGroup sh today (cut-of f at stop)) {e = group (t .payer) total date} {p = totalAt spot} (rw x at (t .says)) in
+      within f at stop spot p q (total-in (rw u at (group-says sh today (λ _. 0) false (cut-of f at stop))) (kind-long (cut-of f at stop) groupLine e))
 
 -- a line warns once at most
 pub warns-once : (r : GroupRead) → groups.Low r → (single : Bool) (total date warnings spot : ℕ) → r ≡ reads.Group single total date warnings spot → warnings ≤ 1
@@ -101,7 +101,7 @@ module _ (sh : Sheet) (today : ℕ) (f : List ℕ) (at stop k : ℕ) (c : Counts
 
   pub opening-group : (single : Bool) (total date warnings spot : ℕ) → r ≡ reads.Group single total date warnings spot → (byte : ℕ) → byte ≡ at + spot
       → (x : Held) → NewHeld c s warnings single total k byte x → Opens sh today (lineIn f at stop) k c s (opening.Group x)
-  unfolding onSaid meet onGroup firstOr0 groupHeld
+  unfolding onSaid meet onGroup groupHeld
   opening-group single total date warnings spot q byte y x new =
       let same : x ≡ groupHeld c s warnings single total k (at + spot) = rw y at (new .same) in
       let nobody : single ≡ isNobody (t .payer) = rw q at (t .single) in
@@ -190,16 +190,16 @@ module _ (sh : Sheet) (f : List ℕ) (at k : ℕ) (c : Counts) (s : Shelf) (cut 
         not-due sh today k (lineIn f at (cut .stop)) (inFile h l c s) refl fileEnd e (simp (eq-eqb _ _ z))
 
     module _ (z : s .groups ≡ 0 → ⊥) (r : CloseRead) (t : (x : Entry) → closes.told x r ≡ readClose (sh .near) x (cut-of f at (cut .stop))) where
-      closed-as : (v : CloseRead) → r ≡ v → (today : ℕ) (h : Header) (l : List ℕ) → onSaid sh k at (closes.told closeFile v) (inFile h l c s) ≡ step sh today k (lineIn f at (cut .stop)) (inFile h l c s)
+      closed-as : (v : CloseRead) → r ≡ v → (today : ℕ) (h : Header) (l : List ℕ) → onSaid sh k at (counted (closes.told closeFile v)) (inFile h l c s) ≡ step sh today k (lineIn f at (cut .stop)) (inFile h l c s)
       unfolding step isDue isFull readAs pick
-      closed-as v q today h l = by-fields sh today k (lineIn f at (cut .stop)) (inFile h l c s) refl fileEnd e (simp (ne-eqb _ _ z)) refl _ (rw q at (t closeFile))
+      closed-as v q today h l = by-fields sh today k (lineIn f at (cut .stop)) (inFile h l c s) refl fileEnd e (simp (ne-eqb _ _ z)) refl _ (ap counted (rw q at (t closeFile)))
 
       pub file-end-refused : (n off : ℕ) → r ≡ closing.Refused n off → (byte : ℕ) → byte ≡ at + off → (today : ℕ) → Moved sh today f (left.Group at k c s) (left.Refused n k byte)
-      unfolding onSaid
+      unfolding onSaid counted
       file-end-refused n off q byte y today = rw y (stops today n (at + off) (closed-as (closing.Refused n off) q today))
 
       pub file-closed : AtGroup f at k c s → r ≡ closing.Closed → (today : ℕ) → Moved sh today f (left.Group at k c s) (left.File (cut .next) (k + 1) c)
-      unfolding resume onSaid meet onGroup
+      unfolding resume onSaid meet onGroup counted
       file-closed good q today =
           let w : c .warnings + 0 ≡ c .warnings = omega arith in
           record {

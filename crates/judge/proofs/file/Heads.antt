@@ -12,10 +12,9 @@ use Rattle.base.proofs.Seek.{never}
 use Rattle.sheet.specs.declared.Sheet.{Sheet}
 use Rattle.paper.specs.Batch.{Header, noHeader}
 use Rattle.paper.specs.Lines.{linesOf, linesFrom}
-use Rattle.paper.specs.Entries.{headLine, kindOf}
+use Rattle.paper.specs.Entries.{counted, headLine, kindOf, onHead}
 use Rattle.paper.specs.FirstLine.{readFirst}
 use Rattle.paper.specs.Spells.{readAs}
-use Rattle.paper.specs.Judge.{onHead}
 use Rattle.paper.proofs.Starts.{kind-long}
 use Rattle.scan.specs.declared.line.Cut.{Cut}
 use Rattle.scan.specs.line.Cutting.{Cuts}
@@ -86,23 +85,23 @@ module _ (sh : Sheet) (today : ℕ) (f : List ℕ) (cut : Cut) (cuts : Cuts f 0 
 
   -- its fields: r is what was read, v the variant that this was found to be, x the answer from behind it
   module _ (e : kindOf (top f cut) ≡ headLine) (r : FirstRead) (t : firsts.told (top f cut) r ≡ readFirst sh (top f cut)) where
-    said : (v : FirstRead) → r ≡ v → onSaid sh 1 0 (firsts.told (top f cut) v) tFirst ≡ step sh today 1 (lineIn f 0 (cut .stop)) tFirst
+    said : (v : FirstRead) → r ≡ v → onSaid sh 1 0 (counted (firsts.told (top f cut) v)) tFirst ≡ step sh today 1 (lineIn f 0 (cut .stop)) tFirst
     unfolding step isDue isFull readAs
-    said v q = by-fields sh today 1 (lineIn f 0 (cut .stop)) tFirst refl headLine e refl refl _ (rw q at t)
+    said v q = by-fields sh today 1 (lineIn f 0 (cut .stop)) tFirst refl headLine e refl refl _ (ap counted (rw q at t))
 
     pub head-refused : (n off : ℕ) → r ≡ reads.Refused n off → No n 1 off ≡ tally sh today f
-    unfolding onSaid
+    unfolding onSaid counted
     head-refused n off q =
         let z : 0 + off ≡ off = omega arith in
         stops n off (rw z at (said (reads.Refused n off) q))
 
     pub head-plain : r ≡ reads.Plain → (x : Brief) → x ≡ fromFirst sh today f (cut .next) (record { date = 0; client = 0; from = 0; to = 0; named = false }) → x ≡ tally sh today f
-    unfolding fromFirst onSaid meet onHead pick
+    unfolding fromFirst onSaid meet onHead pick counted
     head-plain q x a = a ∙ leads (tFile (newBook noHeader 0)) (said reads.Plain q)
 
     pub head-fields : firsts.Sound (top f cut) r → (date client from to : ℕ) → r ≡ reads.Header date client from to
         → (x : Brief) → x ≡ fromFirst sh today f (cut .next) (record { date = date; client = client; from = from; to = to; named = true }) → x ≡ tally sh today f
-    unfolding fromFirst onSaid meet onHead pick
+    unfolding fromFirst onSaid meet onHead pick counted
     head-fields sound date client from to q x a =
         a
         ∙ rw (← (name-same f cut (header-long f cut r sound date client from to q))) (leads _ (said (reads.Header date client from to) q))

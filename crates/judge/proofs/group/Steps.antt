@@ -5,7 +5,7 @@ use Prim.Native.Nat.{ℕ}
 use Rattle.base.specs.Pick.{pick}
 use Rattle.sheet.specs.declared.Sheet.{Sheet}
 use Rattle.paper.specs.Lines.{Line}
-use Rattle.paper.specs.Entries.{Said, Kind, kindOf}
+use Rattle.paper.specs.Entries.{Counted, counted, Kind, kindOf}
 use Rattle.paper.specs.Spells.{readAs}
 use Rattle.tally.specs.Tally.{Tally, tStop, No, contextOf, isDue, isFull, onSaid, read, step}
 
@@ -26,6 +26,6 @@ module _ (sh : Sheet) (today k : ℕ) (t : Line) (c : Tally) (goes : read sh tod
     no-room f = rw (d, f) at by-kind
 
     -- what its fields say
-    pub by-fields : isFull sh c kind ≡ false → (said : Said) → said ≡ readAs sh today (contextOf c) kind (t .bytes) → onSaid sh k (t .start) said c ≡ step sh today k t c
+    pub by-fields : isFull sh c kind ≡ false → (said : Counted) → said ≡ counted (readAs sh today (contextOf c) kind (t .bytes)) → onSaid sh k (t .start) said c ≡ step sh today k t c
     unfolding read pick
     by-fields f said r = rw r (rw (d, f) at by-kind)

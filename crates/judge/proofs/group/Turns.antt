@@ -14,11 +14,12 @@ use Rattle.sheet.specs.declared.Limits.{Limits}
 use Rattle.sheet.specs.Sheets.{LimitsOf}
 use Rattle.sheet.proofs.Laws.{Sane}
 use Rattle.paper.specs.Batch.{Header}
-use Rattle.paper.specs.Entries.{Entry, head, file, group, item, closeGroup, closeFile, Said, got, no, Kind, itemLine, groupEnd, kindOf}
+use Rattle.paper.specs.Entries.{Entry, head, file, group, item, closeGroup, closeFile, Places, Counted, got, said, no, counted, Kind, itemLine, groupEnd, kindOf, onItem}
 use Rattle.paper.specs.ItemLine.{readItem}
 use Rattle.paper.specs.ClosingLine.{readClose}
 use Rattle.paper.specs.Spells.{readAs, differs}
-use Rattle.paper.specs.Judge.{totalBroken, onItem}
+use Rattle.paper.specs.Judge.{totalBroken}
+use Rattle.paper.proofs.Passing.{counted-no}
 use Rattle.paper.proofs.LineSays.{group-end-says, item-says, refusal-in}
 use Rattle.paper.proofs.Starts.{least, kind-long}
 use Rattle.tally.specs.Tally.{contextOf, isDue, isFull, meet, onSaid, step}
@@ -66,23 +67,28 @@ module _ (f : List ℕ) (at stop : ℕ) (p : at ≤ stop) (q : stop ≤ length f
       let u : no n off ≡ readClose (sh .near) closeGroup (cut f at stop) = rw x at (t closeGroup) in
       within f at stop off p q (refusal-in (rw (← u) at (group-end-says sh 0 (λ _. 0) false (cut f at stop))) (known-long (cut f at stop) kind e two))
 
-  pub item-within : (sh : Sheet) (single : Bool) (r : Judged) → items.told r ≡ brief (readItem sh single (cut f at stop))
+  pub item-within : (sh : Sheet) (single : Bool) (r : Judged) → items.told r ≡ brief (counted (readItem sh single (cut f at stop)))
       → (n off : ℕ) → r ≡ judged.Refused n off → at + off ≤ stop
   item-within sh single r t n off x =
-      let u : no n off ≡ readItem sh single (cut f at stop) = brief-no (readItem sh single (cut f at stop)) n off (rw x at t) in
+      let u = counted-no (readItem sh single (cut f at stop)) n off (brief-no (counted (readItem sh single (cut f at stop))) n off (rw x at t)) in
       within f at stop off p q (refusal-in (rw (← u) at (item-says sh 0 (λ _. 0) single (cut f at stop))) (omega arith))
 
 -- ---- what a line says in a group
 
 -- in a group nothing else of an item's line counts
-by-brief : (sh : Sheet) (k start : ℕ) (said : Said) (h : Header) (l : List ℕ) (x : Held) → onSaid sh k start (brief said) (inGroup h l x) ≡ onSaid sh k start said (inGroup h l x)
+brief-entry : (sh : Sheet) (k start : ℕ) (e : Entry) (v : ℕ) (p : Places) (h : Header) (l : List ℕ) (x : Held)
+    → onSaid sh k start (brief (said e v p)) (inGroup h l x) ≡ onSaid sh k start (said e v p) (inGroup h l x)
 unfolding onSaid meet onItem brief
-by-brief sh k start (got (head a) v spots) h l x = refl
-by-brief sh k start (got (file kind number) v spots) h l x = refl
-by-brief sh k start (got (group payer total date) v spots) h l x = refl
-by-brief sh k start (got (item a) v spots) h l x = refl
-by-brief sh k start (got closeGroup v spots) h l x = refl
-by-brief sh k start (got closeFile v spots) h l x = refl
+brief-entry sh k start (head a) v p h l x = refl
+brief-entry sh k start (file kind number) v p h l x = refl
+brief-entry sh k start (group payer total date) v p h l x = refl
+brief-entry sh k start (item a) v p h l x = refl
+brief-entry sh k start closeGroup v p h l x = refl
+brief-entry sh k start closeFile v p h l x = refl
+
+by-brief : (sh : Sheet) (k start : ℕ) (r : Counted) (h : Header) (l : List ℕ) (x : Held) → onSaid sh k start (brief r) (inGroup h l x) ≡ onSaid sh k start r (inGroup h l x)
+unfolding brief
+by-brief sh k start (got t) h l x = brief-entry sh k start (t .entry) (t .warnings) (t .places) h l x
 by-brief sh k start (no n off) h l x = refl
 
 module _ (sh : Sheet) (f : List ℕ) (at stop : ℕ) (x : Held) where
@@ -110,13 +116,13 @@ module _ (sh : Sheet) (f : List ℕ) (at stop : ℕ) (x : Held) where
           let g : sh .fileitems ≤ x .counts .items = omega (arith, of .items) in
           record { same = λ today k h l. no-room sh today k (lineIn f at stop) (inGroup h l x) refl itemLine e refl (simp (lt-leb _ _ i, le-leb _ _ g)) }
 
-      module _ (j : x .counts .items < m .items) (r : Judged) (t : items.told r ≡ brief (readItem sh (x .opened .single) (cut f at stop))) where
+      module _ (j : x .counts .items < m .items) (r : Judged) (t : items.told r ≡ brief (counted (readItem sh (x .opened .single) (cut f at stop)))) where
         judged-as : (v : Judged) → r ≡ v → (today k : ℕ) (h : Header) (l : List ℕ) → onSaid sh k at (items.told v) (inGroup h l x) ≡ step sh today k (lineIn f at stop) (inGroup h l x)
         unfolding step isDue isFull contextOf readAs pick
         judged-as v q today k h l =
             let g : x .counts .items < sh .fileitems = omega (arith, of .items) in
             ap (λ said. onSaid sh k at said (inGroup h l x)) (rw q at t)
-            ∙ (by-brief sh k at (readItem sh (x .opened .single) (cut f at stop)) h l x
+            ∙ (by-brief sh k at (counted (readItem sh (x .opened .single) (cut f at stop))) h l x
             ∙ by-fields sh today k (lineIn f at stop) (inGroup h l x) refl itemLine e refl (simp (lt-leb _ _ i, lt-leb _ _ g)) _ refl)
 
         pub turn-item : (amount warnings : ℕ) → r ≡ judged.Item amount warnings → Turns sh (lineIn f at stop) x (turn.Item amount warnings)
@@ -136,17 +142,17 @@ module _ (sh : Sheet) (f : List ℕ) (at stop : ℕ) (x : Held) where
         record { same = λ today k h l. not-due sh today k (lineIn f at stop) (inGroup h l x) refl groupEnd e (simp (eq-eqb _ _ z)) }
 
     module _ (z : x .opened .count ≡ 0 → ⊥) (r : CloseRead) (t : (y : Entry) → closes.told y r ≡ readClose (sh .near) y (cut f at stop)) where
-      closed-as : (v : CloseRead) → r ≡ v → (today k : ℕ) (h : Header) (l : List ℕ) → onSaid sh k at (closes.told closeGroup v) (inGroup h l x) ≡ step sh today k (lineIn f at stop) (inGroup h l x)
+      closed-as : (v : CloseRead) → r ≡ v → (today k : ℕ) (h : Header) (l : List ℕ) → onSaid sh k at (counted (closes.told closeGroup v)) (inGroup h l x) ≡ step sh today k (lineIn f at stop) (inGroup h l x)
       unfolding step isDue isFull readAs pick
       closed-as v q today k h l =
-          by-fields sh today k (lineIn f at stop) (inGroup h l x) refl groupEnd e (simp (ne-eqb _ _ z)) refl _ (rw q at (t closeGroup))
+          by-fields sh today k (lineIn f at stop) (inGroup h l x) refl groupEnd e (simp (ne-eqb _ _ z)) refl _ (ap counted (rw q at (t closeGroup)))
 
       pub close-closed : r ≡ closing.Closed → Turns sh (lineIn f at stop) x turn.Close
-      unfolding onSaid meet onItem
+      unfolding onSaid meet onItem counted
       close-closed q = record { same = closed-as closing.Closed q }
 
       pub close-refused : (n off : ℕ) → r ≡ closing.Refused n off → (byte : ℕ) → byte ≡ at + off → Turns sh (lineIn f at stop) x (turn.Stop n byte)
-      unfolding onSaid
+      unfolding onSaid counted
       close-refused n off q byte y = rw y (record { same = closed-as (closing.Refused n off) q })
 
 -- ---- the group's end: t is whether its total is refused, d how many warnings it gives

@@ -39,12 +39,12 @@ module _ {A B : Type 0} (f : A → B) (read : List ℕ → Field A) (s : List �
     kept-says = let v = was-found f (fieldAt read s at) w e g in rw (found-value read s at (v .0) e (v .1))
 
     -- k is the rest of the reading
-    pub kept-field : (k : B → ℕ → List ℕ → Said) → field read at (drop at s) (λ v a t. k (f v) a t) ≡ k w e (drop e s)
+    pub kept-field : {Z : Type 0} (k : B → ℕ → List ℕ → Said Z) → field read at (drop at s) (λ v a t. k (f v) a t) ≡ k w e (drop e s)
     kept-field k =
         let v = was-found f (fieldAt read s at) w e g in
         found-field read s at (v .0) e (v .1) (λ v a t. k (f v) a t) ∙ ap (λ (b : B). k b e (drop e s)) (sym (v .2))
 
-  pub missed-kept : (n : ℕ) → missed n ≡ keeping f (fieldAt read s at) → (k : A → ℕ → List ℕ → Said) → field read at (drop at s) k ≡ no n at
+  pub missed-kept : {Z : Type 0} (n : ℕ) → missed n ≡ keeping f (fieldAt read s at) → (k : A → ℕ → List ℕ → Said Z) → field read at (drop at s) k ≡ no n at
   missed-kept n g k = missed-field read s at n (was-missed f (fieldAt read s at) n g) k
 
 -- ---- a field of which nothing is kept
@@ -54,8 +54,8 @@ module _ {A : Type 0} (read : List ℕ → Field A) (s : List ℕ) (at : ℕ) (n
     pub passed-within : at ≤ length s → e ≤ length s
     passed-within l = kept-within nothing read s at tt e (rw f at g) l
 
-    pub passed-field : (k : ℕ → List ℕ → Said) → field read at (drop at s) (λ v a t. k a t) ≡ k e (drop e s)
+    pub passed-field : {Z : Type 0} (k : ℕ → List ℕ → Said Z) → field read at (drop at s) (λ v a t. k a t) ≡ k e (drop e s)
     passed-field k = kept-field nothing read s at tt e (rw f at g) (λ v a t. k a t)
 
-  pub refused-field : (c : ℕ) → n ≡ pass.Refused c → (k : A → ℕ → List ℕ → Said) → field read at (drop at s) k ≡ no c at
+  pub refused-field : {Z : Type 0} (c : ℕ) → n ≡ pass.Refused c → (k : A → ℕ → List ℕ → Said Z) → field read at (drop at s) k ≡ no c at
   refused-field c f k = missed-kept nothing read s at c (rw f at g) k

@@ -50,7 +50,7 @@ module _ {A : Type 0} (read : List ℕ → Field A) (s : List ℕ) (at : ℕ) wh
     pub found-within : at ≤ length s → e ≤ length s
     found-within l = rw found-end (seek-within space s at l)
 
-    pub found-field : (k : A → ℕ → List ℕ → Said) → field read at (drop at s) k ≡ k v e (drop e s)
+    pub found-field : {Z : Type 0} (k : A → ℕ → List ℕ → Said Z) → field read at (drop at s) k ≡ k v e (drop e s)
     unfolding field onField
     found-field k = rw (found-value, drop-drop, ← found-end)
 
@@ -59,21 +59,21 @@ module _ {A : Type 0} (read : List ℕ → Field A) (s : List ℕ) (at : ℕ) wh
     unfolding fieldAt
     missed-fault = ending-missed (at + seek space (drop at s)) (read (fieldOf (drop at s))) n g
 
-    pub missed-field : (k : A → ℕ → List ℕ → Said) → field read at (drop at s) k ≡ no n at
+    pub missed-field : {Z : Type 0} (k : A → ℕ → List ℕ → Said Z) → field read at (drop at s) k ≡ no n at
     unfolding field onField
     missed-field k = rw missed-fault
 
 -- ---- the step over a field, of any answer n that tells what stands there
 
 -- what the answer says, and what follows from it
-module _ {A : Type 0} (r : Said) (read : List ℕ → Field A) (s : List ℕ) (at : ℕ) (k : A → ℕ → List ℕ → Said) (n : At A) (g : n ≡ fieldAt read s at) where
+module _ {Z : Type 0} {A : Type 0} (r : Said Z) (read : List ℕ → Field A) (s : List ℕ) (at : ℕ) (k : A → ℕ → List ℕ → Said Z) (n : At A) (g : n ≡ fieldAt read s at) where
   pub step-found : (v : A) (e : ℕ) → n ≡ found v e → r ≡ k v e (drop e s) → r ≡ field read at (drop at s) k
   step-found v e f q = q ∙ sym (found-field read s at v e (sym f ∙ g) k)
 
   pub step-missed : (c : ℕ) → n ≡ missed c → r ≡ no c at → r ≡ field read at (drop at s) k
   step-missed c f q = q ∙ sym (missed-field read s at c (sym f ∙ g) k)
 
-module _ (r : Said) (read : List ℕ → Field ℕ) (s : List ℕ) (k : ℕ → ℕ → List ℕ → Said) (n : NumAt) where
+module _ {Z : Type 0} (r : Said Z) (read : List ℕ → Field ℕ) (s : List ℕ) (k : ℕ → ℕ → List ℕ → Said Z) (n : NumAt) where
   module _ (at : ℕ) (g : told n ≡ fieldAt read s at) where
     pub step-value : (v e : ℕ) → n ≡ Value v e → r ≡ k v e (drop e s) → r ≡ field read at (drop at s) k
     step-value v e f q = step-found r read s at k (told n) g v e (rw f) q
@@ -99,26 +99,26 @@ number-below least most s at n g v e f = digits-sound least most (fieldOf (drop 
 
 -- ---- between fields, and behind the last
 
-module _ (r : Said) (s : List ℕ) (e : ℕ) where
-  pub step-gap : e < length s → (k : ℕ → List ℕ → Said) → r ≡ k (e + 1) (drop (e + 1) s) → r ≡ gap e (drop e s) k
+module _ {Z : Type 0} (r : Said Z) (s : List ℕ) (e : ℕ) where
+  pub step-gap : e < length s → (k : ℕ → List ℕ → Said Z) → r ≡ k (e + 1) (drop (e + 1) s) → r ≡ gap e (drop e s) k
   unfolding gap
   step-gap h k q = q ∙ rw (drop-cons s e 0 h, add-one)
 
-  pub step-no-gap : length s ≤ e → (k : ℕ → List ℕ → Said) → r ≡ no 4 e → r ≡ gap e (drop e s) k
+  pub step-no-gap : length s ≤ e → (k : ℕ → List ℕ → Said Z) → r ≡ no 4 e → r ≡ gap e (drop e s) k
   unfolding gap
   step-no-gap h k q = q ∙ rw (drop-of-length-le s h)
 
-  pub step-end : length s ≤ e → (x : Said) → r ≡ x → r ≡ lineEnd e (drop e s) x
+  pub step-end : length s ≤ e → (x : Said Z) → r ≡ x → r ≡ lineEnd e (drop e s) x
   unfolding lineEnd
   step-end h x q = q ∙ rw (drop-of-length-le s h)
 
-  pub step-no-end : e < length s → (x : Said) → r ≡ no 4 e → r ≡ lineEnd e (drop e s) x
+  pub step-no-end : e < length s → (x : Said Z) → r ≡ no 4 e → r ≡ lineEnd e (drop e s) x
   unfolding lineEnd
   step-no-end h x q = q ∙ rw (drop-cons s e 0 h)
 
 -- ---- a field by place, and the rest of the line: m is what a reader of the bytes answered
 
-module _ {A : Type 0} (r : Said) (at : ℕ) (x : Field A) (k : A → Said) where
+module _ {Z : Type 0} {A : Type 0} (r : Said Z) (at : ℕ) (x : Field A) (k : A → Said Z) where
   pub step-known : (v : A) → x ≡ value v → r ≡ k v → r ≡ onField at x k
   unfolding onField
   step-known v f q = q ∙ rw f
@@ -127,14 +127,14 @@ module _ {A : Type 0} (r : Said) (at : ℕ) (x : Field A) (k : A → Said) where
   unfolding onField
   step-unknown c f q = q ∙ rw f
 
-module _ (r : Said) (at : ℕ) (x : Field ℕ) (k : ℕ → Said) (m : Num) (g : whole.told m ≡ x) where
+module _ {Z : Type 0} (r : Said Z) (at : ℕ) (x : Field ℕ) (k : ℕ → Said Z) (m : Num) (g : whole.told m ≡ x) where
   pub step-given : (v : ℕ) → m ≡ num.Value v → r ≡ k v → r ≡ onField at x k
   step-given v f q = step-known r at x k v (sym g ∙ rw f) q
 
   pub step-fault : (c : ℕ) → m ≡ num.Refused c → r ≡ no c at → r ≡ onField at x k
   step-fault c f q = step-unknown r at x k c (sym g ∙ rw f) q
 
-module _ {A : Type 0} (r : Said) (n : ℕ) (read : List ℕ → Field A) (s : List ℕ) (at : ℕ) (k : A → ℕ → List ℕ → Said) where
+module _ {Z : Type 0} {A : Type 0} (r : Said Z) (n : ℕ) (read : List ℕ → Field A) (s : List ℕ) (at : ℕ) (k : A → ℕ → List ℕ → Said Z) where
   pub step-place : at + n ≤ length s → r ≡ onField at (read (take n (drop at s))) (λ v. k v (at + n) (drop (at + n) s)) → r ≡ place n read at (drop at s) k
   unfolding place
   step-place h q = q ∙ sym (pick-false _ _ (le-ltb (length (drop at s)) n (omega (arith, length-drop at s))) ∙ rw drop-drop)

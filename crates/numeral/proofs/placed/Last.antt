@@ -42,12 +42,12 @@ module _ (n : ℕ) (s : List ℕ) (v : ℕ) (h : digits n n (fieldOf s) ≡ valu
 -- ---- the line's last field
 
 -- nothing follows where a line's end says something
-end-none : (at : ℕ) (s : List ℕ) (r : Said) → isSaid (lineEnd at s r) ≡ true → s ≡ []
+end-none : {Z : Type 0} (at : ℕ) (s : List ℕ) (r : Said Z) → isSaid (lineEnd at s r) ≡ true → s ≡ []
 unfolding lineEnd
 end-none at [] r h = refl
 end-none at (x ∷ s) r h = not-said 4 at (no 4 at) refl h
 
-module _ {A : Type 0} (read : List ℕ → Field A) (s : List ℕ) (at : ℕ) (k : A → Said) (h : isSaid (field read at (drop at s) (λ v a1 s1. lineEnd a1 s1 (k v))) ≡ true) where
+module _ {Z : Type 0} {A : Type 0} (read : List ℕ → Field A) (s : List ℕ) (at : ℕ) (k : A → Said Z) (h : isSaid (field read at (drop at s) (λ v a1 s1. lineEnd a1 s1 (k v))) ≡ true) where
   pub last-some : (v : A) × (read (fieldOf (drop at s)) ≡ value v)
   last-some = some-value (read (fieldOf (drop at s))) (field-value read s at (λ v a1 s1. lineEnd a1 s1 (k v)) h)
 

@@ -2,7 +2,7 @@
 use mathlib.Core.Bool.{Bool, true, false}
 use Rattle.paper.specs.Entries.{Said, got, no}
 
--- does the line say an entry?
-unfoldable pub isSaid : Said → Bool
-isSaid (got e w spots) = true
+-- does the line say something?
+unfoldable pub isSaid : {A : Type 0} → Said A → Bool
+isSaid (got x) = true
 isSaid (no n at) = false

@@ -5,7 +5,7 @@ use native.Mathlib.Omega.{arith}
 use lib.ListN.{length}
 use Rattle.sheet.specs.declared.Sheet.{Sheet}
 use Rattle.paper.specs.Lines.{Line, line}
-use Rattle.paper.specs.Judge.{revOn, Answer, Refused, Accepted, State, atFirst, atFile, atGroup, atItem, stop, contextOf, firstOr0}
+use Rattle.paper.specs.Judge.{revOn, Answer, Refused, Accepted, State, atFirst, atFile, atGroup, atItem, stop, contextOf}
 use Rattle.paper.specs.FirstFault.{Lawful, nothing, header, opens, begins, more, closes, finishes, Broken, ends-first, ends-none, ends-file, ends-group, not-due, full, in-line, total}
 use Rattle.exact.proofs.named.Named.{named-got}
 use Rattle.exact.proofs.named.Lines.{any-named}
@@ -24,12 +24,11 @@ Kept ts (stop a) = Unit {0}
 
 module _ (sh : Sheet) (today : ℕ) where
   pub lawful-kept : {ts : List Line} {st : State} → Lawful sh today ts st → Kept ts st
-  unfolding firstOr0
   lawful-kept nothing = tt
   lawful-kept (header l q) = tt
   lawful-kept (opens l few q) = tt
-  lawful-kept (begins {t = t} {x = x} {at = at} l q) =
-      here {t = t} {p = t .start + at} (omega arith, omega (arith, named-got (rw q at (any-named sh today (contextOf (atGroup x)) (t .bytes)))))
+  lawful-kept (begins {t = t} {x = x} {p = p} l q) =
+      here {t = t} {p = t .start + p .total} (omega arith, omega (arith, named-got (rw q at (any-named sh today (contextOf (atGroup x)) (t .bytes)))))
   lawful-kept (more l free q) = there (lawful-kept l)
   lawful-kept (closes l some q good) = tt
   lawful-kept (finishes l some q) = tt

@@ -14,7 +14,7 @@ use Rattle.base.proofs.Cases.{by-test}
 use Rattle.base.proofs.Seek.{never, free-starts, free-tail, seek-join}
 use Rattle.paper.specs.Read.{Field, value}
 use Rattle.paper.specs.Bytes.{isDigit, space, fieldOf}
-use Rattle.paper.specs.Entries.{Entry, Said, got, onField, field, place}
+use Rattle.paper.specs.Entries.{Entry, Places, Said, Saying, said, onField, field, place}
 use Rattle.paper.specs.GroupLine.{spaceCount}
 use Rattle.numeral.proofs.Plain.{digit-free}
 
@@ -37,11 +37,11 @@ pub field-is : (d r : List ℕ) → Free space d → Stops r → fieldOf (d ++ r
 field-is d r h s = rw (seek-stops d r h s) (take-append-seam d r)
 
 -- a field whose value is known
-pub on-back : {A : Type 0} (at : ℕ) (x : Field A) (v : A) (k : A → Said) → x ≡ value v → onField at x k ≡ k v
+pub on-back : {A Z : Type 0} (at : ℕ) (x : Field A) (v : A) (k : A → Said Z) → x ≡ value v → onField at x k ≡ k v
 unfolding onField
 on-back at x v k e = rw e
 
-module _ {A : Type 0} (read : List ℕ → Field A) (at : ℕ) (d : List ℕ) (v : A) (k : A → ℕ → List ℕ → Said) where
+module _ {A Z : Type 0} (read : List ℕ → Field A) (at : ℕ) (d : List ℕ) (v : A) (k : A → ℕ → List ℕ → Said Z) where
   -- a field, and what stops it
   pub field-back : (r : List ℕ) → Free space d → Stops r → read d ≡ value v → field read at (d ++ r) k ≡ k v (at + length d) r
   unfolding field onField
@@ -67,5 +67,5 @@ count-field (x ∷ d) r h =
     (λ e. simp e (count-field d r (free-tail space x d h)))
 
 -- a reading that is another is read as that is
-pub onward : {r q : Said} {e : Entry} {w : ℕ} → r ≡ q → (spots : List ℕ) × (q ≡ got e w spots) → (spots : List ℕ) × (r ≡ got e w spots)
-onward f (spots, g) = (spots, f ∙ g)
+pub onward : {W : Type 0} {r q : Said (Saying W)} {e : Entry} {w : W} → r ≡ q → (p : Places) × (q ≡ said e w p) → (p : Places) × (r ≡ said e w p)
+onward f (p, g) = (p, f ∙ g)

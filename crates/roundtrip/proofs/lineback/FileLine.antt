@@ -1,7 +1,6 @@
 -- The canonical line of an account file is read as its kind and number. Assumes nothing.
 use mathlib.Core.Path.{_≡_, refl, sym, _∙_}
 use mathlib.Core.Bool.{true}
-use mathlib.Core.List.{[]}
 use Prim.Native.Nat.{ℕ, _^_, _<_, _≤_}
 use native.Mathlib.Omega.{arith}
 use lib.Dec.{eqb, ltb}
@@ -17,7 +16,7 @@ use Rattle.paper.specs.Read.{value, given}
 use Rattle.paper.specs.Bytes.{space}
 use Rattle.paper.specs.Numerals.{fixed}
 use Rattle.paper.specs.Proper.{kindProper}
-use Rattle.paper.specs.Entries.{file, got, fileLine, kindOf, gap, lineEnd}
+use Rattle.paper.specs.Entries.{file, plain, fileLine, kindOf, gap, lineEnd}
 use Rattle.paper.specs.FileLine.{readKind, readNumber, readCode, readFile, spellFile}
 use Rattle.numeral.proofs.Back.{fixed-back}
 use Rattle.numeral.proofs.Plain.{fixed-plain}
@@ -49,7 +48,7 @@ pub kind-file : (sh : Sheet) (k n : ℕ) → kindOf (spellFile sh k n) ≡ fileL
 unfolding kindOf starts spellFile pick
 kind-file sh k n = refl
 
-pub file-back : (sh : Sheet) → Sane sh → (test : ℕ → ℕ) (k n : ℕ) → FileFits sh test k n → readFile sh test (spellFile sh k n) ≡ got (file k n) 0 []
+pub file-back : (sh : Sheet) → Sane sh → (test : ℕ → ℕ) (k n : ℕ) → FileFits sh test k n → readFile sh test (spellFile sh k n) ≡ plain (file k n)
 unfolding readFile spellFile gap lineEnd
 file-back sh sane test k n f =
     field-back (readKind sh) 2 (fixed 4 k) k _ _ (fixed-field 4 k) at-space (kind-back sh k (f .kind-proper) (f .kind-allowed))

@@ -1,7 +1,7 @@
 -- The canonical first line of a header is read as that header. Assumes nothing.
 use mathlib.Core.Path.{_≡_, refl, ap, _∙_}
 use mathlib.Core.Bool.{Bool, true, false}
-use mathlib.Core.List.{List, [], _++_}
+use mathlib.Core.List.{List, _++_}
 use Prim.Native.Nat.{ℕ, _^_, _<_}
 use lib.Dec.{ltb, leb}
 use borrow.Author.Tests.{leb-true, le-ltb}
@@ -16,7 +16,7 @@ use Rattle.paper.specs.Days.{realDay, shortDay, readDay, spellDay}
 use Rattle.paper.specs.Batch.{Header, noHeader}
 use Rattle.paper.specs.Proper.{fine, headerProper}
 use Rattle.paper.specs.Carried.{headerCarried}
-use Rattle.paper.specs.Entries.{head, got, headLine, kindOf}
+use Rattle.paper.specs.Entries.{head, plain, headLine, kindOf}
 use Rattle.paper.specs.FirstLine.{textField, readTo, restLength, readRest, readFirst, spellFirst}
 use Rattle.paper.proofs.Verdicts.{check-only, Headed, headed}
 use Rattle.numeral.proofs.Fixed.{fixed-length}
@@ -61,7 +61,7 @@ pub first-is : (sh : Sheet) → sh .header ≡ true → (h : Header) → spellFi
 unfolding spellFirst
 first-is sh on h = pick-true (line58 h) (bytes "UHL1") on
 
-fields-back : (sh : Sheet) → sh .header ≡ true → (h : Header) → Headed h → headerCarried (sh .interval) h ≡ fine → readFirst sh (line58 h) ≡ got (head h) 0 []
+fields-back : (sh : Sheet) → sh .header ≡ true → (h : Header) → Headed h → headerCarried (sh .interval) h ≡ fine → readFirst sh (line58 h) ≡ plain (head h)
 unfolding readFirst
 fields-back sh on h t c =
     pick-true _ _ on
@@ -74,10 +74,10 @@ fields-back sh on h t c =
     ∙ on-back _ (readRest (sh .short) (fixed 12 0)) (fixed 12 0) _ (rest-back (sh .short))
 
 pub first-back : (sh : Sheet) → sh .header ≡ true → (h : Header) → headerProper h ≡ fine → headerCarried (sh .interval) h ≡ fine
-    → readFirst sh (spellFirst sh h) ≡ got (head h) 0 []
+    → readFirst sh (spellFirst sh h) ≡ plain (head h)
 first-back sh on h p c = ap (readFirst sh) (first-is sh on h) ∙ fields-back sh on h (headed h p) c
 
 -- where the first line has no fields, every header reads back as none
-pub none-back : (sh : Sheet) → sh .header ≡ false → (h : Header) → readFirst sh (spellFirst sh h) ≡ got (head noHeader) 0 []
+pub none-back : (sh : Sheet) → sh .header ≡ false → (h : Header) → readFirst sh (spellFirst sh h) ≡ plain (head noHeader)
 unfolding readFirst
 none-back sh off h = pick-false _ _ off

@@ -15,10 +15,11 @@ use Rattle.paper.specs.Read.{value}
 use Rattle.paper.specs.Bytes.{space}
 use Rattle.paper.specs.Numerals.{decimal}
 use Rattle.paper.specs.Days.{dueWarnings, readDue, spellDay}
+use Rattle.paper.specs.Warnings.{pastDay, notices}
 use Rattle.paper.specs.Accounts.{Account, accountProper, isNobody, readPayer, spellAccount}
 use Rattle.paper.specs.Amounts.{readTotal}
 use Rattle.paper.specs.Proper.{payerProper}
-use Rattle.paper.specs.Entries.{group, Said, got, groupLine, kindOf, gap, lineEnd}
+use Rattle.paper.specs.Entries.{group, totalAt, Listed, said, groupLine, kindOf, gap, lineEnd}
 use Rattle.paper.specs.GroupLine.{spaceCount, hasPayer, totalAndDate, readGroup, spellPayer, spellGroup}
 use Rattle.numeral.proofs.Plain.{decimal-plain}
 use Rattle.calendar.proofs.Back.{due-back, spell-day-plain}
@@ -77,9 +78,9 @@ unfolding spaceCount pick
 two t d = ap suc (count-totals t d)
 
 module _ (sh : Sheet) (sane : Sane sh) (today : ℕ) (p : Account) (t d : ℕ) (f : GroupFits sh today p t d) where
-  -- what is read; the total stands at `at`
-  abbrev reads : ℕ → Said
-  reads at = got (group p t d) (dueWarnings (sh .warnpast) today d) (at ∷ [])
+  -- what is read; the total stands at `at`, and the date behind it
+  abbrev reads : ℕ → Listed
+  reads at = said (group p t d) (notices pastDay (at + length (decimal t) + 1) (dueWarnings (sh .warnpast) today d)) (totalAt at)
 
   totals-back : (at : ℕ) → totalAndDate sh today p at (totals t d) ≡ reads at
   unfolding totalAndDate gap lineEnd
@@ -134,9 +135,9 @@ kind-group sh p t d = refl
 
 -- .. and where its total stands
 pub group-back : (sh : Sheet) → Sane sh → (today : ℕ) (p : Account) (t d : ℕ) → GroupFits sh today p t d
-    → (spots : List ℕ) × (readGroup sh today (spellGroup sh p t d) ≡ got (group p t d) (dueWarnings (sh .warnpast) today d) spots)
+    → (at : ℕ) × (due : ℕ) × (readGroup sh today (spellGroup sh p t d) ≡ said (group p t d) (notices pastDay due (dueWarnings (sh .warnpast) today d)) (totalAt at))
 group-back sh sane today p t d f =
     by-test (isNobody p)
     (λ e.
-    by-test (sh .emptypayer) (λ on. (3 ∷ [], empty-back sh sane today p t d f e on)) (λ off. (2 ∷ [], missing-back sh sane today p t d f e off)))
-    (λ e. ((2 + length (spellAccount p) + 1) ∷ [], some-back sh sane today p t d f e))
+    by-test (sh .emptypayer) (λ on. (3, _, empty-back sh sane today p t d f e on)) (λ off. (2, _, missing-back sh sane today p t d f e off)))
+    (λ e. (2 + length (spellAccount p) + 1, _, some-back sh sane today p t d f e))

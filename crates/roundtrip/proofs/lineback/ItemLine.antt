@@ -2,7 +2,7 @@
 use mathlib.Core.Path.{_≡_, refl, sym, ap, _∙_}
 use mathlib.Core.Bool.{Bool, true, false}
 use mathlib.Core.List.{List, [], _∷_, _++_, append-assoc}
-use Prim.Native.Nat.{ℕ, _+_}
+use Prim.Native.Nat.{ℕ}
 use native.Mathlib.Omega.{arith}
 use borrow.Author.Tests.{ltb-true}
 use Rattle.base.specs.Pick.{pick}
@@ -10,13 +10,14 @@ use Rattle.base.proofs.Cases.{pick-true, pick-false}
 use Rattle.sheet.specs.declared.Sheet.{Sheet}
 use Rattle.sheet.proofs.Laws.{Sane}
 use Rattle.paper.specs.Numerals.{decimal}
+use Rattle.paper.specs.Warnings.{lowPriority, Notice, notices}
 use Rattle.paper.specs.Accounts.{Account, nobody, accountProper, isNobody, readAccount, spellAccount}
 use Rattle.paper.specs.Amounts.{readItemAmount}
 use Rattle.paper.specs.BankField.{Bank, readBank, spellBank}
-use Rattle.paper.specs.Texts.{Texts}
+use Rattle.paper.specs.Texts.{Noted}
 use Rattle.paper.specs.Batch.{Item}
 use Rattle.paper.specs.Proper.{itemPayerProper}
-use Rattle.paper.specs.Entries.{item, Said, got, itemLine, kindOf, gap}
+use Rattle.paper.specs.Entries.{item, Places, Listed, said, itemLine, kindOf, gap}
 use Rattle.paper.specs.ItemLine.{readSymbol, tail, partBytes, places, itemOf, fromPayee, readItem, spellTail, spellItem}
 use Rattle.account.proofs.Plain.{spell-account-field}
 use Rattle.account.proofs.Proper.{proper-somebody}
@@ -53,25 +54,26 @@ module _ (sh : Sheet) (x : Item) where
 abbrev bankOf : Item → Bank
 bankOf x = record { bank = x .bank; constant = x .constant; priority = x .priority; warnings = 0 }
 
-same-item : (x : Item) (payer : Account) (t : Texts) → payer ≡ x .payer → partBytes t ≡ x .parts → t .name .bytes ≡ x .name
+same-item : (x : Item) (payer : Account) (t : Noted) → payer ≡ x .payer → partBytes t ≡ x .parts → t .name .bytes ≡ x .name
     → itemOf payer (x .payee) (x .amount) (x .variable) (x .specific) (bankOf x) t ≡ x
 same-item x payer t e f g = rw (e, f, g)
 
-got-same : (i x : Item) (w : ℕ) (spots : List ℕ) → i ≡ x → w ≡ 0 → got (item i) w spots ≡ got (item x) 0 spots
-got-same i x w spots e f = rw (e, f)
+said-same : (i x : Item) (w : List Notice) (p : Places) → i ≡ x → w ≡ [] → _≡_ {A = Listed} (said (item i) w p) (said (item x) [] p)
+said-same i x w p e f = rw (e, f)
 
 module _ (sh : Sheet) (sane : Sane sh) (single : Bool) (x : Item) (f : ItemFits sh single x) where
-  abbrev Reads : Said → Type 0
-  Reads r = (spots : List ℕ) × (r ≡ got (item x) 0 spots)
+  abbrev Reads : Listed → Type 0
+  Reads r = (p : Places) × (r ≡ said (item x) [] p)
 
-  tail-said : (payer : Account) → payer ≡ x .payer → (at : ℕ)
+  tail-said : (payer : Account) → payer ≡ x .payer → (bank at : ℕ)
       → Reads (tail sh at (spellTail sh (x .specific) (x .parts) (x .name)) λ specific texts.
-      got (item (itemOf payer (x .payee) (x .amount) (x .variable) specific (bankOf x) texts)) (0 + texts .warnings) (places texts))
-  tail-said payer e at =
+      said (item (itemOf payer (x .payee) (x .amount) (x .variable) specific (bankOf x) texts)) (notices lowPriority bank 0 ++ texts .warnings) (places texts))
+  unfolding notices
+  tail-said payer e bank at =
       let t = tail-back sh sane (x .specific) (ltb-true (x .specific) 10000000000 (f .specific-low)) (x .parts) (x .name) (f .texts) at in (
         places (t .texts),
         t .reads _
-            ∙ got-same _ x _ _ (same-item x payer (t .texts) e (t .parts-back) (t .name-back)) (omega (arith, t .no-warning)),
+            ∙ said-same _ x _ _ (same-item x payer (t .texts) e (t .parts-back) (t .name-back)) (t .no-warning),
       )
 
   payee-said : (payer : Account) → payer ≡ x .payer → (at : ℕ) → Reads (fromPayee sh payer at (behindPayer sh x))
@@ -89,7 +91,7 @@ module _ (sh : Sheet) (sane : Sane sh) (single : Bool) (x : Item) (f : ItemFits 
       (digits-field _ (spell-bank-plain (x .bank) (x .constant) (x .priority))) (tail-stops sh (x .specific) (x .parts) (x .name))
       (bank-back (sh .priority) (x .bank) (x .constant) (x .priority) (f .bank-proper) (ltb-true (x .constant) 10000 (f .constant-low)) (f .priority-proper)
       (f .priority-carried)))
-      (tail-said payer e _)
+      (tail-said payer e _ _)
 
 payer-is : (a : Account) → itemPayerProper true a ≡ true → accountProper a ≡ true
 unfolding itemPayerProper pick
@@ -106,7 +108,7 @@ kind-of sh true x f =
 kind-of sh false x f = ap kindOf (collective-is sh x (payer-none (x .payer) (f .payer-proper))) ∙ kind-account (x .payee) (f .payee-proper) _
 
 pub item-back : (sh : Sheet) → Sane sh → (single : Bool) (x : Item) → ItemFits sh single x
-    → (spots : List ℕ) × (readItem sh single (spellItem sh x) ≡ got (item x) 0 spots)
+    → (p : Places) × (readItem sh single (spellItem sh x) ≡ said (item x) [] p)
 unfolding readItem gap pick
 item-back sh sane true x f =
     let p = payer-is (x .payer) (f .payer-proper) in

@@ -1,7 +1,7 @@
 -- The canonical line of an entry that fits is read as that entry, and holds no line end. Assumes nothing.
 use mathlib.Core.Path.{_≡_, refl, sym, ap, _∙_}
 use mathlib.Core.Bool.{Bool, true, false}
-use mathlib.Core.List.{List, []}
+use mathlib.Core.List.{List}
 use Prim.Native.Nat.{ℕ}
 use lib.Dec.{eqb}
 use Rattle.base.specs.Pick.{pick}
@@ -9,16 +9,18 @@ use Rattle.base.specs.Seek.{all, starts}
 use Rattle.base.proofs.Cases.{by-test, pick-false}
 use Rattle.sheet.specs.declared.Sheet.{Sheet}
 use Rattle.sheet.proofs.Laws.{Sane}
+use Rattle.paper.specs.Warnings.{pastDay}
+use Rattle.paper.specs.Days.{dueWarnings}
 use Rattle.paper.specs.Batch.{Header}
 use Rattle.paper.specs.Proper.{fine, headerProper}
-use Rattle.paper.specs.Entries.{Entry, head, file, group, item, closeGroup, closeFile, got, Kind, headLine, fileLine, groupLine, itemLine, groupEnd, fileEnd, kindOf, lineEnd}
+use Rattle.paper.specs.Entries.{Entry, head, file, group, item, closeGroup, closeFile, nowhere, totalAt, said, plain, counted, Kind, headLine, fileLine, groupLine, itemLine, groupEnd, fileEnd, kindOf, lineEnd}
 use Rattle.paper.specs.FileLine.{numberFault, numberAllowed}
 use Rattle.paper.specs.ClosingLine.{plusAt, readClose, spellClose}
 use Rattle.paper.specs.Spells.{Context, numberTest, readAs, readLine, Reads}
 use Rattle.paper.specs.Canonical.{spell}
 use Rattle.scan.specs.line.Cutting.{isPlain}
+use Rattle.paper.proofs.Passing.{notices-length}
 use Rattle.roundtrip.specs.linesound.Fits.{Fits, warnings}
-use Rattle.roundtrip.proofs.lineback.Fields.{onward}
 use Rattle.roundtrip.proofs.lineback.FirstLine.{kind-first, first-back, none-back}
 use Rattle.roundtrip.proofs.lineback.FileLine.{kind-file, file-back}
 use Rattle.roundtrip.proofs.lineback.GroupLine.{kind-group, group-back}
@@ -38,26 +40,30 @@ unfolding spell
 head-plain sh h p = first-plain sh h p
 
 module _ (sh : Sheet) (today : ℕ) (c : Context) where
-  as-kind : (s : List ℕ) (k : Kind) → kindOf s ≡ k → readLine sh today c s ≡ readAs sh today c k s
+  as-kind : (s : List ℕ) (k : Kind) → kindOf s ≡ k → readLine sh today c s ≡ counted (readAs sh today c k s)
   unfolding readLine
-  as-kind s k e = ap (λ (j : Kind). readAs sh today c j s) e
+  as-kind s k e = ap (λ (j : Kind). counted (readAs sh today c j s)) e
 
-  close-back : (near : Bool) (e : Entry) (digit : ℕ) → readClose near e (spellClose digit) ≡ got e 0 []
+  close-back : (near : Bool) (e : Entry) (digit : ℕ) → readClose near e (spellClose digit) ≡ plain e
   unfolding readClose plusAt lineEnd starts pick
   close-back near e digit = refl
 
   module _ (sane : Sane sh) where
     pub line-back : (e : Entry) → Fits sh today c e → Reads sh today (spell sh e) c e (warnings sh today e)
-    unfolding spell readAs kindOf starts pick
+    unfolding spell readAs kindOf starts pick counted
     line-back (head h) f =
         by-test (sh .header)
-        (λ on. ([], as-kind _ headLine (kind-first sh h) ∙ first-back sh on h (f .is-proper on) (f .is-carried on)))
-        (λ off. ([], as-kind _ headLine (kind-first sh h) ∙ none-back sh off h ∙ ap (λ (x : Header). got (head x) 0 []) (sym (f .is-none off))))
-    line-back (file k n) f = ([], as-kind _ fileLine (kind-file sh k n) ∙ file-back sh sane (numberTest sh (c .numbers)) k n f)
-    line-back (group p t d) f = onward (as-kind _ groupLine (kind-group sh p t d)) (group-back sh sane today p t d f)
-    line-back (item x) f = onward (as-kind _ itemLine (kind-of sh (c .single) x f)) (item-back sh sane (c .single) x f)
-    line-back closeGroup f = ([], as-kind _ groupEnd refl ∙ close-back (sh .near) closeGroup 51)
-    line-back closeFile f = ([], as-kind _ fileEnd refl ∙ close-back (sh .near) closeFile 53)
+        (λ on. (nowhere, as-kind _ headLine (kind-first sh h) ∙ ap counted (first-back sh on h (f .is-proper on) (f .is-carried on))))
+        (λ off. (nowhere, as-kind _ headLine (kind-first sh h) ∙ ap counted (none-back sh off h ∙ ap (λ (x : Header). plain (head x)) (sym (f .is-none off)))))
+    line-back (file k n) f = (nowhere, as-kind _ fileLine (kind-file sh k n) ∙ ap counted (file-back sh sane (numberTest sh (c .numbers)) k n f))
+    line-back (group p t d) f =
+        let (at, due, e) = group-back sh sane today p t d f in
+        (totalAt at, as-kind _ groupLine (kind-group sh p t d) ∙ ap counted e ∙ ap (λ (n : ℕ). said (group p t d) n (totalAt at)) (notices-length pastDay due (dueWarnings (sh .warnpast) today d)))
+    line-back (item x) f =
+        let (p, e) = item-back sh sane (c .single) x f in
+        (p, as-kind _ itemLine (kind-of sh (c .single) x f) ∙ ap counted e)
+    line-back closeGroup f = (nowhere, as-kind _ groupEnd refl ∙ ap counted (close-back (sh .near) closeGroup 51))
+    line-back closeFile f = (nowhere, as-kind _ fileEnd refl ∙ ap counted (close-back (sh .near) closeFile 53))
 
     pub line-plain : (e : Entry) → Fits sh today c e → all isPlain (spell sh e) ≡ true
     unfolding spell all isPlain pick

@@ -16,8 +16,8 @@ use Rattle.sheet.proofs.Laws.{Sane}
 use Rattle.paper.specs.Read.{Field, value}
 use Rattle.paper.specs.Bytes.{space, null}
 use Rattle.paper.specs.Numerals.{decimal}
-use Rattle.paper.specs.Texts.{Texts, readText, trim, spellText, noText}
-use Rattle.paper.specs.Entries.{Said, gap}
+use Rattle.paper.specs.Texts.{Noted, readText, trim, spellText, noText}
+use Rattle.paper.specs.Entries.{Listed, gap}
 use Rattle.paper.specs.ItemLine.{noTexts, readSymbol, readSymbolOrNone, isValue, fixedTail, afterSymbol, openTail, tail, partBytes, spellTail}
 use Rattle.paper.proofs.Lists.{some-null}
 use Rattle.numeral.proofs.Back.{decimal-back}
@@ -75,11 +75,11 @@ module _ (parts : List (List ℕ)) (name : List ℕ) (e : noText parts name ≡ 
 
 -- s, which begins at `at`, is read as the symbol, the parts and the name, and the rest of the reading takes them
 pub record Tailed (sh : Sheet) (at : ℕ) (s : List ℕ) (specific : ℕ) (parts : List (List ℕ)) (name : List ℕ) : Type 0 where
-  pub texts : Texts
-  pub reads : (k : ℕ → Texts → Said) → tail sh at s k ≡ k specific texts
+  pub texts : Noted
+  pub reads : (k : ℕ → Noted → Listed) → tail sh at s k ≡ k specific texts
   pub parts-back : partBytes texts ≡ parts
   pub name-back : texts .name .bytes ≡ name
-  pub no-warning : texts .warnings ≡ 0
+  pub no-warning : texts .warnings ≡ []
 
 module _ (sh : Sheet) (sane : Sane sh) (specific : ℕ) (low : specific < 10 ^ 10) (parts : List (List ℕ)) (name : List ℕ) (g : Sendable (sh .text) parts name) (at : ℕ) where
   abbrev Reads : List ℕ → Type 0
@@ -111,7 +111,7 @@ module _ (sh : Sheet) (sane : Sane sh) (specific : ℕ) (low : specific < 10 ^ 1
 
   module _ (off : sh .fixedtail ≡ false) where
     -- behind the space is a symbol, so it is read as one
-    symbol-first : (r : List ℕ) → Stops r → (k : ℕ → Texts → Said)
+    symbol-first : (r : List ℕ) → Stops r → (k : ℕ → Noted → Listed)
         → openTail (sh .text) k (sh .bare) at (32 ∷ (decimal specific ++ r)) ≡ afterSymbol (sh .text) k specific (at + 1 + length (decimal specific)) r
     unfolding openTail
     symbol-first r s k =
@@ -141,7 +141,7 @@ module _ (sh : Sheet) (sane : Sane sh) (specific : ℕ) (low : specific < 10 ^ 1
 
     -- a symbol alone, or nothing
     module _ (e : noText parts name ≡ true) where
-      none-texts : (s : List ℕ) → ((k : ℕ → Texts → Said) → tail sh at s k ≡ k specific noTexts) → Reads s
+      none-texts : (s : List ℕ) → ((k : ℕ → Noted → Listed) → tail sh at s k ≡ k specific noTexts) → Reads s
       none-texts s h =
           record { texts = noTexts; reads = h; parts-back = no-parts parts name e (g .four); name-back = no-name parts name e; no-warning = refl }
 

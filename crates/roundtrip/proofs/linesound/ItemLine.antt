@@ -17,7 +17,7 @@ use Rattle.paper.specs.Bytes.{null}
 use Rattle.paper.specs.Accounts.{Account, nobody, accountProper, isNobody, readAccount}
 use Rattle.paper.specs.Amounts.{readItemAmount}
 use Rattle.paper.specs.BankField.{Bank, readBank}
-use Rattle.paper.specs.Texts.{Texts, lacks as without, nameProper, partProper, partCarried, nameCarried, partsProper, partsCarried}
+use Rattle.paper.specs.Texts.{Noted, lacks as without, nameProper, partProper, partCarried, nameCarried, partsProper, partsCarried}
 use Rattle.paper.specs.Batch.{most14}
 use Rattle.paper.specs.Proper.{itemPayerProper}
 use Rattle.paper.specs.ItemLine.{readSymbol, partBytes, itemOf}
@@ -57,7 +57,7 @@ no-texts y =
       name-carried = any (y .names);
     }
 
-texts-fit : (y : Style) {w : List ℕ} {t : Texts} → Text y w t → Sendable y (partBytes t) (t .name .bytes)
+texts-fit : (y : Style) {w : List ℕ} {t : Noted} → Text y w t → Sendable y (partBytes t) (t .name .bytes)
 texts-fit y no-text = no-texts y
 texts-fit y {w} (a-text at {t} e) = (text-sound y at (drop at w) t e) .sendable
 
@@ -76,7 +76,7 @@ module _ (sh : Sheet) where
   payer-fits (stands {a} f) = payer-single a (account-sound (sh .joined) (sh .basemin) (f .0) a (f .1))
   payer-fits lacks = payer-none
 
-  pub item-fits : Sane sh → {single : Bool} {w : List ℕ} {payer payee : Account} {amount variable specific : ℕ} {bank : Bank} {texts : Texts}
+  pub item-fits : Sane sh → {single : Bool} {w : List ℕ} {payer payee : Account} {amount variable specific : ℕ} {bank : Bank} {texts : Noted}
       → Payer (readAccount (sh .joined) (sh .basemin)) single payer → Read (readAccount (sh .joined) (sh .basemin)) payee
       → Read (readItemAmount (sh .comma) (sh .itemdigits) (sh .itemmax)) amount → Read readSymbol variable → Read (readBank (sh .priority)) bank
       → Symbol specific → Text (sh .text) w texts → ItemFits sh single (itemOf payer payee amount variable specific bank texts)

@@ -42,14 +42,14 @@ module _ (sh : Sheet) (today : ℕ) where
 
   module _ (sane : Sane sh) where
     says-told : (s : List ℕ) (c : Context) (e : Entry) (w : ℕ) → SaysEntry sh today s c e w → Told c e × (warnings sh today e ≤ w)
-    says-told s c (group payer exact date) w (total, v, (spots, r), same, i) =
-        let (f, u) = line-sound sh sane today c s (group payer total date) v spots r in
+    says-told s c (group payer exact date) w (total, v, (p, r), same, i) =
+        let (f, u) = line-sound sh sane today c s (group payer total date) v p r in
         ((total, f), omega arith)
-    says-told s c (head h) w (spots, r) = (line-sound sh sane today c s (head h) w spots r .0, omega arith)
-    says-told s c (file kind number) w (spots, r) = (line-sound sh sane today c s (file kind number) w spots r .0, omega arith)
-    says-told s c (item x) w (spots, r) = (line-sound sh sane today c s (item x) w spots r .0, omega arith)
-    says-told s c closeGroup w (spots, r) = (line-sound sh sane today c s closeGroup w spots r .0, omega arith)
-    says-told s c closeFile w (spots, r) = (line-sound sh sane today c s closeFile w spots r .0, omega arith)
+    says-told s c (head h) w (p, r) = (line-sound sh sane today c s (head h) w p r .0, omega arith)
+    says-told s c (file kind number) w (p, r) = (line-sound sh sane today c s (file kind number) w p r .0, omega arith)
+    says-told s c (item x) w (p, r) = (line-sound sh sane today c s (item x) w p r .0, omega arith)
+    says-told s c closeGroup w (p, r) = (line-sound sh sane today c s closeGroup w p r .0, omega arith)
+    says-told s c closeFile w (p, r) = (line-sound sh sane today c s closeFile w p r .0, omega arith)
 
     -- what each line says fits, and no lines give fewer warnings than the canonical ones
     pub each-told : (ts : List Line) (ds : List Due) (w : ℕ) → Each sh today ts ds w → Every Told ds × (warned ds ≤ w)

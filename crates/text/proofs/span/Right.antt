@@ -1,11 +1,11 @@
 -- The bytes at the places that `fourFrom` gives are the message's parts and the name, cut. Assumes nothing.
 use mathlib.Core.Path.{_≡_, refl, sym, ap, _∙_}
-use mathlib.Core.Bool.{false}
-use mathlib.Core.List.{List, [], _∷_, map}
+use mathlib.Core.Bool.{Bool, true, false}
+use mathlib.Core.List.{List, [], _∷_, _++_, map}
 use Prim.Native.Nat.{ℕ, zero, suc, _+_, _-_, _≤_, _<_}
 use native.Mathlib.Omega.{arith}
 use lib.Dec.{eqb, ltb}
-use lib.ListN.{length, take, drop, drop-of-length-le, length-take, length-drop}
+use lib.ListN.{length, take, drop, drop-of-length-le, length-take, length-drop, length-append}
 use lib.Seq.{drop-drop, take-take, take-all}
 use borrow.Author.Tests.{ltb-true, ltb-false, eqb-true, eqb-false, lt-ltb, le-ltb}
 use Rattle.base.specs.Pick.{pick}
@@ -13,9 +13,11 @@ use Rattle.base.specs.Seek.{starts, seek, before}
 use Rattle.base.proofs.Cases.{by-test, by-lt}
 use Rattle.base.proofs.Seek.{seek-le, seek-within}
 use Rattle.base.proofs.Lists.{drop-take}
+use Rattle.paper.specs.Warnings.{Warning, longPart, longName, Notice}
 use Rattle.paper.specs.Bytes.{bar, null}
-use Rattle.paper.specs.Texts.{Piece, piece, Texts, others, divide, cut, over, overs, pad}
+use Rattle.paper.specs.Texts.{Piece, piece, Texts, others, divide, cut, over, overs, cuts, pad}
 use Rattle.text.specs.span.Held.{pieceAt, textsAt, Within, Held}
+use Rattle.text.specs.Told.{countTexts}
 use Rattle.text.specs.span.Places.{partTo, partAt, placed, longer, foundAt, fourFrom}
 use Rattle.text.proofs.span.Turns.{part-next}
 
@@ -50,9 +52,15 @@ placed-within s at len h =
     by-test (eqb len 0) (λ e. simp e (omega arith)) (λ e.
     by-test (ltb 35 len) (λ f. simp (e, f) (omega (arith, ltb-true 35 len f))) (λ f. simp (e, f) h))
 
-longer-over : (at : ℕ) (p : List ℕ) (k : ℕ) → length p ≡ k → longer k ≡ over (piece at p)
+-- a warning that is given counts one
+one-or-none : (b : Bool) (n : Notice) → pick b 1 0 ≡ length (pick b (n ∷ []) [])
+unfolding pick
+one-or-none true n = refl
+one-or-none false n = refl
+
+longer-over : (w : Warning) (at : ℕ) (p : List ℕ) (k : ℕ) → length p ≡ k → longer k ≡ length (over w (piece at p))
 unfolding longer over
-longer-over at p k e = rw e
+longer-over w at p k e = rw e (one-or-none (ltb 35 k) _)
 
 -- parts, filled up to n
 pad-cut : (n : ℕ) (ps : List Piece) → pad n (map cut ps) ≡ map cut (pad n ps)
@@ -65,8 +73,8 @@ overs-pad : (n : ℕ) (ps : List Piece) → length ps ≤ n → overs ps ≡ ove
 unfolding pad overs over pick
 overs-pad zero [] h = refl
 overs-pad zero (p ∷ ps) h = absurd (omega arith)
-overs-pad (suc n) [] h = omega (arith, overs-pad n [] (omega arith))
-overs-pad (suc n) (p ∷ ps) h = ap (λ (k : ℕ). over p + k) (overs-pad n ps (omega arith))
+overs-pad (suc n) [] h = overs-pad n [] (omega arith)
+overs-pad (suc n) (p ∷ ps) h = ap (λ (l : List Notice). over longPart p ++ l) (overs-pad n ps (omega arith))
 
 -- an empty part at the end counts as a missing one
 cut-last : (n k : ℕ) → map cut (pad n (piece k [] ∷ [])) ≡ map cut (pad n [])
@@ -129,14 +137,26 @@ module _ (s m : List ℕ) (e : ℕ) (g : m ≡ take e s) (i : ℕ) (h : i ≤ le
       let b : take (i + seek bar (drop i m) - i) (drop i s) ≡ before bar (drop i m) = rw k (sym (within s m e i (seek bar (drop i m)) g (seek-within bar m i h))) in
       placed-bytes s i (i + seek bar (drop i m) - i) part-inside ∙ ap cut (same-piece i b)
 
-part-longer : (m : List ℕ) (i : ℕ) → longer ((partAt m i) .len) ≡ over (part m i)
+part-longer : (m : List ℕ) (i : ℕ) → longer ((partAt m i) .len) ≡ length (over longPart (part m i))
 unfolding partTo
 part-longer m i =
-    longer-over i (before bar (drop i m)) (i + seek bar (drop i m) - i) (omega (arith, length-take (seek bar (drop i m)) (drop i m), seek-le bar (drop i m)))
+    longer-over longPart i (before bar (drop i m)) (i + seek bar (drop i m) - i) (omega (arith, length-take (seek bar (drop i m)) (drop i m), seek-le bar (drop i m)))
 
 same-texts : {ps qs : List Piece} {n k : Piece} {v w : ℕ} → ps ≡ qs → n ≡ k → v ≡ w
-    → _≡_ {A = Texts} (record { parts = ps; name = n; warnings = v }) (record { parts = qs; name = k; warnings = w })
+    → _≡_ {A = Texts ℕ} (record { parts = ps; name = n; warnings = v }) (record { parts = qs; name = k; warnings = w })
 same-texts e f g = rw (e, f, g)
+
+-- how many the warnings of four parts and a name are
+five-long : (a b c d n : List Notice) → length ((a ++ (b ++ (c ++ (d ++ [])))) ++ n) ≡ length a + length b + length c + length d + length n
+five-long a b c d n =
+    omega (
+      arith,
+      length-append (a ++ (b ++ (c ++ (d ++ [])))) n,
+      length-append a (b ++ (c ++ (d ++ []))),
+      length-append b (c ++ (d ++ [])),
+      length-append c (d ++ []),
+      length-append d [],
+    )
 
 module _ (s m : List ℕ) (e : ℕ) (g : m ≡ take e s) (from : ℕ) (h : from ≤ length m) (at len : ℕ) (room : at + len ≤ length s) where
   i2 : ℕ
@@ -166,28 +186,30 @@ module _ (s m : List ℕ) (e : ℕ) (g : m ≡ take e s) (from : ℕ) (h : from 
       rw (pad-next (map cut) 3 (cut-last 3) m from h, pad-next (map cut) 2 (cut-last 2) m i2 h2, pad-next (map cut) 1 (cut-last 1) m i3 h3)
 
   total : length (divide from (drop from m)) ≤ 4
-      → overs (divide from (drop from m)) ≡ over (part m from) + (over (part m i2) + (over (part m i3) + (over (part m i4) + 0)))
+      → overs (divide from (drop from m)) ≡ over longPart (part m from) ++ (over longPart (part m i2) ++ (over longPart (part m i3) ++ (over longPart (part m i4) ++ [])))
   unfolding overs pad i2 i3 i4
   total l =
       overs-pad 4 (divide from (drop from m)) l
       ∙ rw (pad-next overs 3 (overs-last 3) m from h, pad-next overs 2 (overs-last 2) m i2 h2, pad-next overs 1 (overs-last 1) m i3 h3)
 
-  pub warned : length (divide from (drop from m)) ≤ 4 → (fourFrom m from at len) .warnings ≡ overs (divide from (drop from m)) + over (piece at (take len (drop at s)))
+  pub warned : length (divide from (drop from m)) ≤ 4 → (fourFrom m from at len) .warnings ≡ length (cuts (divide from (drop from m)) (piece at (take len (drop at s))))
   unfolding fourFrom foundAt i2 i3 i4
   warned l =
+      let name = over longName (piece at (take len (drop at s))) in
       omega (
         arith,
+        ap (λ (w : List Notice). length (w ++ name)) (total l),
+        five-long (over longPart (part m from)) (over longPart (part m i2)) (over longPart (part m i3)) (over longPart (part m i4)) name,
         part-longer m from,
         part-longer m i2,
         part-longer m i3,
         part-longer m i4,
-        longer-over at (take len (drop at s)) len (omega (arith, length-take len (drop at s), length-drop at s)),
-        total l,
+        longer-over longName at (take len (drop at s)) len (omega (arith, length-take len (drop at s), length-drop at s)),
       )
 
   pub found-right : length (divide from (drop from m)) ≤ 4
       → textsAt s (fourFrom m from at len)
-      ≡ (record { parts = pad 4 (map cut (divide from (drop from m))); name = cut (piece at (take len (drop at s))); warnings = overs (divide from (drop from m)) + over (piece at (take len (drop at s))) })
+      ≡ countTexts (record { parts = pad 4 (map cut (divide from (drop from m))); name = cut (piece at (take len (drop at s))); warnings = cuts (divide from (drop from m)) (piece at (take len (drop at s))) })
   unfolding fourFrom foundAt i2 i3 i4
   found-right l =
       same-texts

@@ -13,32 +13,33 @@ use Rattle.base.proofs.Cases.{by-test, pick-true, pick-false, pick-same}
 use Rattle.base.proofs.Seek.{never, all-append, all-cons, free-join, starts-self, seek-join}
 use Rattle.sheet.specs.declared.Style.{Style}
 use Rattle.paper.specs.Read.{Field}
+use Rattle.paper.specs.Warnings.{Warning, longPart, longName}
 use Rattle.paper.specs.Bytes.{isText, av, np, bar, mark, null}
-use Rattle.paper.specs.Texts.{Piece, piece, Texts, others, divide, cut, over, overs, pad, opens, finish, messageEnd, message, marked, readText, trim, joinOn, joined, spellName, spellMarked, spellText, noText}
+use Rattle.paper.specs.Texts.{Piece, piece, Noted, others, divide, cut, over, overs, cuts, pad, opens, finish, messageEnd, message, marked, readText, trim, joinOn, joined, spellName, spellMarked, spellText, noText}
 use Rattle.text.specs.wording.Wording.{bytesOf, Sendable, Back}
 use Rattle.text.proofs.wording.Parts.{Every, none, more, fill, bytes-pad, bytes-cut, bytes-cuts, every-trim, fill-trim, divide-join}
 use Rattle.text.proofs.wording.Fit.{Fit, name-proper, name-carried, parts-fit, few-parts}
 use Rattle.text.proofs.wording.Sound.{empty-fit}
 
 -- the same answer reads the same back
-reads-as : {r q : Field Texts} {parts : List (List ℕ)} {name : List ℕ} → r ≡ q → Back q parts name → Back r parts name
+reads-as : {r q : Field Noted} {parts : List (List ℕ)} {name : List ℕ} → r ≡ q → Back q parts name → Back r parts name
 reads-as e b =
     record { texts = b .texts; reads = e ∙ b .reads; parts-back = b .parts-back; name-back = b .name-back; no-warning = b .no-warning }
 
 -- short parts are not cut
-over-short : (p : Piece) → length (p .bytes) ≤ 35 → over p ≡ 0
+over-short : (w : Warning) (p : Piece) → length (p .bytes) ≤ 35 → over w p ≡ []
 unfolding over
-over-short p h = pick-false _ _ (le-ltb 35 (length (p .bytes)) h)
+over-short w p h = pick-false _ _ (le-ltb 35 (length (p .bytes)) h)
 
 module _ (y : Style) where
   cut-all : {ps : List (List ℕ)} → Every (Fit y) ps → map (take 35) ps ≡ ps
   cut-all none = refl
   cut-all (more {p = p} {ps = ps} h t) = rw (take-all 35 p (h .short), cut-all t)
 
-  overs-none : (ps : List Piece) → Every (Fit y) (bytesOf ps) → overs ps ≡ 0
+  overs-none : (ps : List Piece) → Every (Fit y) (bytesOf ps) → overs ps ≡ []
   unfolding overs
   overs-none [] h = refl
-  overs-none (p ∷ ps) (more h t) = omega (arith, over-short p (h .short), overs-none ps t)
+  overs-none (p ∷ ps) (more h t) = rw (over-short longPart p (h .short)) (overs-none ps t)
 
   -- the joined message is text, and free of ` NP:`
   pub text-join : (p : List ℕ) {qs : List (List ℕ)} → Fit y p → Every (Fit y) qs → all isText (joinOn p qs) ≡ true
@@ -91,21 +92,21 @@ every-bars y (more h t) = more (h .bars) (every-bars y t)
 module _ (y : Style) (n : List ℕ) (short : length n ≤ 35) (some : 0 < y .most) (named : y .names ≡ false → n ≡ []) where
   finish-back : (ps : List Piece) (q : Piece) {bs : List (List ℕ)} → bytesOf ps ≡ bs → q .bytes ≡ n → Every (Fit y) bs → length bs ≤ y .most
       → Back (finish y ps q) (fill 4 bs) n
-  unfolding finish
+  unfolding finish null
   finish-back ps q {bs = bs} e f h l =
       record {
-        texts = record { parts = pad 4 (map cut ps); name = cut q; warnings = overs ps + over q };
-        reads = pick-false _ _ (le-ltb (y .most) (length ps) many) ∙ pick-true _ _ (rw zero-cut (pick-same (y .cuts) true));
+        texts = record { parts = pad 4 (map cut ps); name = cut q; warnings = cuts ps q };
+        reads = pick-false _ _ (le-ltb (y .most) (length ps) many) ∙ pick-true _ _ (rw none-cut (pick-same (y .cuts) true));
         parts-back = bytes-pad 4 (map cut ps) ∙ ap (fill 4) (bytes-cuts ps ∙ (ap (map (take 35)) e ∙ cut-all y h));
         name-back = bytes-cut (q .place) (q .bytes) ∙ (ap (take 35) f ∙ take-all 35 n short);
-        no-warning = zero-cut;
+        no-warning = none-cut;
       }
     where
       many : length ps ≤ y .most
       many = omega (arith, ap length e, length-map ps (λ (p : Piece). p .bytes))
 
-      zero-cut : overs ps + over q ≡ 0
-      zero-cut = omega (arith, overs-none y ps (rw e h), over-short q (rw f short))
+      none-cut : cuts ps q ≡ []
+      none-cut = rw (overs-none y ps (rw e h)) (over-short longName q (rw f short))
 
   message-back : (at : ℕ) (ps : List (List ℕ)) → Every (Fit y) ps → length ps ≤ y .most → Back (message y at (joined ps ++ spellName n)) (fill 4 ps) n
   unfolding message joined fill seek others
@@ -203,5 +204,5 @@ module _ (y : Style) (some : 0 < y .most) (bare : y .av ≡ false → y .names �
       ∙ ap (message y at) (joined-name f))
       (filled (message-back y n short some named at (trim parts) fit few)))
     where
-      filled : {r : Field Texts} → Back r (fill 4 (trim parts)) n → Back r parts n
+      filled : {r : Field Noted} → Back r (fill 4 (trim parts)) n → Back r parts n
       filled b = rw whole at b

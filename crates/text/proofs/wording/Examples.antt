@@ -13,36 +13,40 @@ use Rattle.base.proofs.Cases.{by-test}
 use Rattle.base.proofs.Seek.{never}
 use Rattle.sheet.specs.Sheets.{styleKE, styleS, styleC}
 use Rattle.paper.specs.Read.{Field, value, fault}
+use Rattle.paper.specs.Warnings.{longPart, longName, Notice, notice}
 use Rattle.paper.specs.Bytes.{isText, av, mark, null}
-use Rattle.paper.specs.Texts.{Piece, piece, Texts, others, cut, over, overs, pad, opens, finish, messageEnd, message, marked, readText, keep, trim, joinOn, joined, spellName, spellMarked, spellText}
+use Rattle.paper.specs.Texts.{Piece, piece, Noted, others, cut, over, overs, pad, opens, finish, messageEnd, message, marked, readText, keep, trim, joinOn, joined, spellName, spellMarked, spellText}
 
 abbrev empty : Piece
 empty = piece 0 []
 
-abbrev read : List Piece → Piece → ℕ → Field Texts
+abbrev read : List Piece → Piece → List Notice → Field Noted
 read ps n w = value (record { parts = ps; name = n; warnings = w })
 
 -- `AV: NP:Jan`, `AV:NP:J`, `NP:J`, `led`, ` x`, all at the place 20 of their line; and 36 bytes as a part or a name
 cases :
-    (readText styleC 20 (65 ∷ 86 ∷ 58 ∷ 32 ∷ 78 ∷ 80 ∷ 58 ∷ 74 ∷ 97 ∷ 110 ∷ []) ≡ read (empty ∷ empty ∷ empty ∷ empty ∷ []) (piece 27 (74 ∷ 97 ∷ 110 ∷ [])) 0)
-    × (readText styleC 20 (65 ∷ 86 ∷ 58 ∷ 78 ∷ 80 ∷ 58 ∷ 74 ∷ []) ≡ read (piece 23 (78 ∷ 80 ∷ 58 ∷ 74 ∷ []) ∷ empty ∷ empty ∷ empty ∷ []) empty 0)
-    × (readText styleC 20 (78 ∷ 80 ∷ 58 ∷ 74 ∷ []) ≡ read (empty ∷ empty ∷ empty ∷ empty ∷ []) (piece 23 (74 ∷ [])) 0)
-    × (readText styleC 20 (108 ∷ 101 ∷ 100 ∷ []) ≡ read (piece 20 (108 ∷ 101 ∷ 100 ∷ []) ∷ empty ∷ empty ∷ empty ∷ []) empty 0)
+    (readText styleC 20 (65 ∷ 86 ∷ 58 ∷ 32 ∷ 78 ∷ 80 ∷ 58 ∷ 74 ∷ 97 ∷ 110 ∷ []) ≡ read (empty ∷ empty ∷ empty ∷ empty ∷ []) (piece 27 (74 ∷ 97 ∷ 110 ∷ [])) [])
+    × (readText styleC 20 (65 ∷ 86 ∷ 58 ∷ 78 ∷ 80 ∷ 58 ∷ 74 ∷ []) ≡ read (piece 23 (78 ∷ 80 ∷ 58 ∷ 74 ∷ []) ∷ empty ∷ empty ∷ empty ∷ []) empty [])
+    × (readText styleC 20 (78 ∷ 80 ∷ 58 ∷ 74 ∷ []) ≡ read (empty ∷ empty ∷ empty ∷ empty ∷ []) (piece 23 (74 ∷ [])) [])
+    × (readText styleC 20 (108 ∷ 101 ∷ 100 ∷ []) ≡ read (piece 20 (108 ∷ 101 ∷ 100 ∷ []) ∷ empty ∷ empty ∷ empty ∷ []) empty [])
     × (readText styleC 20 (32 ∷ 120 ∷ []) ≡ fault 4)
     × (finish styleKE (piece 23 (replicate 36 120) ∷ []) empty ≡ fault 14)
-    × (finish styleC (piece 23 (replicate 36 120) ∷ []) empty ≡ read (piece 23 (replicate 35 120) ∷ empty ∷ empty ∷ empty ∷ []) empty 1)
-    × (finish styleC (empty ∷ []) (piece 23 (replicate 36 120)) ≡ read (empty ∷ empty ∷ empty ∷ empty ∷ []) (piece 23 (replicate 35 120)) 1)
-    × (readText styleKE 20 (65 ∷ 86 ∷ 58 ∷ 120 ∷ 124 ∷ 124 ∷ 120 ∷ []) ≡ read (piece 23 (120 ∷ []) ∷ empty ∷ piece 26 (120 ∷ []) ∷ empty ∷ []) empty 0)
-    × (readText styleKE 20 (65 ∷ 86 ∷ 58 ∷ []) ≡ read (empty ∷ empty ∷ empty ∷ empty ∷ []) empty 0)
+    × (finish styleC (piece 23 (replicate 36 120) ∷ []) empty ≡ read (piece 23 (replicate 35 120) ∷ empty ∷ empty ∷ empty ∷ []) empty (notice longPart 23 ∷ []))
+    × (finish styleC (empty ∷ []) (piece 23 (replicate 36 120)) ≡ read (empty ∷ empty ∷ empty ∷ empty ∷ []) (piece 23 (replicate 35 120)) (notice longName 23 ∷ []))
+    × (finish styleC (piece 23 (replicate 36 120) ∷ piece 60 (replicate 35 120) ∷ piece 96 (replicate 36 120) ∷ []) (piece 136 (replicate 36 120))
+    ≡ read (piece 23 (replicate 35 120) ∷ piece 60 (replicate 35 120) ∷ piece 96 (replicate 35 120) ∷ empty ∷ []) (piece 136 (replicate 35 120))
+    (notice longPart 23 ∷ notice longPart 96 ∷ notice longName 136 ∷ []))
+    × (readText styleKE 20 (65 ∷ 86 ∷ 58 ∷ 120 ∷ 124 ∷ 124 ∷ 120 ∷ []) ≡ read (piece 23 (120 ∷ []) ∷ empty ∷ piece 26 (120 ∷ []) ∷ empty ∷ []) empty [])
+    × (readText styleKE 20 (65 ∷ 86 ∷ 58 ∷ []) ≡ read (empty ∷ empty ∷ empty ∷ empty ∷ []) empty [])
     × (readText styleKE 20 (65 ∷ 86 ∷ 58 ∷ replicate 4 124) ≡ fault 14)
     × (readText styleKE 20 (108 ∷ 101 ∷ 100 ∷ []) ≡ fault 14)
-    × (readText styleS 20 (32 ∷ 120 ∷ []) ≡ read (piece 20 (32 ∷ 120 ∷ []) ∷ empty ∷ empty ∷ empty ∷ []) empty 0)
+    × (readText styleS 20 (32 ∷ 120 ∷ []) ≡ read (piece 20 (32 ∷ 120 ∷ []) ∷ empty ∷ empty ∷ empty ∷ []) empty [])
     × (readText styleS 20 (120 ∷ 124 ∷ []) ≡ fault 14)
-    × (readText styleS 20 [] ≡ read (empty ∷ empty ∷ empty ∷ empty ∷ []) empty 0)
+    × (readText styleS 20 [] ≡ read (empty ∷ empty ∷ empty ∷ empty ∷ []) empty [])
     × (spellText styleC ((108 ∷ []) ∷ [] ∷ (100 ∷ []) ∷ [] ∷ []) (74 ∷ []) ≡ 65 ∷ 86 ∷ 58 ∷ 108 ∷ 124 ∷ 124 ∷ 100 ∷ 32 ∷ 78 ∷ 80 ∷ 58 ∷ 74 ∷ [])
     × (spellText styleC ([] ∷ [] ∷ [] ∷ [] ∷ []) (74 ∷ []) ≡ 78 ∷ 80 ∷ 58 ∷ 74 ∷ [])
 unfolding readText spellText spellMarked spellName joined joinOn trim keep opens marked message messageEnd finish pad cut over overs others all starts seek pick isText null
-cases = (refl, refl, refl, refl, refl, refl, refl, refl, refl, refl, refl, refl, refl, refl, refl, refl, refl)
+cases = (refl, refl, refl, refl, refl, refl, refl, refl, refl, refl, refl, refl, refl, refl, refl, refl, refl, refl)
 
 -- a text that begins with a pattern is the pattern and a rest
 starts-split : (ps s : List ℕ) → starts ps s ≡ true → s ≡ ps ++ drop (length ps) s

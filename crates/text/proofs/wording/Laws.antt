@@ -7,14 +7,14 @@ use Rattle.base.specs.Seek.{all}
 use Rattle.sheet.specs.declared.Style.{Style}
 use Rattle.paper.specs.Read.{value}
 use Rattle.paper.specs.Bytes.{isText}
-use Rattle.paper.specs.Texts.{Texts, readText, spellText, noText}
+use Rattle.paper.specs.Texts.{Noted, readText, spellText, noText}
 use Rattle.text.specs.wording.Wording.{Sendable, Sound, Back}
 use Rattle.text.proofs.wording.Sound.{outcome}
 use Rattle.text.proofs.wording.Back as spelled
 
 module _ (y : Style) where
   -- what is read, a batch may hold and the sheet can carry; where nothing is cut there is no warning
-  pub text-sound : (at : ℕ) (t : List ℕ) (x : Texts) → readText y at t ≡ value x → Sound y x
+  pub text-sound : (at : ℕ) (t : List ℕ) (x : Noted) → readText y at t ≡ value x → Sound y x
   text-sound at t x e = rw e at (outcome y at t)
 
   module _ (some : 0 < y .most) (bare : y .av ≡ false → y .names ≡ false) (parts : List (List ℕ)) (name : List ℕ) (h : Sendable y parts name) where

@@ -5,23 +5,25 @@ use mathlib.Core.Logic.{_⊎_, inl, inr}
 use mathlib.Core.List.{List, [], _∷_, map}
 use Prim.Native.Nat.{ℕ, _+_, _≤_}
 use native.Mathlib.Omega.{arith}
-use lib.Dec.{eqb, ltb}
+use lib.Dec.{ltb}
 use lib.ListN.{length, take, drop, length-take, length-map, drop-of-length-le}
-use borrow.Author.Tests.{ltb-false, eqb-true}
+use borrow.Author.Tests.{ltb-false}
 use Rattle.base.specs.Pick.{pick}
 use Rattle.base.specs.Seek.{all, starts, seek, before, Free}
 use Rattle.base.proofs.Cases.{either, pick-both, pick-false}
 use Rattle.base.proofs.Seek.{never, all-take, all-tail, all-drop, free-take, free-tail, free-before}
 use Rattle.sheet.specs.declared.Style.{Style}
 use Rattle.paper.specs.Read.{Field, value, fault}
-use Rattle.paper.specs.Bytes.{isText, av, np, bar, mark}
-use Rattle.paper.specs.Texts.{Piece, piece, Texts, divide, cut, over, overs, pad, opens, finish, messageEnd, message, marked, readText}
+use Rattle.paper.specs.Warnings.{Notice}
+use Rattle.paper.specs.Bytes.{isText, av, np, bar, mark, null}
+use Rattle.paper.specs.Texts.{Piece, piece, Noted, divide, cut, cuts, pad, opens, finish, messageEnd, message, marked, readText}
+use Rattle.paper.proofs.Lists.{null-none}
 use Rattle.text.specs.wording.Wording.{bytesOf, Sound}
 use Rattle.text.proofs.wording.Parts.{Every, none, more, fill, bytes-pad, bytes-cut, bytes-cuts, every-map, every-fill, every-divide, length-fill}
 use Rattle.text.proofs.wording.Fit.{Fit, proper-name, carried-name, fits-proper, fits-carried}
 
 -- an accepted text is sound, a refused one has the number 4 or 14
-abbrev pub Outcome : Style → Field Texts → Type 0
+abbrev pub Outcome : Style → Field Noted → Type 0
 Outcome y (value x) = Sound y x
 Outcome y (fault n) = (n ≡ 4) ⊎ (n ≡ 14)
 
@@ -48,14 +50,14 @@ module _ (y : Style) where
   cut-parts : (ps : List Piece) → bytesOf (pad 4 (map cut ps)) ≡ fill 4 (map (take 35) (bytesOf ps))
   cut-parts ps = bytes-pad 4 (map cut ps) ∙ ap (fill 4) (bytes-cuts ps)
 
-  cuts-only : (w : ℕ) → pick (y .cuts) true (eqb w 0) ≡ true → y .cuts ≡ false → w ≡ 0
-  cuts-only w h e = eqb-true w 0 (sym (pick-false _ _ e) ∙ h)
+  cuts-only : (l : List Notice) → pick (y .cuts) true (null l) ≡ true → y .cuts ≡ false → l ≡ []
+  cuts-only l h e = null-none l (sym (pick-false _ _ e) ∙ h)
 
   finish-sound : (ps : List Piece) (n : Piece) → Every Raw (bytesOf ps) → all isText (n .bytes) ≡ true → (y .names ≡ false → n .bytes ≡ []) → Outcome y (finish y ps n)
   unfolding finish
   finish-sound ps n h t m =
       either (Outcome y) (ltb (y .most) (length ps)) (λ e. inr refl) (λ e.
-      either (Outcome y) (pick (y .cuts) true (eqb (overs ps + over n) 0)) (λ f.
+      either (Outcome y) (pick (y .cuts) true (null (cuts ps n))) (λ f.
       record {
         sendable =
             record {
@@ -65,7 +67,7 @@ module _ (y : Style) where
               name-proper = rw (bytes-cut (n .place) (n .bytes)) (proper-name (take 35 (n .bytes)) (omega (arith, length-take 35 (n .bytes))) (all-take isText 35 (n .bytes) t));
               name-carried = rw (bytes-cut (n .place) (n .bytes)) (carried-name y (take 35 (n .bytes)) (λ g. ap (take 35) (m g)));
             };
-        uncut = cuts-only (overs ps + over n) f;
+        uncut = cuts-only (cuts ps n) f;
       }) (λ f. inr refl))
     where
       fit : Every (Fit y) (map (take 35) (bytesOf ps))

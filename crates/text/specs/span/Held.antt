@@ -11,7 +11,7 @@ abbrev pub pieceAt : List ℕ → Span → Piece
 pieceAt s p = piece (p .at) (take (p .len) (drop (p .at) s))
 
 -- four parts, a name and the count of those that were cut
-abbrev pub textsAt : List ℕ → Spans → Texts
+abbrev pub textsAt : List ℕ → Spans → Texts ℕ
 textsAt s f =
     record {
       parts = pieceAt s (f .part1) ∷ pieceAt s (f .part2) ∷ pieceAt s (f .part3) ∷ pieceAt s (f .part4) ∷ [];

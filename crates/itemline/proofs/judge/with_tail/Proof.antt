@@ -38,11 +38,9 @@ unfolding keptTexts
 returns-2 c = search items depth 12
 
 returns-3 : tie.Need-returns-3
-unfolding keptTexts
 returns-3 c = search items depth 12
 
 returns-4 : tie.Need-returns-4
-unfolding keptTexts
 returns-4 c = search items depth 12
 
 pub with-tail-spec : {M : Type 1} → statement M
