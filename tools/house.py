@@ -18,8 +18,8 @@
   - docs/WORKING.md says of each file of tools/ what it is for
   - docs/RULES.md names each file and each public definition of the rules and each field of a sheet, always as Module.name; what it names
     so is there
-  - its table of the sheets has the values of their records, its table of numbers those of include/abo.h, and its whole run is the rewriting
-    program's own
+  - its table of the sheets has the values of their records, and so has the table of a style's flags in Texts.antt; its table of numbers has
+    those of include/abo.h, and its whole run is the rewriting program's own
 """
 import pathlib
 import re
@@ -267,6 +267,22 @@ def the_sheets():
             check(means(cell, value), f"docs/RULES.md: {row[-1]} of {sheet} is {value}, not {cell}")
     for field in sorted(left):
         check(False, f"docs/RULES.md: the table of the sheets has no row of {field}")
+    the_flags(records, sheets, letters)
+
+
+def the_flags(records, sheets, letters):
+    """the table of a style's flags at the top of Texts.antt has a row for each, with the values of the records"""
+    lines = (ROOT / "crates/paper/specs/Texts.antt").read_text().splitlines()
+    rows = [line.split()[1:] for line in lines if line.startswith("--   ")]
+    check(bool(rows) and rows[0][: len(letters) + 1] == ["flag", *letters], "Texts.antt has no table of a style's flags")
+    left = set().union(*(records[records[sheet]["text"]] for sheet in sheets))
+    for flag, *cells in rows[1:]:
+        left.discard(flag)
+        for sheet, cell in zip(sheets, cells):
+            value = records[records[sheet]["text"]].get(flag, "not there")
+            check(means(cell, value), f"Texts.antt: {flag} of {sheet} is {value}, not {cell}")
+    for flag in sorted(left):
+        check(False, f"Texts.antt: the table of flags has no row of {flag}")
 
 
 def the_numbers():
