@@ -8,7 +8,7 @@ use Rattle.sheet.specs.declared.Sheet.{Sheet}
 use Rattle.paper.specs.Bytes.{bytes}
 use Rattle.paper.specs.Accounts.{Account, account, nobody}
 use Rattle.paper.specs.Batch.{Header, noHeader}
-use Rattle.paper.specs.Rows.{blanks, rowsBytes}
+use Rattle.paper.specs.Words.{blanks, rowsBytes}
 use Rattle.paper.specs.Reading.{ReadAnswer, readAnswer, rowsAfter}
 use Rattle.paper.specs.Writing.{drafted}
 use Rattle.paper.specs.Explaining.{explanation}

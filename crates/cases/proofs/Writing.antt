@@ -9,7 +9,7 @@ use Rattle.paper.specs.Numerals.{decimal}
 use Rattle.paper.specs.Accounts.{Account, account, nobody}
 use Rattle.paper.specs.Batch.{Item, Thing, noHeader, aFile, aGroup, anItem, strange, things}
 use Rattle.paper.specs.Proper.{any, wrong, rowsProper}
-use Rattle.paper.specs.Rows.{blanks, rowsBytes}
+use Rattle.paper.specs.Words.{blanks, rowsBytes}
 use Rattle.paper.specs.Carried.{rowsCarried}
 use Rattle.paper.specs.Writing.{drafted, refusal, draft, writtenIn, outputAfter}
 use Rattle.sheet.specs.Sheets.{sheetK as K, sheetS as S, sheetC as C, sheetE as E}

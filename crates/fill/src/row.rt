@@ -2,7 +2,8 @@
 ghost use Prim.Native.Nat.{_+_, _≤_};
 ghost use lib.ListN.{length};
 ghost use Rattle.base.specs.Put.{Wrote};
-ghost use Rattle.paper.specs.Rows.{wordsBytes, fileRow, groupRow};
+ghost use Rattle.paper.specs.Words.{wordsBytes};
+ghost use Rattle.paper.specs.Rows.{fileRow, groupRow};
 ghost use Rattle.paper.specs.Accounts.{account};
 
 // Puts the 24 words of a row at `at`, and returns the next place.

@@ -1,14 +1,15 @@
 // Little-endian words in lent bytes: eight bytes each, the lowest first.
 ghost use mathlib.Core.Path.{_≡_};
 ghost use Prim.Native.Nat.{_+_, _≤_};
-ghost use lib.ListN.{length, take, drop};
+ghost use lib.ListN.{length};
 ghost use Rattle.base.specs.Put.{Wrote};
-ghost use Rattle.paper.specs.Words.{wordOf, wordBytes};
+ghost use Rattle.paper.specs.Words.{wordBytes};
+ghost use Rattle.out.specs.word.Places.{wordHere};
 
 // The word whose bytes begin at `at`. The compiler makes one load of the eight.
 pub fn word_at(rows: &[u8], at: usize) -> u64
     requires { ⌜ at + 8 ≤ length (now rows) ⌝ }
-    ensures { λ r. ⌜ r ≡ wordOf (take 8 (drop at (now (rows .entry)))) ⌝ }
+    ensures { λ r. ⌜ r ≡ wordHere (now (rows .entry)) at ⌝ }
 {
     let mut w: u64 = 0;
     let mut k: usize = 8;

@@ -18,7 +18,8 @@ use Rattle.paper.specs.Lines.{linesOf}
 use Rattle.paper.specs.Spells.{Spells}
 use Rattle.paper.specs.Judge.{Answer, Refused, Accepted, judge}
 use Rattle.paper.specs.FirstFault.{FirstFault}
-use Rattle.paper.specs.Rows.{rowSize, rowsIn, thingsIn, linesRows, rowsBytes}
+use Rattle.paper.specs.Words.{rowsBytes}
+use Rattle.paper.specs.Rows.{rowSize, rowsIn, thingsIn, linesRows}
 use Rattle.paper.specs.Reading.{ReadAnswer, refusedAt, needs, acceptedAs, rowCount, answered, readWith, readAnswer, filled, rowsWith, rowsAfter}
 use Rattle.exact.proofs.Main.{exact}
 use Rattle.exact.proofs.faults.Main.{refused}

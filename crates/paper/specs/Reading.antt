@@ -13,7 +13,8 @@ use Rattle.paper.specs.Days.{realDay}
 use Rattle.paper.specs.Batch.{Batch, Header, noHeader, things}
 use Rattle.paper.specs.Lines.{linesOf}
 use Rattle.paper.specs.Judge.{Answer, Refused, Accepted, judge}
-use Rattle.paper.specs.Rows.{rowSize, linesRows, rowsBytes}
+use Rattle.paper.specs.Words.{rowsBytes}
+use Rattle.paper.specs.Rows.{rowSize, linesRows}
 
 -- numbers that are not named are 0, and a header that is not read is C's
 pub record ReadAnswer : Type 0 where

@@ -1,12 +1,12 @@
--- Rows in lent bytes: what they hold, and which rows reading leaves. Document 01, "What the library handles"; docs/ROWS.md. Assumes nothing.
-use Prim.Native.Nat.{ℕ, zero, suc, _+_, _/_}
+-- The rows of a batch in lent bytes: what they hold, and which rows reading leaves. Document 01, "What the library handles"; docs/ROWS.md. Assumes nothing.
+use Prim.Native.Nat.{ℕ, suc, _+_}
 use mathlib.Core.Bool.{Bool}
 use mathlib.Core.List.{List, [], _∷_, _++_}
 use lib.Dec.{eqb, leb}
-use lib.ListN.{length, take, drop, getD}
+use lib.ListN.{length, take, drop}
 use Rattle.base.specs.Pick.{pick}
 use Rattle.sheet.specs.declared.Sheet.{Sheet}
-use Rattle.paper.specs.Words.{wordOf, wordBytes}
+use Rattle.paper.specs.Words.{word, blanks, rowsOf}
 use Rattle.paper.specs.Bytes.{null}
 use Rattle.paper.specs.Accounts.{Account, account, isNobody}
 use Rattle.paper.specs.Batch.{Item, Thing, aFile, aGroup, anItem, strange}
@@ -20,23 +20,9 @@ rowSize = 192
 
 -- ---- lent rows, as writing takes them
 
--- n words from the first byte on
-unfoldable pub words : ℕ → List ℕ → List ℕ
-words zero s = []
-words (suc n) s = wordOf (take 8 s) ∷ words n (drop 8 s)
-
--- n rows from the first byte on; bytes that are left over make a row without words, whose kind is none
-unfoldable pub rowsOn : ℕ → List ℕ → List (List ℕ)
-rowsOn zero s = pick (null s) [] ([] ∷ [])
-rowsOn (suc n) s = words 24 s ∷ rowsOn n (drop rowSize s)
-
 -- all rows of the lent bytes
-unfoldable pub rowsIn : List ℕ → List (List ℕ)
-rowsIn s = rowsOn (length s / rowSize) s
-
--- word i of a row
-abbrev pub word : List ℕ → ℕ → ℕ
-word r i = getD r i 0
+abbrev pub rowsIn : List ℕ → List (List ℕ)
+rowsIn s = rowsOf 24 s
 
 -- The text whose place and length are words i and i + 1, in the lent bytes t. One that lies outside is read as a byte that is no text
 -- byte, so that its field is refused.
@@ -72,11 +58,6 @@ thingsIn t [] = []
 thingsIn t (r ∷ rs) = thingIn t r ∷ thingsIn t rs
 
 -- ---- rows as reading leaves them; words that a kind does not use are 0
-
--- n words that are 0
-unfoldable pub blanks : ℕ → List ℕ
-blanks zero = []
-blanks (suc n) = 0 ∷ blanks n
 
 -- an account file's row: its kind and number
 unfoldable pub fileRow : ℕ → ℕ → List ℕ
@@ -144,13 +125,3 @@ linesRows sh today single [] = []
 linesRows sh today single (t ∷ ts) =
     lineRow (t .start) (readLine sh today (accepted single) (t .bytes))
     ++ linesRows sh today (singleBehind single (readLine sh today (accepted single) (t .bytes))) ts
-
--- rows as bytes
-unfoldable pub wordsBytes : List ℕ → List ℕ
-wordsBytes [] = []
-wordsBytes (w ∷ ws) = wordBytes 8 w ++ wordsBytes ws
-
--- rows one behind the other
-unfoldable pub rowsBytes : List (List ℕ) → List ℕ
-rowsBytes [] = []
-rowsBytes (r ∷ rs) = wordsBytes r ++ rowsBytes rs

@@ -13,7 +13,8 @@ use Rattle.sheet.proofs.Laws.{Sane, sheet-sane}
 use Rattle.paper.specs.Days.{realDay}
 use Rattle.paper.specs.Batch.{Header, most14}
 use Rattle.paper.specs.Lines.{linesOf}
-use Rattle.paper.specs.Rows.{rowSize, linesRows, rowsBytes}
+use Rattle.paper.specs.Words.{rowsBytes}
+use Rattle.paper.specs.Rows.{rowSize, linesRows}
 use Rattle.paper.specs.Reading.{ReadAnswer, refusedAt, needs, acceptedAs, readWith, rowsWith, readAnswer, rowsAfter}
 use Rattle.tally.specs.Tally.{Yes, tally}
 use Rattle.judge.specs.declared.file.Head.{Head}

@@ -13,7 +13,8 @@ use Rattle.paper.specs.Days.{realDay}
 use Rattle.paper.specs.Batch.{Batch, Header, things}
 use Rattle.paper.specs.Lines.{linesOf}
 use Rattle.paper.specs.Judge.{Answer, Refused, Accepted, judge}
-use Rattle.paper.specs.Rows.{rowSize, linesRows, rowsBytes}
+use Rattle.paper.specs.Words.{rowsBytes}
+use Rattle.paper.specs.Rows.{rowSize, linesRows}
 use Rattle.paper.specs.Reading.{refusedAt, needs, acceptedAs, answered, readWith, filled, rowsWith}
 use Rattle.tally.specs.Tally.{No, Yes, brief, tally}
 use Rattle.tally.proofs.Same.{tally-is}

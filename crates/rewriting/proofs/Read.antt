@@ -14,7 +14,8 @@ use Rattle.paper.specs.Days.{realDay}
 use Rattle.paper.specs.Batch.{Batch, Header, things}
 use Rattle.paper.specs.Lines.{linesOf}
 use Rattle.paper.specs.Judge.{Answer, Refused, Accepted, judge}
-use Rattle.paper.specs.Rows.{rowSize, rowsIn, thingsIn, linesRows, rowsBytes}
+use Rattle.paper.specs.Words.{rowsBytes}
+use Rattle.paper.specs.Rows.{rowSize, rowsIn, thingsIn, linesRows}
 use Rattle.paper.specs.Reading.{ReadAnswer, refusedAt, acceptedAs, rowCount, readAnswer, rowsAfter}
 use Rattle.paper.specs.Canonical.{canon}
 use Rattle.paper.specs.Explaining.{refusedLine}

@@ -5,7 +5,7 @@ use native.Mathlib.Omega.{arith}
 use lib.ListN.{length}
 use Rattle.paper.specs.Batch.{Item, Group, AccountFile, Batch, Thing, itemThings, groupThings, things, sum, most14}
 use Rattle.paper.specs.Spells.{GroupRules, FileRules}
-use Rattle.rowlaws.specs.Sizes.{Smalls}
+use Rattle.out.specs.word.Sizes.{Smalls}
 use Rattle.rowlaws.proofs.Row.{Fair}
 use Rattle.rowlaws.proofs.Filled.{Rows, end, next}
 

@@ -11,9 +11,11 @@ use Rattle.paper.specs.Texts.{Piece}
 use Rattle.paper.specs.Lines.{Line}
 use Rattle.paper.specs.Entries.{head, file, group, item, closeGroup, closeFile, Entry, Places, Counted, got, said, no}
 use Rattle.paper.specs.Spells.{Context, readAs, readLine}
-use Rattle.paper.specs.Rows.{blanks, fileRow, groupRow, textsWords, itemRow, textSpots, entryRow, lineRow, singleBehind, accepted, linesRows}
+use Rattle.paper.specs.Words.{blanks}
+use Rattle.paper.specs.Rows.{fileRow, groupRow, textsWords, itemRow, textSpots, entryRow, lineRow, singleBehind, accepted, linesRows}
+use Rattle.out.specs.word.Sizes.{Long}
+use Rattle.out.proofs.word.Rows.{long-append}
 use Rattle.exact.proofs.Told.{told-line, kind-item}
-use Rattle.rowlaws.specs.Sizes.{Long}
 use Rattle.rowlaws.proofs.Kept.{KeptItem, kept-item}
 use Rattle.rowlaws.proofs.Row.{words-of}
 
@@ -38,7 +40,7 @@ item-four w x q k = ap length (k .partsAre) ∙ length-map (k .texts .parts) (λ
 -- ---- a line's row, if it has one
 
 module _ (sh : Sheet) (today : ℕ) (c : Context) (start : ℕ) (s : List ℕ) where
-  entry-long : (e : Entry) (v : ℕ) (q : Places) → readLine sh today c s ≡ said e v q → Long (entryRow start q e)
+  entry-long : (e : Entry) (v : ℕ) (q : Places) → readLine sh today c s ≡ said e v q → Long 24 (entryRow start q e)
   unfolding readLine readAs entryRow fileRow groupRow blanks
   entry-long (head h) v q e = tt
   entry-long (file k n) v q e = (refl, tt)
@@ -49,24 +51,20 @@ module _ (sh : Sheet) (today : ℕ) (c : Context) (start : ℕ) (s : List ℕ) w
   entry-long closeGroup v q e = tt
   entry-long closeFile v q e = tt
 
-  said-long : (r : Counted) → readLine sh today c s ≡ r → Long (lineRow start r)
+  said-long : (r : Counted) → readLine sh today c s ≡ r → Long 24 (lineRow start r)
   unfolding lineRow
   said-long (got t) q = entry-long (t .entry) (t .warnings) (t .places) q
   said-long (no n off) q = tt
 
-  pub line-long : Long (lineRow start (readLine sh today c s))
+  pub line-long : Long 24 (lineRow start (readLine sh today c s))
   line-long = said-long (readLine sh today c s) refl
 
 -- ---- the rows of lines
 
-pub long-append : (rs qs : List (List ℕ)) → Long rs → Long qs → Long (rs ++ qs)
-long-append [] qs l m = m
-long-append (r ∷ rs) qs (l, ls) m = (l, long-append rs qs ls m)
-
-pub lines-long : (sh : Sheet) (today : ℕ) (b : Bool) (ls : List Line) → Long (linesRows sh today b ls)
+pub lines-long : (sh : Sheet) (today : ℕ) (b : Bool) (ls : List Line) → Long 24 (linesRows sh today b ls)
 unfolding linesRows
 lines-long sh today b [] = tt
 lines-long sh today b (t ∷ ls) =
     let r = readLine sh today (accepted b) (t .bytes) in
-    long-append (lineRow (t .start) r) (linesRows sh today (singleBehind b r) ls)
+    long-append 24 (lineRow (t .start) r) (linesRows sh today (singleBehind b r) ls)
     (line-long sh today (accepted b) (t .start) (t .bytes)) (lines-long sh today (singleBehind b r) ls)

@@ -5,7 +5,6 @@ pub mod Below
 pub mod Kept
 pub mod Row
 pub mod Filled
-pub mod Bytes
 pub mod Fitting
 pub mod Lengths
 pub mod Main

@@ -1,7 +1,7 @@
 -- The row of a line: its words hold over the file's bytes what the line says, and are below 2 ^ 64. Assumes nothing.
 use mathlib.Core.Path.{_≡_, refl, sym, ap, subst, _∙_}
 use mathlib.Core.List.{List, [], _∷_, _++_, map}
-use Prim.Native.Nat.{ℕ, zero, suc, _+_, _^_, _<_, _≤_}
+use Prim.Native.Nat.{ℕ, suc, _+_, _^_, _<_, _≤_}
 use native.Mathlib.Omega.{arith}
 use lib.Dec.{leb}
 use lib.ListN.{length, take, drop}
@@ -13,8 +13,10 @@ use Rattle.paper.specs.Accounts.{Account}
 use Rattle.paper.specs.Batch.{Item, Thing, aFile, aGroup, anItem, strange}
 use Rattle.paper.specs.Texts.{Piece}
 use Rattle.paper.specs.Entries.{Places}
-use Rattle.paper.specs.Rows.{textAt, thingIn, blanks, fileRow, groupRow, textWords, textsWords, itemRow, textSpots}
-use Rattle.rowlaws.specs.Sizes.{Small}
+use Rattle.paper.specs.Words.{blanks}
+use Rattle.paper.specs.Rows.{textAt, thingIn, fileRow, groupRow, textWords, textsWords, itemRow, textSpots}
+use Rattle.out.specs.word.Sizes.{Small}
+use Rattle.out.proofs.word.Laws.{blanks-small}
 use Rattle.rowlaws.specs.Places.{Here, Lies, Lie}
 use Rattle.rowlaws.proofs.Here.{here-in, here-inside}
 use Rattle.rowlaws.proofs.Below.{Short}
@@ -31,11 +33,6 @@ Fair strange = Unit {0}
 pub record Row (f r : List ℕ) (t : Thing) : Type 0 where
   pub tells : thingIn f r ≡ t
   pub small : length f < 2 ^ 64 → Fair t → Small r
-
-blanks-small : (n : ℕ) → Small (blanks n)
-unfolding blanks
-blanks-small zero = tt
-blanks-small (suc n) = (omega arith, blanks-small n)
 
 pub file-row : (f : List ℕ) (k n : ℕ) → k < 10000 → n < 1000000 → Row f (fileRow k n) (aFile k n)
 unfolding fileRow blanks thingIn pick

@@ -5,7 +5,8 @@ ghost use mathlib.Core.List.{List};
 ghost use Prim.Native.Nat.{ℕ, _+_, _≤_};
 ghost use lib.Dec.{leb};
 ghost use lib.ListN.{length, drop};
-ghost use Rattle.paper.specs.Rows.{words, thingIn};
+ghost use Rattle.paper.specs.Words.{words};
+ghost use Rattle.paper.specs.Rows.{thingIn};
 ghost use Rattle.rows.specs.read.Told.{told, spanHere, sidesHere, symbolsHere, textsHere, itemWith, itemHere};
 
 // An item's row. No payer is prefix and base 0; the texts may lie outside what was lent.

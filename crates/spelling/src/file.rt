@@ -7,9 +7,11 @@ ghost use lib.ListN.{length, drop};
 ghost use Rattle.base.specs.Put.{Wrote};
 ghost use Rattle.paper.specs.Batch.{most14};
 ghost use Rattle.paper.specs.Proper.{needFile, fine, batchProper};
-ghost use Rattle.paper.specs.Rows.{words, thingIn, rowsIn, thingsIn};
+ghost use Rattle.paper.specs.Words.{words};
+ghost use Rattle.paper.specs.Rows.{thingIn, rowsIn, thingsIn};
 ghost use Rattle.roundtrip.specs.flat.Flat.{groupEnds, fileEnds, flat};
-ghost use Rattle.rows.specs.list.From.{rowsFrom, thingsFrom};
+ghost use Rattle.out.specs.word.Places.{rowsFrom};
+ghost use Rattle.rows.specs.list.From.{thingsFrom};
 ghost use Rattle.spelling.specs.file.Sum.{itemSum};
 ghost use Rattle.spelling.specs.file.Passing.{Passing};
 ghost use Rattle.spelling.specs.file.Lines.{stageWhen, Filled};
@@ -23,8 +25,8 @@ pub struct Step {
 // The sum of the items whose rows stand at `from` and behind it, up to the next row of another kind.
 fn group_sum(rows: &[u8], from: usize) -> u64
     requires { ⌜ from ≤ length (now rows) ⌝ }
-    requires { ⌜ itemSum (rowsFrom (now rows) from) ≤ most14 ⌝ }
-    ensures { λ r. ⌜ r ≡ itemSum (rowsFrom (now (rows .entry)) from) ⌝ }
+    requires { ⌜ itemSum (rowsFrom 24 (now rows) from) ≤ most14 ⌝ }
+    ensures { λ r. ⌜ r ≡ itemSum (rowsFrom 24 (now (rows .entry)) from) ⌝ }
 {
     let mut sum: u64 = 0;
     let mut at = from;

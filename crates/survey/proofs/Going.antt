@@ -9,7 +9,8 @@ use Rattle.sheet.specs.declared.Sheet.{Sheet}
 use Rattle.paper.specs.Batch.{Header, Thing}
 use Rattle.paper.specs.Proper.{batchProper}
 use Rattle.paper.specs.Carried.{batchCarried}
-use Rattle.paper.specs.Rows.{words, rowsIn, thingIn, thingsIn}
+use Rattle.paper.specs.Words.{words}
+use Rattle.paper.specs.Rows.{rowsIn, thingIn, thingsIn}
 use Rattle.fileline.specs.seen.Bits.{Holds}
 use Rattle.rows.specs.list.From.{thingsFrom}
 use Rattle.rows.proofs.list.From.{things-step, things-end, things-rest}

@@ -1,7 +1,7 @@
 -- Lines one after the other: the rows put so far, and those that are still to come. Assumes nothing.
 use mathlib.Core.Path.{_≡_, refl, sym, ap, _∙_}
 use mathlib.Core.Bool.{Bool, true, false}
-use mathlib.Core.List.{List, [], _∷_, _++_, append-assoc, append-nil}
+use mathlib.Core.List.{List, [], _++_, append-assoc, append-nil}
 use Prim.Native.Nat.{ℕ, _+_, _-_, _≤_, _<_}
 use native.Mathlib.Nat.{zero-add}
 use native.Mathlib.Omega.{arith}
@@ -12,9 +12,11 @@ use Rattle.sheet.specs.declared.Sheet.{Sheet}
 use Rattle.paper.specs.Entries.{Counted}
 use Rattle.paper.specs.Lines.{linesOf, linesFrom}
 use Rattle.paper.specs.Spells.{readLine}
-use Rattle.paper.specs.Rows.{accepted, lineRow, singleBehind, linesRows, wordsBytes, rowsBytes}
+use Rattle.paper.specs.Words.{rowsBytes}
+use Rattle.paper.specs.Rows.{accepted, lineRow, singleBehind, linesRows}
 use Rattle.base.proofs.Lists.{drop-none}
 use Rattle.out.proofs.put.Room.{wrote-none, wrote-length}
+use Rattle.out.proofs.word.Rows.{rows-append}
 use Rattle.scan.specs.declared.line.Cut.{Cut}
 use Rattle.scan.specs.line.Cutting.{Cuts}
 use Rattle.scan.proofs.line.Lines.{at-end}
@@ -22,11 +24,6 @@ use Rattle.fill.specs.declared.file.Step.{Step}
 use Rattle.numeral.specs.placed.Said.{isSaid}
 use Rattle.fill.specs.file.Stepped.{Stepped}
 use Rattle.fill.specs.file.Judged.{AllSaid}
-
-pub rows-append : (a b : List (List ℕ)) → rowsBytes (a ++ b) ≡ rowsBytes a ++ rowsBytes b
-unfolding rowsBytes
-rows-append [] b = refl
-rows-append (r ∷ a) b = rw (rows-append a b) (sym (append-assoc (wordsBytes r) (rowsBytes a) (rowsBytes b)))
 
 module _ (f : List ℕ) (sh : Sheet) (today : ℕ) where
   abbrev rowsFrom : Bool → ℕ → List (List ℕ)

@@ -13,7 +13,8 @@ use Rattle.paper.specs.FileLine.{readFile}
 use Rattle.paper.specs.GroupLine.{readGroup}
 use Rattle.paper.specs.ItemLine.{places, readItem}
 use Rattle.paper.specs.Spells.{readLine}
-use Rattle.paper.specs.Rows.{accepted, blanks, fileRow, groupRow, itemRow, textSpots, entryRow, lineRow, singleAfter, singleBehind, wordsBytes, rowsBytes}
+use Rattle.paper.specs.Words.{blanks, wordsBytes, rowsBytes}
+use Rattle.paper.specs.Rows.{accepted, fileRow, groupRow, itemRow, textSpots, entryRow, lineRow, singleAfter, singleBehind}
 use Rattle.out.proofs.put.Room.{wrote-none}
 use Rattle.out.proofs.word.Laws.{words-length}
 use Rattle.text.specs.span.Held.{textsAt, Held}

@@ -11,7 +11,8 @@ use Rattle.base.specs.Pick.{pick}
 use Rattle.base.specs.Put.{Wrote}
 use Rattle.paper.specs.Bytes.{null}
 use Rattle.paper.specs.ItemLine.{places}
-use Rattle.paper.specs.Rows.{textWords, textsWords, blanks, itemRow, textSpots, wordsBytes}
+use Rattle.paper.specs.Words.{blanks, wordsBytes}
+use Rattle.paper.specs.Rows.{textWords, textsWords, itemRow, textSpots}
 use Rattle.text.specs.declared.span.Spans.{Spans}
 use Rattle.text.specs.span.Held.{textsAt, Held}
 use Rattle.itemline.specs.declared.Fields.{Fields}

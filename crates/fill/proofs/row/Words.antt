@@ -1,6 +1,6 @@
 -- Words put one after the other: what they leave, and the room for the next. Assumes nothing.
-use mathlib.Core.Path.{_≡_, refl, sym, ap, _∙_}
-use mathlib.Core.List.{List, [], _∷_, _++_, append-assoc, append-nil}
+use mathlib.Core.Path.{_≡_, ap, _∙_}
+use mathlib.Core.List.{List, [], _∷_, _++_, append-nil}
 use Prim.Native.Nat.{ℕ, _+_, _*_, _≤_, _<_}
 use native.Mathlib.Numerals.{add-one}
 use native.Mathlib.Omega.{arith}
@@ -8,15 +8,9 @@ use lib.ListN.{length, take, getD, length-take}
 use lib.Seq.{take-suc}
 use Rattle.base.specs.Put.{Wrote}
 use Rattle.base.proofs.Put.{_then_}
-use Rattle.paper.specs.Words.{wordBytes}
-use Rattle.paper.specs.Rows.{wordsBytes}
+use Rattle.paper.specs.Words.{wordBytes, wordsBytes}
 use Rattle.out.proofs.put.Room.{wrote-length, wrote-none}
-use Rattle.out.proofs.word.Laws.{words-length}
-
-pub words-append : (a b : List ℕ) → wordsBytes (a ++ b) ≡ wordsBytes a ++ wordsBytes b
-unfolding wordsBytes
-words-append [] b = refl
-words-append (w ∷ a) b = rw (words-append a b) (sym (append-assoc (wordBytes 8 w) (wordsBytes a) (wordsBytes b)))
+use Rattle.out.proofs.word.Laws.{words-length, words-append}
 
 -- the first i + 1 words are the first i and one more
 words-next : (ws : List ℕ) (i : ℕ) → i < length ws → wordsBytes (take (i + 1) ws) ≡ wordsBytes (take i ws) ++ wordBytes 8 (getD ws i 0)

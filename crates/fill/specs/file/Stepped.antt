@@ -5,7 +5,8 @@ use mathlib.Core.Bool.{Bool}
 use mathlib.Core.List.{List}
 use Rattle.base.specs.Put.{Wrote}
 use Rattle.paper.specs.Entries.{Counted}
-use Rattle.paper.specs.Rows.{lineRow, singleBehind, rowsBytes}
+use Rattle.paper.specs.Words.{rowsBytes}
+use Rattle.paper.specs.Rows.{lineRow, singleBehind}
 use Rattle.fill.specs.declared.file.Step.{Step}
 
 -- The line starts at `at` and was read as r. Its row, if it has one, is put at `next`, and the items that follow it are read as those of

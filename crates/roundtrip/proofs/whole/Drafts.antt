@@ -13,7 +13,8 @@ use Rattle.sheet.specs.Sheets.{sheetOf}
 use Rattle.paper.specs.Days.{realDay}
 use Rattle.paper.specs.Batch.{Batch, Header, Thing, things, batchOf}
 use Rattle.paper.specs.Proper.{Verdict, fine, wrong, headerProper, batchProper}
-use Rattle.paper.specs.Rows.{word, rowsIn, thingIn, thingsIn}
+use Rattle.paper.specs.Words.{word}
+use Rattle.paper.specs.Rows.{rowsIn, thingIn, thingsIn}
 use Rattle.paper.specs.Carried.{headerCarried, batchCarried}
 use Rattle.paper.specs.Canonical.{canon}
 use Rattle.paper.specs.Writing.{Draft, drafted, refusal, onVerdict, draftOf, draftWith, draft}

@@ -10,15 +10,17 @@ use borrow.Author.Tests.{ne-eqb}
 use Rattle.base.specs.Pick.{pick}
 use Rattle.paper.specs.Accounts.{account}
 use Rattle.paper.specs.Batch.{aFile, aGroup, anItem, strange}
-use Rattle.paper.specs.Rows.{words, textAt, itemIn, thingIn}
+use Rattle.paper.specs.Words.{words}
+use Rattle.paper.specs.Rows.{textAt, itemIn, thingIn}
+use Rattle.out.specs.word.Places.{wordHere}
+use Rattle.out.proofs.word.Laws.{word-here}
 use Rattle.rows.specs.declared.read.ItemRow.{ItemRow}
-use Rattle.rows.specs.read.Told.{textOfSpan, itemOf, wordHere, spanHere, itemHere}
-use Rattle.rows.proofs.read.Words.{word-here}
+use Rattle.rows.specs.read.Told.{textOfSpan, itemOf, spanHere, itemHere}
 
 module _ (rows : List ℕ) (at : ℕ) where
   -- the row's word i
   w : (i : ℕ) → i < 24 → getD (words 24 (drop at rows)) i 0 ≡ wordHere rows (at + 8 * i)
-  w i h = word-here rows at i h
+  w i h = word-here 24 rows at i h
 
   module _ (t : List ℕ) where
     -- a text of the row

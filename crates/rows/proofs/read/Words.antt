@@ -1,32 +1,14 @@
--- The words of a row are those that stand in its bytes one after another. Assumes nothing.
-use mathlib.Core.Path.{_≡_, refl, _∙_}
+-- What is made of words that were read in a row. Assumes nothing.
+use mathlib.Core.Path.{_≡_, _∙_}
 use mathlib.Core.List.{List}
-use Prim.Native.Nat.{ℕ, zero, suc, _+_, _*_, _<_}
-use native.Mathlib.Omega.{arith}
-use lib.ListN.{drop, getD}
-use lib.Seq.{drop-drop}
-use Rattle.paper.specs.Rows.{words}
+use Prim.Native.Nat.{ℕ, _+_}
+use Rattle.out.specs.word.Places.{wordHere}
 use Rattle.text.specs.declared.span.Span.{Span}
 use Rattle.rows.specs.declared.read.ItemRow.{ItemRow}
 use Rattle.rows.specs.declared.read.Sides.{Sides}
 use Rattle.rows.specs.declared.read.Symbols.{Symbols}
 use Rattle.rows.specs.declared.read.Texts.{Texts}
-use Rattle.rows.specs.read.Told.{wordHere, spanHere, sidesHere, symbolsHere, textsHere, itemWith, itemHere}
-
--- word i of n
-word-of : (n i : ℕ) (s : List ℕ) → i < n → getD (words n s) i 0 ≡ wordHere s (8 * i)
-unfolding words
-word-of zero i s h = absurd (omega arith)
-word-of (suc n) zero s h = refl
-word-of (suc n) (suc i) s h =
-    let e : 8 * suc i ≡ 8 + 8 * i = omega arith in
-    rw (e, ← drop-drop (8 * i) 8 s) (word-of n i (drop 8 s) (omega arith))
-
--- word i of the row that begins at a place
-pub word-here : (rows : List ℕ) (at i : ℕ) → i < 24 → getD (words 24 (drop at rows)) i 0 ≡ wordHere rows (at + 8 * i)
-word-here rows at i h = rw (← drop-drop (8 * i) at rows) (word-of 24 i (drop at rows) h)
-
--- ---- what is made of words that were read
+use Rattle.rows.specs.read.Told.{spanHere, sidesHere, symbolsHere, textsHere, itemWith, itemHere}
 
 module _ (rows : List ℕ) (at : ℕ) where
   pub span-of : (a b : ℕ) → a ≡ wordHere rows at → b ≡ wordHere rows (at + 8) → _≡_ {A = Span} (record { at = a; len = b }) (spanHere rows at)

@@ -1,14 +1,10 @@
--- The rows that begin at a place of the lent bytes, and those behind them. docs/ROWS.md. Assumes nothing.
+-- What the rows that begin at a place of the lent bytes say, and those behind them. docs/ROWS.md. Assumes nothing.
 use Prim.Native.Nat.{ℕ}
 use mathlib.Core.List.{List}
-use lib.ListN.{drop}
 use Rattle.paper.specs.Batch.{Thing}
-use Rattle.paper.specs.Rows.{rowsIn, thingsIn}
+use Rattle.paper.specs.Rows.{thingsIn}
+use Rattle.out.specs.word.Places.{rowsFrom}
 
--- their words
-abbrev pub rowsFrom : List ℕ → ℕ → List (List ℕ)
-rowsFrom rows at = rowsIn (drop at rows)
-
--- what they say, their texts cut from the lent bytes t
+-- their texts are cut from the lent bytes t
 abbrev pub thingsFrom : List ℕ → List ℕ → ℕ → List Thing
-thingsFrom t rows at = thingsIn t (rowsFrom rows at)
+thingsFrom t rows at = thingsIn t (rowsFrom 24 rows at)

@@ -6,7 +6,7 @@ use lib.ListN.{length, take, drop}
 use Rattle.base.specs.Pick.{pick}
 use Rattle.paper.specs.Accounts.{account}
 use Rattle.paper.specs.Batch.{Item, Thing, aFile, aGroup, anItem, strange}
-use Rattle.paper.specs.Words.{wordOf}
+use Rattle.out.specs.word.Places.{wordHere}
 use Rattle.text.specs.declared.span.Span.{Span}
 use Rattle.rows.specs.declared.read.ItemRow.{ItemRow}
 use Rattle.rows.specs.declared.read.Sides.{Sides}
@@ -43,10 +43,6 @@ told t (AnItem x) = anItem (itemOf t x)
 told t Strange = strange
 
 -- ---- a row in lent bytes
-
--- the word that begins at a place
-abbrev pub wordHere : List ℕ → ℕ → ℕ
-wordHere rows at = wordOf (take 8 (drop at rows))
 
 -- the place and the length that two words are
 abbrev pub spanHere : List ℕ → ℕ → Span

@@ -11,7 +11,8 @@ use Rattle.base.proofs.Cases.{by-lt}
 use Rattle.out.proofs.put.Room.{wrote-none, wrote-length}
 use Rattle.sheet.specs.declared.Sheet.{Sheet}
 use Rattle.paper.specs.Proper.{needFile, fine, batchProper}
-use Rattle.paper.specs.Rows.{words, rowsIn, thingIn, thingsIn}
+use Rattle.paper.specs.Words.{words}
+use Rattle.paper.specs.Rows.{rowsIn, thingIn, thingsIn}
 use Rattle.roundtrip.specs.flat.Flat.{fileEnds, flat}
 use Rattle.rows.specs.list.From.{thingsFrom}
 use Rattle.rows.proofs.list.From.{things-step, things-end, things-rest}

@@ -14,14 +14,16 @@ use Rattle.paper.specs.Batch.{Thing, aFile, aGroup, anItem, most14}
 use Rattle.paper.specs.FileLine.{spellFile}
 use Rattle.paper.specs.GroupLine.{spellGroup}
 use Rattle.paper.specs.ItemLine.{spellItem}
-use Rattle.paper.specs.Rows.{words, thingIn}
+use Rattle.paper.specs.Words.{words}
+use Rattle.paper.specs.Rows.{thingIn}
 use Rattle.roundtrip.specs.flat.Flat.{lineOf, groupEnds, fileEnds, groupSum, flat}
 use Rattle.rows.specs.declared.read.ItemRow.{ItemRow}
 use Rattle.rows.specs.declared.read.RowRead.{RowRead}
 use Rattle.rows.specs.declared.read.RowRead.the-variants.{File, Group, Item, Strange}
 use Rattle.rows.specs.read.Told.{itemOf, told}
 use Rattle.rows.specs.read.Sized.{Sized}
-use Rattle.rows.specs.list.From.{rowsFrom, thingsFrom}
+use Rattle.out.specs.word.Places.{rowsFrom}
+use Rattle.rows.specs.list.From.{thingsFrom}
 use Rattle.rows.proofs.list.From.{things-step}
 use Rattle.spelling.specs.declared.file.Step.{Step}
 use Rattle.spelling.specs.file.Sum.{itemSum}
@@ -78,13 +80,13 @@ module _ (sh : Sheet) (due : Bool) (t rows : List ℕ) (row : ℕ) (here : 192 �
         group-passed : Passing (aGroup date (account prefix base) ∷ behind)
         group-passed = rw group-is at passed
 
-        total-is : itemSum (rowsFrom rows (row + 192)) ≡ groupSum behind
-        total-is = pass-sum date (account prefix base) t (rowsFrom rows (row + 192)) group-passed
+        total-is : itemSum (rowsFrom 24 rows (row + 192)) ≡ groupSum behind
+        total-is = pass-sum date (account prefix base) t (rowsFrom 24 rows (row + 192)) group-passed
 
-        pub sum-low : itemSum (rowsFrom rows (row + 192)) ≤ most14
+        pub sum-low : itemSum (rowsFrom 24 rows (row + 192)) ≤ most14
         sum-low = omega (arith, total-is, pass-small date (account prefix base) behind group-passed)
 
-        module _ (total : ℕ) (s : total ≡ itemSum (rowsFrom rows (row + 192))) where
+        module _ (total : ℕ) (s : total ≡ itemSum (rowsFrom 24 rows (row + 192))) where
           group-lines : at + length (groupEnds (stageWhen due) ++ lineOf (spellGroup sh (account prefix base) total date)) ≤ length o
           unfolding rowLines
           group-lines = rw (s, total-is) (rw group-is at row-room)

@@ -11,26 +11,26 @@ use Rattle.base.specs.Pick.{pick}
 use Rattle.base.proofs.Cases.{by-lt, by-eq}
 use Rattle.paper.specs.Batch.{most14}
 use Rattle.paper.specs.Proper.{Stage, any}
-use Rattle.paper.specs.Rows.{words, word, thingIn, thingsIn}
+use Rattle.paper.specs.Words.{words, word}
+use Rattle.paper.specs.Rows.{thingIn, thingsIn}
 use Rattle.roundtrip.specs.flat.Flat.{groupSum}
 use Rattle.roundtrip.specs.flat.Order.{Ordered}
-use Rattle.rows.specs.read.Told.{wordHere}
-use Rattle.rows.proofs.read.Words.{word-here}
-use Rattle.rows.specs.list.From.{rowsFrom}
-use Rattle.rows.proofs.list.From.{rows-step, rows-end, rows-rest}
+use Rattle.out.specs.word.Places.{wordHere, rowsFrom}
+use Rattle.out.proofs.word.Laws.{word-here}
+use Rattle.out.proofs.word.Rows.{rows-step, rows-end, rows-rest}
 use Rattle.spelling.specs.file.Sum.{itemSum}
 
 module _ (rows : List ℕ) (at : ℕ) where
   kind-here : getD (words 24 (drop at rows)) 0 0 ≡ wordHere rows at
-  kind-here = word-here rows at 0 (lit< tt) ∙ rw add-zero
+  kind-here = word-here 24 rows at 0 (lit< tt) ∙ rw add-zero
 
   -- `total` is the sum so far and that of the rows from `at` on
-  module _ (total sum : ℕ) (so : total ≡ sum + itemSum (rowsFrom rows at)) (here : 192 ≤ length rows - at) (kind : ℕ) (k : kind ≡ wordHere rows at) where
-    sum-here : total ≡ sum + pick (eqb kind 3) (wordHere rows (at + 48) + itemSum (rowsFrom rows (at + 192))) 0
+  module _ (total sum : ℕ) (so : total ≡ sum + itemSum (rowsFrom 24 rows at)) (here : 192 ≤ length rows - at) (kind : ℕ) (k : kind ≡ wordHere rows at) where
+    sum-here : total ≡ sum + pick (eqb kind 3) (wordHere rows (at + 48) + itemSum (rowsFrom 24 rows (at + 192))) 0
     unfolding itemSum
-    sum-here = rw (rows-step rows at (omega arith), kind-here, word-here rows at 6 (lit< tt), ← k) at so
+    sum-here = rw (rows-step 24 (lit< tt) rows at (omega arith), kind-here, word-here 24 rows at 6 (lit< tt), ← k) at so
 
-    pub sum-next : kind ≡ 3 → (n : ℕ) → n ≡ wordHere rows (at + 48) → total ≡ (sum + n) + itemSum (rowsFrom rows (at + 192))
+    pub sum-next : kind ≡ 3 → (n : ℕ) → n ≡ wordHere rows (at + 48) → total ≡ (sum + n) + itemSum (rowsFrom 24 rows (at + 192))
     unfolding pick
     sum-next e n w = omega (arith, rw e at sum-here)
 
@@ -42,12 +42,12 @@ module _ (rows : List ℕ) (at : ℕ) where
     sum-stop e = omega (arith, rw (ne-eqb kind 3 e) at sum-here)
 
   -- no row is left
-  pub sum-last : (total sum : ℕ) → total ≡ sum + itemSum (rowsFrom rows at) → length rows - at < 192 → sum ≡ total
+  pub sum-last : (total sum : ℕ) → total ≡ sum + itemSum (rowsFrom 24 rows at) → length rows - at < 192 → sum ≡ total
   unfolding itemSum pick
   sum-last total sum so h =
       by-lt at (length rows)
-      (λ l. omega (arith, rw (rows-rest rows at l (omega arith)) at so))
-      (λ l. omega (arith, rw (rows-end rows at l) at so))
+      (λ l. omega (arith, rw (rows-rest 24 (lit< tt) rows at l (omega arith)) at so))
+      (λ l. omega (arith, rw (rows-end 24 (lit< tt) rows at l) at so))
 
 -- in rows that are in order it is the sum of the items that they begin with
 pub item-sum : (t : List ℕ) (st : Stage) (rs : List (List ℕ)) → Ordered st (thingsIn t rs) → itemSum rs ≡ groupSum (thingsIn t rs)

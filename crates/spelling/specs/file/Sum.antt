@@ -3,7 +3,7 @@ use Prim.Native.Nat.{ℕ, _+_}
 use mathlib.Core.List.{List, [], _∷_}
 use lib.Dec.{eqb}
 use Rattle.base.specs.Pick.{pick}
-use Rattle.paper.specs.Rows.{word}
+use Rattle.paper.specs.Words.{word}
 
 -- the amounts of the items' rows that come before any other row
 unfoldable pub itemSum : List (List ℕ) → ℕ

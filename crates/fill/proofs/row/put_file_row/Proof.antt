@@ -1,6 +1,7 @@
 -- The words are those of the definition.
 use borrow.Author.Needs.{needs}
-use Rattle.paper.specs.Rows.{fileRow, blanks}
+use Rattle.paper.specs.Words.{blanks}
+use Rattle.paper.specs.Rows.{fileRow}
 use Rattle.fill.proofs.row.put_file_row.Statement.{statement}
 use Rattle.fill.proofs.row.put_file_row.Tie as tie
 

@@ -1,6 +1,7 @@
 -- The words are those of the definition.
 use borrow.Author.Needs.{needs}
-use Rattle.paper.specs.Rows.{groupRow, blanks}
+use Rattle.paper.specs.Words.{blanks}
+use Rattle.paper.specs.Rows.{groupRow}
 use Rattle.fill.proofs.row.put_group_row.Statement.{statement}
 use Rattle.fill.proofs.row.put_group_row.Tie as tie
 

@@ -8,7 +8,7 @@ use Rattle.out.proofs.put.Room.{wrote-length}
 use native.Mathlib.Omega.{arith}
 use borrow.Author.Needs.{needs}
 use Rattle.base.specs.Put.{Wrote}
-use Rattle.paper.specs.Rows.{wordsBytes}
+use Rattle.paper.specs.Words.{wordsBytes}
 use Rattle.fill.proofs.row.Words.{row-first, row-room, row-next}
 use Rattle.fill.proofs.row.put_row.Statement.{statement}
 use Rattle.fill.proofs.row.put_row.Tie as tie

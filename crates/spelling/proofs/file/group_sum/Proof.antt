@@ -4,14 +4,14 @@ use Prim.Native.Nat.{_+_, _-_, _≤_}
 use native.Mathlib.Omega.{arith}
 use lib.ListN.{length}
 use borrow.Author.Needs.{needs}
-use Rattle.rows.specs.list.From.{rowsFrom}
+use Rattle.out.specs.word.Places.{rowsFrom}
 use Rattle.spelling.specs.file.Sum.{itemSum}
 use Rattle.spelling.proofs.file.Sum.{sum-next, sum-fits, sum-stop, sum-last}
 use Rattle.spelling.proofs.file.group_sum.Statement.{statement}
 use Rattle.spelling.proofs.file.group_sum.Tie as tie
 
 abbrev Inv-loop : tie.InvT-loop
-Inv-loop rows from sum₀ at₀ sum at = (at ≤ length rows) × (itemSum (rowsFrom rows from) ≡ sum + itemSum (rowsFrom rows at))
+Inv-loop rows from sum₀ at₀ sum at = (at ≤ length rows) × (itemSum (rowsFrom 24 rows from) ≡ sum + itemSum (rowsFrom 24 rows at))
 
 abbrev μ-loop : tie.MeasureT-loop
 μ-loop rows from sum₀ at₀ sum at = length rows - at
