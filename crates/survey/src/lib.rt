@@ -3,7 +3,6 @@ pub mod state;
 pub mod step;
 
 use crate::state::Found;
-use crate::state::Stage;
 use crate::state::State;
 use crate::state::Step;
 use fileline::seen::Seen;
@@ -15,9 +14,9 @@ ghost use Prim.Native.Nat.{ℕ, _+_, _≤_};
 ghost use Rattle.sheet.specs.declared.Sheet as sheets;
 ghost use Rattle.paper.specs.Days.{realDay};
 ghost use Rattle.paper.specs.Batch.{Header};
-ghost use Rattle.paper.specs.Proper.{any};
 ghost use Rattle.paper.specs.Rows.{rowsIn, thingsIn};
 ghost use Rattle.roundtrip.specs.flat.Count.{fileClosing};
+ghost use Rattle.rows.specs.walk.Walks.{beforeOf};
 ghost use Rattle.survey.specs.state.Stands.{resume};
 ghost use Rattle.survey.specs.state.Low.{Low};
 ghost use Rattle.survey.specs.Told.{told, judged, Small};
@@ -32,9 +31,11 @@ pub enum Surveyed {
 // The bytes of all lines behind the first, once the lines that close are added.
 fn all_bytes(st: State) -> u64
     requires { ⌜ st .bytes ≤ 100000000000 ⌝ }
-    ensures { λ r. ⌜ (r ≡ st .bytes + fileClosing any (st .sum)) × (r ≤ 200000000000) ⌝ }
+    ensures { λ r. ⌜ (r ≡ st .bytes + fileClosing (beforeOf (st .before) .stage) (st .before .sum)) × (r ≤ 200000000000) ⌝ }
 {
-    let closing = crate::state::file_closing(Stage::Any, st.sum);
+    let before = st.before;
+    let stage = before.stage;
+    let closing = crate::state::file_closing(stage, before.sum);
     st.bytes + closing
 }
 
@@ -44,17 +45,16 @@ fn finish(k: u64, st: State) -> Surveyed
     ensures { λ r. ⌜ ((sh : sheets.Sheet) (today : ℕ) (h : Header) (l : List ℕ) → told r ≡ resume sh today h k l st []) ⌝ }
     ensures { λ r. ⌜ Small r ⌝ }
 {
-    let stage = st.stage;
-    let found = st.found;
-    match stage {
-        Stage::NeedFile => Surveyed::Improper(k, 0),
-        Stage::NeedGroup => Surveyed::Improper(k, 0),
-        Stage::NeedItem => Surveyed::Improper(k, 0),
-        Stage::Any => match found {
+    let before = st.before;
+    let stage = before.stage;
+    if rows::walk::may_stop(stage) {
+        let found = st.found;
+        return match found {
             Found::At(row, field) => Surveyed::Unfit(row, field),
             Found::Nothing => Surveyed::Fits(all_bytes(st)),
-        },
+        };
     }
+    Surveyed::Improper(k, 0)
 }
 
 // The lent rows, on a sheet and a day; the header's interval goes from `from` to `to`.

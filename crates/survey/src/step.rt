@@ -1,13 +1,14 @@
-// One lent row, judged: what it leads to by 20, 21 and its line's bytes. Each kind of row goes by the same stages: its tests for 20; what was
-// found for 21 behind it; the bytes behind it; the state behind it, which is these two and the counts.
+// One lent row, judged: what it leads to by 20, 21 and its line's bytes. Each kind of row goes by the same stages: what it leads to by 20
+// (`rows::walk`); what was found for 21 behind it; the bytes behind it; the state behind it, which is these three.
 use crate::state::Found;
-use crate::state::Stage;
 use crate::state::State;
 use crate::state::Step;
 use fileline::seen::Seen;
 use rows::read::Check;
 use rows::read::ItemRow;
 use rows::read::RowRead;
+use rows::walk::Before;
+use rows::walk::Walk;
 use sheet::Sheet;
 ghost use mathlib.Core.Path.{_≡_};
 ghost use mathlib.Core.Bool.{true};
@@ -18,34 +19,23 @@ ghost use lib.ListN.{length, drop};
 ghost use Rattle.sheet.specs.declared.Sheet as sheets;
 ghost use Rattle.paper.specs.Accounts.{account};
 ghost use Rattle.paper.specs.Days.{realDay};
-ghost use Rattle.paper.specs.Batch.{Header, aFile, aGroup, anItem, most14};
+ghost use Rattle.paper.specs.Batch.{Header, aFile, aGroup, anItem};
 ghost use Rattle.paper.specs.Carried.{itemCarried};
 ghost use Rattle.paper.specs.Proper.{Verdict, check};
 ghost use Rattle.paper.specs.Words.{words};
 ghost use Rattle.paper.specs.Rows.{thingIn};
-ghost use Rattle.rows.specs.declared.read.Check.the-variants.{Fine};
+ghost use Rattle.rows.specs.declared.walk.Walk.the-variants.{On};
 ghost use Rattle.rows.specs.read.After.{after};
 ghost use Rattle.rows.specs.read.Sized.{Sized};
 ghost use Rattle.rows.specs.read.Told.{itemOf};
+ghost use Rattle.rows.specs.walk.Walks.{Walks};
 ghost use Rattle.fileline.specs.seen.Bits.{Holds};
-ghost use Rattle.survey.specs.state.Stands.{beforeOf};
 ghost use Rattle.survey.specs.state.Low.{Low, LowStep};
 ghost use Rattle.survey.specs.state.Goes.{Goes};
-ghost use Rattle.survey.specs.state.Row.{Tested, Finds, Adds, Behind, FilePassed, GroupPassed, ItemPassed};
+ghost use Rattle.survey.specs.state.Row.{Finds, Adds, Behind};
 ghost use Rattle.survey.specs.step.Steps.{Steps, StepsRead};
 
 // ---- an account file
-
-// May it come here, and are its fields as "The batch" says?
-fn file_tested(st: State, kind: u64, number: u64) -> Check
-    ensures { λ r. ⌜ Tested st (aFile kind number) r ⌝ }
-{
-    let stage = st.stage;
-    if !crate::state::file_due(stage, st.files) {
-        return Check::Wrong(0);
-    }
-    rows::proper::file_check(kind, number)
-}
 
 // What was found behind row k. `seen` are the first three digits of earlier numbers.
 fn file_found(
@@ -61,9 +51,9 @@ fn file_found(
     requires { ⌜ number < 1000000 ⌝ }
     ensures { λ r. ⌜ ((today : ℕ) (h : Header) (l : List ℕ) → h .from ≡ from → h .to ≡ to → Holds (seen .words) l → Finds sh today h l k st (aFile kind number) r) ⌝ }
 {
-    let before = st.found;
+    let found = st.found;
     crate::state::keep(
-        before,
+        found,
         k,
         rows::carried::file_carried(sh, from, to, seen, kind, number),
     )
@@ -75,8 +65,9 @@ fn file_bytes(st: State) -> u64
     ensures { λ r. ⌜ ((sh : sheets.Sheet) (kind number : ℕ) → Adds sh st (aFile kind number) r) ⌝ }
     ensures { λ r. ⌜ r ≤ st .bytes + 500 ⌝ }
 {
-    let stage = st.stage;
-    let closing = crate::state::file_closing(stage, st.sum);
+    let before = st.before;
+    let stage = before.stage;
+    let closing = crate::state::file_closing(stage, before.sum);
     let line = spelling::linelen::file_len() as u64;
     st.bytes + closing + line + 2
 }
@@ -89,22 +80,19 @@ fn behind_file(
     seen: Seen,
     k: u64,
     st: State,
+    next: Before,
     kind: u64,
     number: u64,
 ) -> State
     requires { ⌜ Low k st ⌝ }
-    requires { ⌜ FilePassed (beforeOf st) number ⌝ }
+    requires { ⌜ Walks (st .before) (aFile kind number) (On next) ⌝ }
     ensures { λ r. ⌜ Low (k + 1) r ⌝ }
     ensures { λ r. ⌜ ((today : ℕ) (h : Header) (l : List ℕ) → h .from ≡ from → h .to ≡ to → Holds (seen .words) l → Behind sh today h l k st (aFile kind number) r) ⌝ }
 {
     let found = file_found(sh, from, to, seen, k, st, kind, number);
     let bytes = file_bytes(st);
     State {
-        stage: Stage::NeedGroup,
-        files: st.files + 1,
-        items: 0,
-        single: false,
-        sum: 0,
+        before: next,
         all: st.all,
         bytes,
         found,
@@ -125,10 +113,11 @@ fn file_row(
     requires { ⌜ Low k st ⌝ }
     ensures { λ r. ⌜ ((today : ℕ) → Steps sh today from to (seen .words) k st (aFile kind number) r) ⌝ }
 {
-    match file_tested(st, kind, number) {
-        Check::Wrong(field) => Step::Wrong(field),
-        Check::Fine => Step::File(
-            behind_file(sh, from, to, seen, k, st, kind, number),
+    let before = st.before;
+    match rows::walk::file_proper(before, kind, number) {
+        Walk::Wrong(field) => Step::Wrong(field),
+        Walk::On(next) => Step::File(
+            behind_file(sh, from, to, seen, k, st, next, kind, number),
             number / 1000,
         ),
     }
@@ -136,25 +125,14 @@ fn file_row(
 
 // ---- a group
 
-// May it come here, and are its fields as "The batch" says?
-fn group_tested(st: State, date: u64, prefix: u64, base: u64) -> Check
-    ensures { λ r. ⌜ Tested st (aGroup date (account prefix base)) r ⌝ }
-{
-    let stage = st.stage;
-    if !crate::state::group_due(stage) {
-        return Check::Wrong(0);
-    }
-    rows::proper::group_check(date, prefix, base)
-}
-
 // What was found behind row k.
 fn group_found(sh: Sheet, today: u64, k: u64, st: State, date: u64, prefix: u64, base: u64) -> Found
     requires { ⌜ realDay today ≡ true ⌝ }
     requires { ⌜ realDay date ≡ true ⌝ }
     ensures { λ r. ⌜ ((h : Header) (l : List ℕ) → Finds sh today h l k st (aGroup date (account prefix base)) r) ⌝ }
 {
-    let before = st.found;
-    crate::state::keep(before, k, rows::carried::group_carried(sh, today, date))
+    let found = st.found;
+    crate::state::keep(found, k, rows::carried::group_carried(sh, today, date))
 }
 
 // The bytes with its line but for the total, with CR LF, and with what it closes.
@@ -163,8 +141,9 @@ fn group_bytes(sh: Sheet, st: State, prefix: u64, base: u64) -> u64
     ensures { λ r. ⌜ ((date : ℕ) → Adds sh st (aGroup date (account prefix base)) r) ⌝ }
     ensures { λ r. ⌜ r ≤ st .bytes + 500 ⌝ }
 {
-    let stage = st.stage;
-    let closing = crate::state::group_closing(stage, st.sum);
+    let before = st.before;
+    let stage = before.stage;
+    let closing = crate::state::group_closing(stage, before.sum);
     let line = spelling::linelen::group_front_len(sh, prefix, base) as u64;
     st.bytes + closing + line + 2
 }
@@ -175,24 +154,21 @@ fn behind_group(
     today: u64,
     k: u64,
     st: State,
+    next: Before,
     date: u64,
     prefix: u64,
     base: u64,
 ) -> State
     requires { ⌜ realDay today ≡ true ⌝ }
     requires { ⌜ Low k st ⌝ }
-    requires { ⌜ GroupPassed (beforeOf st) date ⌝ }
+    requires { ⌜ Walks (st .before) (aGroup date (account prefix base)) (On next) ⌝ }
     ensures { λ r. ⌜ Low (k + 1) r ⌝ }
     ensures { λ r. ⌜ ((h : Header) (l : List ℕ) → Behind sh today h l k st (aGroup date (account prefix base)) r) ⌝ }
 {
     let found = group_found(sh, today, k, st, date, prefix, base);
     let bytes = group_bytes(sh, st, prefix, base);
     State {
-        stage: Stage::NeedItem,
-        files: st.files,
-        items: st.items,
-        single: account::is_nobody(prefix, base),
-        sum: 0,
+        before: next,
         all: st.all,
         bytes,
         found,
@@ -205,26 +181,14 @@ fn group_row(sh: Sheet, today: u64, k: u64, st: State, date: u64, prefix: u64, b
     requires { ⌜ Low k st ⌝ }
     ensures { λ r. ⌜ ((from to : ℕ) (seen : List ℕ) → Steps sh today from to seen k st (aGroup date (account prefix base)) r) ⌝ }
 {
-    match group_tested(st, date, prefix, base) {
-        Check::Wrong(field) => Step::Wrong(field),
-        Check::Fine => Step::On(behind_group(sh, today, k, st, date, prefix, base)),
+    let before = st.before;
+    match rows::walk::group_proper(before, date, prefix, base) {
+        Walk::Wrong(field) => Step::Wrong(field),
+        Walk::On(next) => Step::On(behind_group(sh, today, k, st, next, date, prefix, base)),
     }
 }
 
 // ---- an item
-
-// May it come here, and are its fields as "The batch" says?
-fn item_tested(texts: &[u8], st: State, x: ItemRow) -> Check
-    requires { ⌜ st .sum ≤ most14 ⌝ }
-    ensures { λ r. ⌜ Tested st (anItem (itemOf (now (texts .entry)) x)) r ⌝ }
-    ensures { λ r. ⌜ (r ≡ Fine → ItemPassed (beforeOf st) (now (texts .entry)) x) ⌝ }
-{
-    let stage = st.stage;
-    if !crate::state::item_due(stage, st.items) {
-        return Check::Wrong(0);
-    }
-    rows::proper::item_check(texts, x, st.single, st.sum)
-}
 
 // What the sheet cannot carry of an item that has `all` items before it in the whole file.
 fn item_fits(sh: Sheet, texts: &[u8], all: u64, x: ItemRow) -> Check
@@ -243,8 +207,8 @@ fn item_found(sh: Sheet, texts: &[u8], k: u64, st: State, x: ItemRow) -> Found
     requires { ⌜ Sized (now texts) x ⌝ }
     ensures { λ r. ⌜ ((today : ℕ) (h : Header) (l : List ℕ) → Finds sh today h l k st (anItem (itemOf (now (texts .entry)) x)) r) ⌝ }
 {
-    let before = st.found;
-    crate::state::keep(before, k, item_fits(sh, texts, st.all, x))
+    let found = st.found;
+    crate::state::keep(found, k, item_fits(sh, texts, st.all, x))
 }
 
 // The bytes with its line and CR LF.
@@ -259,20 +223,16 @@ fn item_bytes(sh: Sheet, texts: &[u8], st: State, x: ItemRow) -> u64
 }
 
 // The state behind row k.
-fn behind_item(sh: Sheet, texts: &[u8], k: u64, st: State, x: ItemRow) -> State
+fn behind_item(sh: Sheet, texts: &[u8], k: u64, st: State, next: Before, x: ItemRow) -> State
     requires { ⌜ Low k st ⌝ }
-    requires { ⌜ ItemPassed (beforeOf st) (now texts) x ⌝ }
+    requires { ⌜ Walks (st .before) (anItem (itemOf (now texts) x)) (On next) ⌝ }
     ensures { λ r. ⌜ Low (k + 1) r ⌝ }
     ensures { λ r. ⌜ ((today : ℕ) (h : Header) (l : List ℕ) → Behind sh today h l k st (anItem (itemOf (now (texts .entry)) x)) r) ⌝ }
 {
     let found = item_found(sh, texts, k, st, x);
     let bytes = item_bytes(sh, texts, st, x);
     State {
-        stage: Stage::Any,
-        files: st.files,
-        items: st.items + 1,
-        single: st.single,
-        sum: st.sum + x.amount,
+        before: next,
         all: st.all + 1,
         bytes,
         found,
@@ -284,9 +244,10 @@ fn item_row(sh: Sheet, texts: &[u8], k: u64, st: State, x: ItemRow) -> Step
     requires { ⌜ Low k st ⌝ }
     ensures { λ r. ⌜ ((today from to : ℕ) (seen : List ℕ) → Steps sh today from to seen k st (anItem (itemOf (now (texts .entry)) x)) r) ⌝ }
 {
-    match item_tested(texts, st, x) {
-        Check::Wrong(field) => Step::Wrong(field),
-        Check::Fine => Step::On(behind_item(sh, texts, k, st, x)),
+    let before = st.before;
+    match rows::walk::item_proper(texts, before, x) {
+        Walk::Wrong(field) => Step::Wrong(field),
+        Walk::On(next) => Step::On(behind_item(sh, texts, k, st, next, x)),
     }
 }
 

@@ -2,7 +2,7 @@
 use mathlib.Core.Path.{_≡_, refl, sym, _∙_}
 use mathlib.Core.Bool.{Bool, true, false}
 use mathlib.Core.List.{List, [], _∷_}
-use Prim.Native.Nat.{ℕ, _+_, _-_, _≤_}
+use Prim.Native.Nat.{ℕ, _+_, _-_}
 use native.Mathlib.Omega.{arith}
 use lib.Dec.{leb}
 use lib.ListN.{length, take, drop}
@@ -11,17 +11,14 @@ use Rattle.base.specs.Seek.{all, seek}
 use Rattle.base.proofs.Cases.{pick-true, pick-false}
 use Rattle.paper.specs.Bytes.{isText}
 use Rattle.paper.specs.Texts.{lacks, partProper, nameProper}
-use Rattle.paper.specs.Batch.{most14}
 use Rattle.paper.specs.Proper.{Verdict, partsFrom, itemProper}
 use Rattle.text.specs.declared.span.Span.{Span}
 use Rattle.rows.specs.declared.read.Check.{Check}
 use Rattle.rows.specs.declared.read.Check.the-variants.{Fine, Wrong}
 use Rattle.rows.specs.declared.read.ItemRow.{ItemRow}
 use Rattle.rows.specs.read.Told.{textOfSpan, itemOf}
-use Rattle.rows.specs.read.Sized.{Sized}
 use Rattle.rows.specs.read.After.{after}
-use Rattle.rows.specs.proper.Stages.{moneyProper, symbolsProper, textsProper}
-use Rattle.rows.proofs.proper.Laws.{sized-when}
+use Rattle.rows.specs.proper.Stages.{moneyProper, symbolsProper, textsProper, ItemTested}
 
 -- ---- a text that lies inside what was lent, or does not
 
@@ -75,20 +72,10 @@ unfolding itemProper partsFrom moneyProper symbolsProper textsProper
 stages k single sum t x rest = refl
 
 module _ (t : List ℕ) (x : ItemRow) (single : Bool) (sum : ℕ) where
-  -- an answer that says what the definition says, and so what a row that passed is
-  abbrev Judged : Check → Type 0
-  Judged r =
-      ((k : ℕ) (rest : Verdict) → after k r rest ≡ itemProper k single sum (itemOf t x) rest)
-      × (r ≡ Fine → Sized t x × (sum + x .amount ≤ most14))
-
-  judged : (r : Check) → ((k : ℕ) (rest : Verdict) → after k r rest ≡ itemProper k single sum (itemOf t x) rest) → Judged r
-  judged r told = (told, sized-when t x single sum r told)
-
   module _ (m : Check) (money : (k : ℕ) (rest : Verdict) → after k m rest ≡ moneyProper k single sum x rest) where
-    pub money-wrong : (n : ℕ) → m ≡ Wrong n → Judged (Wrong n)
+    pub money-wrong : (n : ℕ) → m ≡ Wrong n → ItemTested t x single sum (Wrong n)
     money-wrong n h =
-        judged (Wrong n)
-        (λ k rest. rw h at (money k (symbolsProper k x (textsProper k t x rest))) ∙ stages k single sum t x rest)
+        record { same = λ k rest. rw h at (money k (symbolsProper k x (textsProper k t x rest))) ∙ stages k single sum t x rest }
 
     module _ (h : m ≡ Fine) (s : Check) (symbols : (k : ℕ) (rest : Verdict) → after k s rest ≡ symbolsProper k x rest) where
       -- what the symbols' test says is what the item's says
@@ -96,8 +83,10 @@ module _ (t : List ℕ) (x : ItemRow) (single : Bool) (sum : ℕ) where
       on k rest =
           symbols k (textsProper k t x rest) ∙ rw h at (money k (symbolsProper k x (textsProper k t x rest))) ∙ stages k single sum t x rest
 
-      pub symbols-wrong : (n : ℕ) → s ≡ Wrong n → Judged (Wrong n)
-      symbols-wrong n g = judged (Wrong n) (λ k rest. rw g at (on k rest))
+      pub symbols-wrong : (n : ℕ) → s ≡ Wrong n → ItemTested t x single sum (Wrong n)
+      symbols-wrong n g = record { same = λ k rest. rw g at (on k rest) }
 
-      pub texts-last : s ≡ Fine → (r : Check) → ((k : ℕ) (rest : Verdict) → after k r rest ≡ textsProper k t x rest) → Judged r
-      texts-last g r texts = judged r (λ k rest. texts k rest ∙ rw g at (on k rest))
+      pub texts-last : s ≡ Fine → (r : Check) → ((k : ℕ) (rest : Verdict) → after k r rest ≡ textsProper k t x rest) → ItemTested t x single sum r
+      texts-last g r texts = record { same = λ k rest. texts k rest ∙ rw g at (on k rest) }
+
+pub ruleset stages-on = (money-wrong, symbols-wrong, texts-last)

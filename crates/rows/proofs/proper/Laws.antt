@@ -24,7 +24,7 @@ use Rattle.rows.specs.declared.read.ItemRow.{ItemRow}
 use Rattle.rows.specs.read.Told.{textOfSpan, itemOf}
 use Rattle.text.specs.span.Held.{Within}
 use Rattle.rows.specs.read.Sized.{Sized}
-use Rattle.rows.specs.read.After.{after}
+use Rattle.rows.specs.proper.Stages.{ItemTested}
 use Rattle.rows.proofs.read.Laws.{text-within}
 
 -- ---- a text
@@ -101,6 +101,5 @@ module _ (t : List ℕ) (x : ItemRow) (single : Bool) (sum : ℕ) where
       )
 
   -- as the code tells it
-  pub sized-when : (r : Check) → ((k : ℕ) (rest : Verdict) → after k r rest ≡ itemProper k single sum (itemOf t x) rest)
-      → r ≡ Fine → Sized t x × (sum + x .amount ≤ most14)
-  sized-when r told e = item-sized 0 fine (sym (rw e at (told 0 fine)))
+  pub sized-when : (r : Check) → ItemTested t x single sum r → r ≡ Fine → Sized t x × (sum + x .amount ≤ most14)
+  sized-when r tested e = item-sized 0 fine (sym ((rw e at (tested .same)) 0 fine))

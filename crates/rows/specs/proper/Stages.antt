@@ -1,5 +1,6 @@
 -- An item's fields in three stages, as the code tests them one after another. Assumes nothing.
 use Prim.Native.Nat.{ℕ, _+_}
+use mathlib.Core.Path.{_≡_}
 use mathlib.Core.Bool.{Bool, false}
 use mathlib.Core.List.{List}
 use lib.Dec.{ltb, leb}
@@ -9,9 +10,11 @@ use Rattle.paper.specs.Amounts.{amountProper}
 use Rattle.paper.specs.BankField.{bankProper, priorityProper}
 use Rattle.paper.specs.Texts.{partProper, nameProper}
 use Rattle.paper.specs.Batch.{most14}
-use Rattle.paper.specs.Proper.{Verdict, check, itemPayerProper}
+use Rattle.paper.specs.Proper.{Verdict, check, itemPayerProper, itemProper}
+use Rattle.rows.specs.declared.read.Check.{Check}
 use Rattle.rows.specs.declared.read.ItemRow.{ItemRow}
-use Rattle.rows.specs.read.Told.{textOfSpan}
+use Rattle.rows.specs.read.Told.{textOfSpan, itemOf}
+use Rattle.rows.specs.read.After.{after}
 
 -- who pays whom how much
 unfoldable pub moneyProper : ℕ → Bool → ℕ → ItemRow → Verdict → Verdict
@@ -37,3 +40,9 @@ textsProper k t x rest =
     (check k 15 (partProper (textOfSpan t (x .part3)))
     (check k 17 (partProper (textOfSpan t (x .part4)))
     (check k 19 (nameProper (textOfSpan t (x .name))) rest))))
+
+-- ---- the three together
+
+-- c is the answer of all tests of the item x, in a group that is single or not and whose items before it have this sum
+pub record ItemTested (t : List ℕ) (x : ItemRow) (single : Bool) (sum : ℕ) (c : Check) : Type 0 where
+  pub same : (k : ℕ) (rest : Verdict) → after k c rest ≡ itemProper k single sum (itemOf t x) rest

@@ -12,18 +12,18 @@ use Rattle.paper.specs.ItemLine.{spellItem}
 use Rattle.paper.specs.Batch.{Item, aFile, aGroup, anItem}
 use Rattle.roundtrip.specs.flat.Count.{groupFront, groupClosing, fileClosing, count}
 use Rattle.roundtrip.proofs.flat.Lengths.{group-length}
+use Rattle.rows.specs.walk.Walks.{stageOf}
 use Rattle.survey.specs.declared.state.State.{State}
-use Rattle.survey.specs.state.Stands.{stageOf}
 use Rattle.survey.specs.state.Row.{Adds}
 
 module _ (st : State) (a b : ℕ) where
-  pub file-adds : a ≡ fileClosing (stageOf (st .stage)) (st .sum) → ((sh : Sheet) (kind number : ℕ) → b ≡ length (spellFile sh kind number))
+  pub file-adds : a ≡ fileClosing (stageOf (st .before .stage)) (st .before .sum) → ((sh : Sheet) (kind number : ℕ) → b ≡ length (spellFile sh kind number))
       → (sh : Sheet) (kind number : ℕ) → Adds sh st (aFile kind number) (st .bytes + a + b + 2)
   unfolding count
   file-adds p q sh kind number = record { same = λ ts. rw (p, q sh kind number) (omega arith) }
 
   -- the line is counted without its total
-  pub group-adds : a ≡ groupClosing (stageOf (st .stage)) (st .sum) → (sh : Sheet) (payer : Account)
+  pub group-adds : a ≡ groupClosing (stageOf (st .before .stage)) (st .before .sum) → (sh : Sheet) (payer : Account)
       → ((total date : ℕ) → b + length (decimal total) ≡ length (spellGroup sh payer total date)) → (date : ℕ) → Adds sh st (aGroup date payer) (st .bytes + a + b + 2)
   unfolding count
   group-adds p sh payer q date =

@@ -1,43 +1,39 @@
--- The state behind a row that passed: f is what was found, n are the bytes so far. Assumes nothing.
+-- The state behind a row that leads to `next`: f is what was found, n are the bytes so far. Assumes nothing.
 use mathlib.Core.Path.{_≡_, refl}
-use mathlib.Core.Bool.{Bool, false}
+use mathlib.Core.Bool.{true}
 use mathlib.Core.List.{List}
-use Prim.Native.Nat.{ℕ, suc, _+_, _≤_}
+use Prim.Native.Nat.{ℕ, suc, _+_, _≤_, _<_}
 use native.Mathlib.Omega.{arith}
 use Rattle.sheet.specs.declared.Sheet.{Sheet}
-use Rattle.paper.specs.Accounts.{Account, isNobody}
-use Rattle.paper.specs.Batch.{Item, Header, aGroup, anItem}
+use Rattle.paper.specs.Days.{realDay}
+use Rattle.paper.specs.Accounts.{Account}
+use Rattle.paper.specs.Batch.{Item, Header, aFile, aGroup, anItem}
 use Rattle.roundtrip.proofs.flat.Few.{few-file, few-group, few-item}
 use Rattle.rows.specs.declared.read.ItemRow.{ItemRow}
+use Rattle.rows.specs.declared.walk.Before.{Before}
+use Rattle.rows.specs.declared.walk.Walk.the-variants.{On}
+use Rattle.rows.specs.read.Sized.{Sized}
 use Rattle.rows.specs.read.Told.{itemOf}
-use Rattle.survey.specs.declared.state.Stage.the-variants as stage
+use Rattle.rows.specs.walk.Walks.{beforeOf, Walks}
+use Rattle.rows.proofs.walk.Passed.{file-passed, group-passed, item-passed, walk-sum}
+use Rattle.fileline.specs.seen.Bits.{Holds}
 use Rattle.survey.specs.declared.state.Found.{Found}
 use Rattle.survey.specs.declared.state.State.{State}
-use Rattle.survey.specs.state.Stands.{beforeOf}
 use Rattle.survey.specs.state.Low.{Low}
+use Rattle.survey.specs.state.Row.{Finds, Adds, Behind}
 use Rattle.survey.proofs.state.Bounds.{limits}
-use Rattle.survey.specs.state.Row.{Finds, Adds, Behind, FilePassed, GroupPassed, ItemPassed}
 
-abbrev pub behindFile : State → Found → ℕ → State
-behindFile st f n =
-    record { stage = stage.NeedGroup; files = st .files + 1; items = 0; single = false; sum = 0; all = st .all; bytes = n; found = f }
+-- ---- what its stages ask of the row
 
-abbrev behindGroup : State → Bool → Found → ℕ → State
-behindGroup st single f n =
-    record { stage = stage.NeedItem; files = st .files; items = st .items; single = single; sum = 0; all = st .all; bytes = n; found = f }
+module _ (b next : Before) where
+  pub number-small : (kind number : ℕ) → Walks b (aFile kind number) (On next) → number < 1000000
+  number-small kind number w = file-passed b next kind number w .small
 
-abbrev behindItem : State → ℕ → Found → ℕ → State
-behindItem st amount f n =
-    record {
-      stage = stage.Any;
-      files = st .files;
-      items = st .items + 1;
-      single = st .single;
-      sum = st .sum + amount;
-      all = st .all + 1;
-      bytes = n;
-      found = f;
-    }
+  pub date-real : (date : ℕ) (payer : Account) → Walks b (aGroup date payer) (On next) → realDay date ≡ true
+  date-real date payer w = group-passed b next date payer w .day
+
+  pub item-sized : (texts : List ℕ) (x : ItemRow) → Walks b (anItem (itemOf texts x)) (On next) → Sized texts x
+  item-sized texts x w = item-passed b next texts x w .sized
 
 -- ---- its numbers stay small
 
@@ -48,52 +44,68 @@ module _ (k : ℕ) (st : State) (low : Low k st) where
   pub low-all : st .all ≤ 200000000
   low-all = limits k st low .all
 
-  module _ (f : Found) (n : ℕ) (more : n ≤ st .bytes + 500) where
-    pub low-file : (number : ℕ) → FilePassed (beforeOf st) number → Low (k + 1) (behindFile st f n)
-    low-file number p =
+  module _ (next : Before) (f : Found) (n : ℕ) (more : n ≤ st .bytes + 500) where
+    pub low-file : (kind number : ℕ) → Walks (st .before) (aFile kind number) (On next)
+        → Low (k + 1) (record { before = next; all = st .all; bytes = n; found = f })
+    low-file kind number w =
+        let p = file-passed (st .before) next kind number w in
         record {
           n = suc (low .n);
           row = omega (arith, low .row);
-          few = few-file (beforeOf st) (low .n) (low .few) (p .due) (p .few);
+          few = rw (w .leads) (few-file (beforeOf (st .before)) (low .n) (low .few) (p .due) (p .few));
           all = omega (arith, low .all);
           bytes = omega (arith, low .bytes);
-          sum = omega arith;
+          sum = walk-sum (st .before) next _ w;
         }
 
-    pub low-group : (date : ℕ) → GroupPassed (beforeOf st) date → (payer : Account) (single : Bool) → single ≡ isNobody payer → Low (k + 1) (behindGroup st single f n)
-    low-group date p payer single s =
+    pub low-group : (date : ℕ) (payer : Account) → Walks (st .before) (aGroup date payer) (On next)
+        → Low (k + 1) (record { before = next; all = st .all; bytes = n; found = f })
+    low-group date payer w =
         record {
           n = suc (low .n);
           row = omega (arith, low .row);
-          few = rw s (few-group (beforeOf st) (low .n) (low .few) payer (p .due));
+          few = rw (w .leads) (few-group (beforeOf (st .before)) (low .n) (low .few) payer (group-passed (st .before) next date payer w .due));
           all = omega (arith, low .all);
           bytes = omega (arith, low .bytes);
-          sum = omega arith;
+          sum = walk-sum (st .before) next _ w;
         }
 
-    pub low-item : (texts : List ℕ) (x : ItemRow) → ItemPassed (beforeOf st) texts x → Low (k + 1) (behindItem st (x .amount) f n)
-    low-item texts x p =
+    pub low-item : (texts : List ℕ) (x : ItemRow) → Walks (st .before) (anItem (itemOf texts x)) (On next)
+        → Low (k + 1) (record { before = next; all = st .all + 1; bytes = n; found = f })
+    low-item texts x w =
+        let p = item-passed (st .before) next texts x w in
         record {
           n = suc (low .n);
           row = omega (arith, low .row);
-          few = few-item (beforeOf st) (low .n) (low .few) (itemOf texts x) (p .due) (p .few);
+          few = rw (w .leads) (few-item (beforeOf (st .before)) (low .n) (low .few) (itemOf texts x) (p .due) (p .few));
           all = omega (arith, low .all);
           bytes = omega (arith, low .bytes);
-          sum = p .sum;
+          sum = walk-sum (st .before) next _ w;
         }
 
 -- ---- it stands behind the row
 
-module _ (sh : Sheet) (k : ℕ) (st : State) (f : Found) (n : ℕ) where
-  pub behind-group : (today date : ℕ) (payer : Account) (single : Bool) → single ≡ isNobody payer
+module _ (sh : Sheet) (k : ℕ) (st : State) (next : Before) (f : Found) (n : ℕ) where
+  pub behind-file : (from to : ℕ) (seen : List ℕ) (kind number : ℕ) → Walks (st .before) (aFile kind number) (On next)
+      → ((today : ℕ) (h : Header) (l : List ℕ) → h .from ≡ from → h .to ≡ to → Holds seen l → Finds sh today h l k st (aFile kind number) f)
+      → ((sh : Sheet) (kind number : ℕ) → Adds sh st (aFile kind number) n)
+      → (today : ℕ) (h : Header) (l : List ℕ) → h .from ≡ from → h .to ≡ to → Holds seen l
+      → Behind sh today h l k st (aFile kind number) (record { before = next; all = st .all; bytes = n; found = f })
+  behind-file from to seen kind number w finds adds today h l a b holds =
+      record { walks = w; all = refl; found = finds today h l a b holds; bytes = adds sh kind number }
+
+  pub behind-group : (today date : ℕ) (payer : Account) → Walks (st .before) (aGroup date payer) (On next)
       → ((h : Header) (l : List ℕ) → Finds sh today h l k st (aGroup date payer) f) → ((date : ℕ) → Adds sh st (aGroup date payer) n)
-      → (h : Header) (l : List ℕ) → Behind sh today h l k st (aGroup date payer) (behindGroup st single f n)
-  behind-group today date payer single s finds adds h l = record { counts = rw s; all = refl; found = finds h l; bytes = adds date }
+      → (h : Header) (l : List ℕ) → Behind sh today h l k st (aGroup date payer) (record { before = next; all = st .all; bytes = n; found = f })
+  behind-group today date payer w finds adds h l = record { walks = w; all = refl; found = finds h l; bytes = adds date }
 
-  pub behind-item : (x : Item) → ((today : ℕ) (h : Header) (l : List ℕ) → Finds sh today h l k st (anItem x) f) → Adds sh st (anItem x) n
-      → (today : ℕ) (h : Header) (l : List ℕ) → Behind sh today h l k st (anItem x) (behindItem st (x .amount) f n)
-  behind-item x finds adds today h l = record { counts = refl; all = refl; found = finds today h l; bytes = adds }
+  pub behind-item : (x : Item) → Walks (st .before) (anItem x) (On next)
+      → ((today : ℕ) (h : Header) (l : List ℕ) → Finds sh today h l k st (anItem x) f) → Adds sh st (anItem x) n
+      → (today : ℕ) (h : Header) (l : List ℕ) → Behind sh today h l k st (anItem x) (record { before = next; all = st .all + 1; bytes = n; found = f })
+  behind-item x w finds adds today h l = record { walks = w; all = refl; found = finds today h l; bytes = adds }
 
-pub ruleset lows = (low-bytes, low-all, low-file, low-group, low-item)
+pub ruleset asked = (number-small, date-real, item-sized, low-bytes, low-all)
 
-pub ruleset nexts = (lows, behind-group, behind-item)
+pub ruleset lows = (low-file, low-group, low-item)
+
+pub ruleset behinds = (behind-file, behind-group, behind-item)

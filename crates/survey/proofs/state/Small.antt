@@ -6,11 +6,12 @@ use Rattle.paper.specs.Numerals.{decimal}
 use Rattle.roundtrip.specs.flat.Count.{groupClosing, fileClosing}
 use Rattle.rows.specs.declared.read.Check.{Check}
 use Rattle.rows.specs.declared.read.Check.the-variants as check
-use Rattle.survey.specs.declared.state.Stage.{Stage}
-use Rattle.survey.specs.declared.state.Stage.the-variants as stage
+use Rattle.rows.specs.declared.walk.Stage.{Stage}
+use Rattle.rows.specs.declared.walk.Stage.the-variants as stage
+use Rattle.rows.specs.walk.Walks.{stageOf}
 use Rattle.survey.specs.declared.state.Found.{Found}
 use Rattle.survey.specs.declared.state.Found.the-variants as found
-use Rattle.survey.specs.state.Stands.{stageOf, Keeps}
+use Rattle.survey.specs.state.Stands.{Keeps}
 
 -- ---- bytes that close what is open
 

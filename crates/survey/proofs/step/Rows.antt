@@ -1,5 +1,5 @@
--- What a row leads to, by the answer of its tests and the state behind it; and a row that was read stands for what its words say. Assumes nothing.
-use mathlib.Core.Path.{_≡_, refl, sym}
+-- What a row leads to, by 20 and the state behind it; and a row that was read stands for what its words say. Assumes nothing.
+use mathlib.Core.Path.{_≡_, sym}
 use mathlib.Core.List.{List, _∷_}
 use Prim.Native.Nat.{ℕ, _+_, _/_}
 use native.Mathlib.Omega.{arith}
@@ -7,65 +7,54 @@ use Rattle.sheet.specs.declared.Sheet.{Sheet}
 use Rattle.paper.specs.Accounts.{Account, account}
 use Rattle.paper.specs.Batch.{Item, Header, Thing, aFile, aGroup, anItem}
 use Rattle.paper.specs.Rows.{thingIn}
-use Rattle.rows.specs.declared.read.Check.{Check}
-use Rattle.rows.specs.declared.read.Check.the-variants.{Fine, Wrong}
+use Rattle.rows.specs.declared.walk.Before.{Before}
+use Rattle.rows.specs.declared.walk.Walk.{Walk}
+use Rattle.rows.specs.declared.walk.Walk.the-variants.{On, Wrong}
 use Rattle.rows.specs.declared.read.ItemRow.{ItemRow}
 use Rattle.rows.specs.declared.read.RowRead.{RowRead}
 use Rattle.rows.specs.declared.read.RowRead.the-variants as row
 use Rattle.rows.specs.read.Told.{told, itemOf}
+use Rattle.rows.specs.walk.Walks.{Walks}
+use Rattle.rows.proofs.walk.Passed.{file-passed, walks-on}
 use Rattle.fileline.specs.seen.Bits.{Holds}
-use Rattle.survey.specs.declared.state.Found.{Found}
 use Rattle.survey.specs.declared.state.State.{State}
 use Rattle.survey.specs.declared.state.Step.{Step}
 use Rattle.survey.specs.declared.state.Step.the-variants as step
 use Rattle.survey.specs.state.Low.{Low, LowStep}
 use Rattle.survey.specs.state.Goes.{Goes}
-use Rattle.survey.proofs.state.Tests.{file-passed}
-use Rattle.survey.proofs.state.Next.{behindFile}
 use Rattle.survey.proofs.state.Judging.{resume-wrong, passed-on, goes-strange}
-use Rattle.survey.specs.state.Row.{Tested, Finds, Adds, Behind}
+use Rattle.survey.specs.state.Row.{Behind}
 use Rattle.survey.specs.step.Steps.{Steps, StepsRead}
 
--- ---- the row t, which is row k: c is the answer of its tests
+-- ---- the row t, which is row k, by 20 leads to r
 
-module _ (sh : Sheet) (today k : ℕ) (st : State) (t : Thing) (c : Check) (tested : Tested st t c) where
-  pub steps-wrong : (field : ℕ) → c ≡ Wrong field → (from to : ℕ) (seen : List ℕ) → Steps sh today from to seen k st t (step.Wrong field)
+module _ (sh : Sheet) (today k : ℕ) (st : State) (t : Thing) (r : Walk) (walks : Walks (st .before) t r) where
+  pub steps-wrong : (field : ℕ) → r ≡ Wrong field → (from to : ℕ) (seen : List ℕ) → Steps sh today from to seen k st t (step.Wrong field)
   steps-wrong field e from to seen =
-      record { low = tt; goes = λ h l f to holds ts. resume-wrong sh today h l k st (t ∷ ts) field (sym (rw e at (tested .same k ts))) }
+      record { low = tt; goes = λ h l f to holds ts. resume-wrong sh today h l k st (t ∷ ts) field (sym ((rw e at walks) .same k ts)) }
 
--- ---- the state behind an account file: f is what was found, n are the bytes so far
+-- ---- each kind of row, and the state behind it
 
-pub behind-file : (sh : Sheet) (k : ℕ) (st : State) (f : Found) (n : ℕ) (from to : ℕ) (seen : List ℕ) (kind number : ℕ)
-    → ((today : ℕ) (h : Header) (l : List ℕ) → h .from ≡ from → h .to ≡ to → Holds seen l → Finds sh today h l k st (aFile kind number) f)
-    → ((sh : Sheet) (kind number : ℕ) → Adds sh st (aFile kind number) n)
-    → (today : ℕ) (h : Header) (l : List ℕ) → h .from ≡ from → h .to ≡ to → Holds seen l → Behind sh today h l k st (aFile kind number) (behindFile st f n)
-behind-file sh k st f n from to seen kind number finds adds today h l a b holds =
-    record { counts = refl; all = refl; found = finds today h l a b holds; bytes = adds sh kind number }
-
--- ---- each kind of row that passed, and the state behind it
-
-module _ (sh : Sheet) (k : ℕ) (st : State) (c : Check) (e : c ≡ Fine) (next : State) (low : Low (k + 1) next) where
-  pub steps-file : (kind number : ℕ) → Tested st (aFile kind number) c → (from to : ℕ) (seen : List ℕ)
+module _ (sh : Sheet) (k : ℕ) (st next : State) (low : Low (k + 1) next) where
+  pub steps-file : (kind number : ℕ) (r : Walk) → Walks (st .before) (aFile kind number) r → (b : Before) → r ≡ On b → (from to : ℕ) (seen : List ℕ)
       → ((today : ℕ) (h : Header) (l : List ℕ) → h .from ≡ from → h .to ≡ to → Holds seen l → Behind sh today h l k st (aFile kind number) next)
       → (today : ℕ) → Steps sh today from to seen k st (aFile kind number) (step.File next (number / 1000))
-  steps-file kind number tested from to seen b today =
-      let passed = file-passed st kind number c tested e in
+  steps-file kind number r w b e from to seen behind today =
+      let passed = file-passed (st .before) b kind number (walks-on (st .before) _ r w b e) in
       record {
         low = (low, omega (arith, passed .small));
-        goes = λ h l f t holds. passed-on sh today h l k st (aFile kind number) c tested e next (b today h l f t holds);
+        goes = λ h l f t holds. passed-on sh today h l k st (aFile kind number) next (behind today h l f t holds);
       }
 
-  pub steps-group : (date : ℕ) (payer : Account) → Tested st (aGroup date payer) c → (today : ℕ)
+  pub steps-group : (date : ℕ) (payer : Account) (today : ℕ)
       → ((h : Header) (l : List ℕ) → Behind sh today h l k st (aGroup date payer) next)
       → (from to : ℕ) (seen : List ℕ) → Steps sh today from to seen k st (aGroup date payer) (step.On next)
-  steps-group date payer tested today b from to seen =
-      record { low = low; goes = λ h l f t holds. passed-on sh today h l k st (aGroup date payer) c tested e next (b h l) }
+  steps-group date payer today b from to seen = record { low = low; goes = λ h l f t holds. passed-on sh today h l k st (aGroup date payer) next (b h l) }
 
-  pub steps-item : (x : Item) → Tested st (anItem x) c
+  pub steps-item : (x : Item)
       → ((today : ℕ) (h : Header) (l : List ℕ) → Behind sh today h l k st (anItem x) next)
       → (today from to : ℕ) (seen : List ℕ) → Steps sh today from to seen k st (anItem x) (step.On next)
-  steps-item x tested b today from to seen =
-      record { low = low; goes = λ h l f t holds. passed-on sh today h l k st (anItem x) c tested e next (b today h l) }
+  steps-item x b today from to seen = record { low = low; goes = λ h l f t holds. passed-on sh today h l k st (anItem x) next (b today h l) }
 
 pub ruleset stepping = (steps-wrong, steps-file, steps-group, steps-item)
 

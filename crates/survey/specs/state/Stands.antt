@@ -1,7 +1,6 @@
--- The numbers of the code as those of the definitions, and the answer from a state on. Document 01, "Numbers returned". Assumes nothing.
+-- The answer from a state on. Document 01, "Numbers returned". Assumes nothing.
 use Prim.Native.Nat.{ℕ, _+_}
 use mathlib.Core.Path.{_≡_}
-use mathlib.Core.Bool.{false}
 use mathlib.Core.List.{List}
 use Rattle.sheet.specs.declared.Sheet.{Sheet}
 use Rattle.paper.specs.Batch.{Header, Thing}
@@ -10,22 +9,10 @@ use Rattle.paper.specs.Carried.{rowsCarried}
 use Rattle.roundtrip.specs.flat.Count.{count}
 use Rattle.rows.specs.declared.read.Check.{Check}
 use Rattle.rows.specs.read.After.{after}
-use Rattle.survey.specs.declared.state.Stage.{Stage}
-use Rattle.survey.specs.declared.state.Stage.the-variants as stage
+use Rattle.rows.specs.walk.Walks.{beforeOf}
 use Rattle.survey.specs.declared.state.Found.{Found}
 use Rattle.survey.specs.declared.state.Found.the-variants as found
 use Rattle.survey.specs.declared.state.State.{State}
-
--- what may come next
-abbrev pub stageOf : Stage → paper.Stage
-stageOf stage.NeedFile = paper.needFile
-stageOf stage.NeedGroup = paper.needGroup
-stageOf stage.NeedItem = paper.needItem
-stageOf stage.Any = paper.any
-
--- the rows before, as refusal 20 counts them
-abbrev pub beforeOf : State → paper.Before
-beforeOf st = record { stage = stageOf (st .stage); files = st .files; items = st .items; single = st .single; sum = st .sum }
 
 -- refusal 21: a fault that was found stays, whatever comes behind it
 abbrev pub kept : Found → paper.Verdict → paper.Verdict
@@ -37,18 +24,11 @@ pub record Keeps (k : ℕ) (f : Found) (c : Check) (g : Found) : Type 0 where
   pub same : (v : paper.Verdict) → kept g v ≡ kept f (after k c v)
 
 -- before the first row
-abbrev pub atStart : State
-atStart =
-    record {
-      stage = stage.NeedFile;
-      files = 0;
-      items = 0;
-      single = false;
-      sum = 0;
-      all = 0;
-      bytes = 0;
-      found = found.Nothing;
-    }
+pub record Starts (st : State) : Type 0 where
+  pub before : beforeOf (st .before) ≡ paper.atTop
+  pub all : st .all ≡ 0
+  pub bytes : st .bytes ≡ 0
+  pub found : st .found ≡ found.Nothing
 
 -- what judging rows ends in: 20 or 21 at a row and a field, or the bytes that their lines take
 pub data Outcome : Type 0 where
@@ -66,6 +46,6 @@ surveyOf paper.fine paper.fine n = fits n
 unfoldable pub resume : Sheet → ℕ → Header → ℕ → List ℕ → State → List Thing → Outcome
 resume sh today h k l st ts =
     surveyOf
-    (paper.rowsProper k (beforeOf st) ts)
+    (paper.rowsProper k (beforeOf (st .before)) ts)
     (kept (st .found) (rowsCarried sh today h k (st .all) l ts))
-    (st .bytes + count sh (stageOf (st .stage)) (st .sum) ts)
+    (st .bytes + count sh (beforeOf (st .before) .stage) (st .before .sum) ts)

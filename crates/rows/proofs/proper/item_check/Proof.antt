@@ -1,6 +1,6 @@
 -- `item_check` meets its contract: the stages in their order. Assumes nothing.
 use borrow.Author.Needs.{needs}
-use Rattle.rows.proofs.proper.Exits.{money-wrong, symbols-wrong, texts-last}
+use Rattle.rows.proofs.proper.Exits.{stages-on}
 use Rattle.rows.proofs.proper.item_check.Statement.{statement}
 use Rattle.rows.proofs.proper.item_check.Tie as tie
 
@@ -26,15 +26,13 @@ texts-check-requires : tie.Need-texts-check-requires
 texts-check-requires c κs = search needs
 
 returns : tie.Need-returns
-returns c = money-wrong _ _ _ _ _ (c .before .before .before .money-check .ensures) _ (c .before .n .given .1)
+returns c = search stages-on
 
 returns-2 : tie.Need-returns-2
-returns-2 c =
-    symbols-wrong _ _ _ _ _ (c .before .before .before .before .before .before .money-check .ensures) (c .before .before .before .before .enum-told .given .1) _ (c .before .before .before .symbols-check .ensures) _ (c .before .n2 .given .1)
+returns-2 c = search stages-on
 
 returns-3 : tie.Need-returns-3
-returns-3 c =
-    texts-last _ _ _ _ _ (c .before .before .before .before .before .before .money-check .ensures) (c .before .before .before .before .enum-told .given .1) _ (c .before .before .before .symbols-check .ensures) (c .before .enum-told2 .given .1) _ (c .texts-check .ensures)
+returns-3 c = search stages-on
 
 pub item-check-spec : {M : Type 1} → statement M
 item-check-spec =

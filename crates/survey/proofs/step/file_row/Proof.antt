@@ -1,21 +1,21 @@
 -- `file_row`: by the answer of the row's tests. Assumes nothing.
 use borrow.Author.Needs.{needs}
-use Rattle.survey.proofs.state.Tests.{passed}
+use Rattle.rows.proofs.walk.Passed.{walks-on}
 use Rattle.survey.proofs.step.Rows.{stepping}
 use Rattle.survey.proofs.step.file_row.Statement.{statement}
 use Rattle.survey.proofs.step.file_row.Tie as tie
 
-file-tested-requires : tie.Need-file-tested-requires
-file-tested-requires c κs = search needs
+file-proper-requires : tie.Need-file-proper-requires
+file-proper-requires c κs = search needs
 
 enum-known-field : tie.Need-enum-known-field
 enum-known-field c = search needs
 
-enum-told : tie.Need-enum-told
-enum-told c = search needs
+enum-known-next : tie.Need-enum-known-next
+enum-known-next c = search needs
 
 behind-file-requires : tie.Need-behind-file-requires
-behind-file-requires c κs = search (passed, needs)
+behind-file-requires c κs = search (walks-on, needs)
 
 returns : tie.Need-returns
 returns c = search stepping
@@ -27,9 +27,9 @@ pub file-row-spec : {M : Type 1} → statement M
 file-row-spec =
     tie.close
     (tie.spec
-    file-tested-requires
+    file-proper-requires
     enum-known-field
-    enum-told
+    enum-known-next
     behind-file-requires
     returns
     returns-2)

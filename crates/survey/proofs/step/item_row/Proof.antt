@@ -1,21 +1,21 @@
 -- `item_row`: by the answer of the row's tests. Assumes nothing.
 use borrow.Author.Needs.{needs}
-use Rattle.survey.proofs.state.Tests.{passed}
+use Rattle.rows.proofs.walk.Passed.{walks-on}
 use Rattle.survey.proofs.step.Rows.{stepping}
 use Rattle.survey.proofs.step.item_row.Statement.{statement}
 use Rattle.survey.proofs.step.item_row.Tie as tie
 
-item-tested-requires : tie.Need-item-tested-requires
-item-tested-requires c κs = search needs
+item-proper-requires : tie.Need-item-proper-requires
+item-proper-requires c κs = search needs
 
 enum-known-field : tie.Need-enum-known-field
 enum-known-field c = search needs
 
-enum-told : tie.Need-enum-told
-enum-told c = search needs
+enum-known-next : tie.Need-enum-known-next
+enum-known-next c = search needs
 
 behind-item-requires : tie.Need-behind-item-requires
-behind-item-requires c κs = search (passed, needs)
+behind-item-requires c κs = search (walks-on, needs)
 
 returns : tie.Need-returns
 returns c = search stepping
@@ -27,9 +27,9 @@ pub item-row-spec : {M : Type 1} → statement M
 item-row-spec =
     tie.close
     (tie.spec
-    item-tested-requires
+    item-proper-requires
     enum-known-field
-    enum-told
+    enum-known-next
     behind-item-requires
     returns
     returns-2)

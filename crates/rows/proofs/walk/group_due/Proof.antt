@@ -1,8 +1,8 @@
 -- `group_due` meets its contract: by the stage. Assumes nothing.
 use borrow.Author.Needs.{needs}
-use Rattle.paper.specs.Proper.{groupDue}
-use Rattle.survey.proofs.state.group_due.Statement.{statement}
-use Rattle.survey.proofs.state.group_due.Tie as tie
+use Rattle.rows.proofs.walk.Dues.{dues}
+use Rattle.rows.proofs.walk.group_due.Statement.{statement}
+use Rattle.rows.proofs.walk.group_due.Tie as tie
 
 enum-told : tie.Need-enum-told
 enum-told c = search needs
@@ -17,20 +17,16 @@ enum-told-4 : tie.Need-enum-told-4
 enum-told-4 c = search needs
 
 returns : tie.Need-returns
-unfolding groupDue
-returns c = rw (c .enum-told .given .1)
+returns c = search dues
 
 returns-2 : tie.Need-returns-2
-unfolding groupDue
-returns-2 c = rw (c .enum-told2 .given .1)
+returns-2 c = search dues
 
 returns-3 : tie.Need-returns-3
-unfolding groupDue
-returns-3 c = rw (c .enum-told3 .given .1)
+returns-3 c = search dues
 
 returns-4 : tie.Need-returns-4
-unfolding groupDue
-returns-4 c = rw (c .enum-told4 .given .1)
+returns-4 c = search dues
 
 pub group-due-spec : {M : Type 1} → statement M
 group-due-spec =

@@ -1,0 +1,4 @@
+pub mod Dues
+pub mod Steps
+pub mod Passed
+pub mod Going
