@@ -20,7 +20,10 @@ FRONT = """#![allow(warnings)]
 #![no_std]
 #[unsafe(no_mangle)] pub extern "C" fn rust_eh_personality() {}
 #[panic_handler] fn panic(_: &core::panic::PanicInfo) -> ! { loop {} }
-pub mod num { #[inline(always)] pub fn wrapping_sub_u64(a: u64, b: u64) -> u64 { a.wrapping_sub(b) } }
+pub mod num {
+    #[inline(always)] pub fn wrapping_sub_u64(a: u64, b: u64) -> u64 { a.wrapping_sub(b) }
+    #[inline(always)] pub fn wrapping_add_usize(a: usize, b: usize) -> usize { a.wrapping_add(b) }
+}
 """
 
 PLACE = r"(\w+(?:\.\w+)*)"
