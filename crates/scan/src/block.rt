@@ -139,30 +139,14 @@ pub fn skip_text(s: &[u8], at: usize) -> usize
     i
 }
 
-// Are the sixteen bytes at `at` all other than b?
-fn other_block(s: &[u8], at: usize, b: u8) -> bool
-    requires { ⌜ at + 16 ≤ length (now s) ⌝ }
-    ensures { λ r. ⌜ (r ≡ true → all (isOther b) (take 16 (drop at (now (s .entry)))) ≡ true) ⌝ }
+// Are so many bytes at `at` all other than b?
+pub fn all_other(s: &[u8], at: usize, size: usize, b: u8) -> bool
+    requires { ⌜ at + size ≤ length (now s) ⌝ }
+    ensures { λ r. ⌜ (r ≡ true → all (isOther b) (take size (drop at (now (s .entry)))) ≡ true) ⌝ }
 {
     let mut other = true;
     let mut j: usize = 0;
-    while j < 16 {
-        if s[at + j] == b {
-            other = false;
-        }
-        j += 1;
-    }
-    other
-}
-
-// Are the sixty-four bytes at `at` all other than b?
-fn other_long(s: &[u8], at: usize, b: u8) -> bool
-    requires { ⌜ at + 64 ≤ length (now s) ⌝ }
-    ensures { λ r. ⌜ (r ≡ true → all (isOther b) (take 64 (drop at (now (s .entry)))) ≡ true) ⌝ }
-{
-    let mut other = true;
-    let mut j: usize = 0;
-    while j < 64 {
+    while j < size {
         if s[at + j] == b {
             other = false;
         }
@@ -178,7 +162,7 @@ fn pass_long(s: &[u8], at: usize, b: u8) -> usize
 {
     let mut i = at;
     while 256 <= s.len() - i {
-        if other_long(s, i, b) {
+        if all_other(s, i, 64, b) {
             i += 64;
         } else {
             return i;
@@ -199,7 +183,7 @@ fn pass_other(s: &[u8], at: usize, b: u8) -> usize
     let mut i = pass_long(s, at, b);
     while i < n {
         let p = block_at(i, n);
-        if other_block(s, p, b) {
+        if all_other(s, p, 16, b) {
             i = p + 16;
         } else {
             return i;

@@ -1,6 +1,7 @@
 // The parts of a message that may have a name behind it: each ends before the first `|` or ` NP:`, and both are looked for in one pass.
 use crate::span::Part;
 use crate::span::barred;
+use scan::block::all_other;
 use scan::seek::starts_at;
 ghost use mathlib.Core.Path.{_≡_};
 ghost use mathlib.Core.Bool.{true, false};
@@ -10,25 +11,9 @@ ghost use lib.ListN.{length, take, drop};
 ghost use Rattle.base.specs.Pick.{pick};
 ghost use Rattle.base.specs.Seek.{all, starts, seek};
 ghost use Rattle.paper.specs.Bytes.{bar, mark};
-ghost use Rattle.scan.specs.block.Blocks.{isOther, Skips};
+ghost use Rattle.scan.specs.block.Blocks.{Skips};
 ghost use Rattle.text.specs.span.Places.{partAt};
 ghost use Rattle.text.specs.division.Unnamed.{unnamed, isPlain};
-
-// Are so many bytes at `at` all other than b? The loop has no early exit, so that the compiler compares them all at once.
-fn all_other(s: &[u8], at: usize, size: usize, b: u8) -> bool
-    requires { ⌜ at + size ≤ length (now s) ⌝ }
-    ensures { λ r. ⌜ (r ≡ true → all (isOther b) (take size (drop at (now (s .entry)))) ≡ true) ⌝ }
-{
-    let mut other = true;
-    let mut j: usize = 0;
-    while j < size {
-        if s[at + j] == b {
-            other = false;
-        }
-        j += 1;
-    }
-    other
-}
 
 // Are so many bytes at `at` all other than `|` and `:`?
 fn all_plain(s: &[u8], at: usize, size: usize) -> bool

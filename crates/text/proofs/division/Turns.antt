@@ -17,7 +17,7 @@ use Rattle.base.proofs.Seek.{never, all-head, all-tail, all-cons, seek-le, seek
 use Rattle.scan.proofs.find.Turns.{starts-byte}
 use Rattle.paper.specs.Bytes.{bar, mark}
 use Rattle.scan.specs.block.Blocks.{isOther, Skips}
-use Rattle.scan.proofs.block.Turns.{Passes, is-other, skip-none, skip-then, near-one}
+use Rattle.scan.proofs.block.Turns.{is-other, skip-none, skip-then, near-one}
 use Rattle.text.specs.declared.span.Part.{Part}
 use Rattle.text.specs.span.Places.{partTo, partAt, ended}
 use Rattle.text.proofs.span.Turns as places
@@ -26,9 +26,6 @@ use Rattle.text.specs.division.Unnamed.{unnamed, isPlain}
 use Rattle.text.proofs.division.Marks.{all-between, sought, found-starts, found-byte, found-room, toMark, toBar, mark-first, bar-first, unnamed-long, starts-bytes}
 
 -- ---- bytes that end no part
-
-pub pass-all : (p : ℕ → Bool) (s : List ℕ) (at size j : ℕ) (t : Bool) → j ≤ size → size ≤ j → Passes p s at j t → Passes p s at size t
-pass-all p s at size j t m n h = let e : j ≡ size = omega arith in rw e at h
 
 -- all_plain: t and u are what all_other answered
 both-plain : (s : List ℕ) → all (isOther 124) s ≡ true → all (isOther 58) s ≡ true → all isPlain s ≡ true

@@ -19,8 +19,8 @@ loop-holds c = search skips
 sub-loop : tie.Need-sub-loop Inv-loop μ-loop
 sub-loop c = search needs
 
-other-long-requires : tie.Need-other-long-requires Inv-loop μ-loop
-other-long-requires c κs = search needs
+all-other-requires : tie.Need-all-other-requires Inv-loop μ-loop
+all-other-requires c κs = search needs
 
 add-i : tie.Need-add-i Inv-loop μ-loop
 add-i c = search needs
@@ -45,7 +45,7 @@ pass-long-spec =
     μ-loop
     loop-holds
     sub-loop
-    other-long-requires
+    all-other-requires
     add-i
     loop-less
     loop-again

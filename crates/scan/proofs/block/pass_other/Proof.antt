@@ -26,8 +26,8 @@ loop-holds c = search (skips, needs)
 block-at-requires : tie.Need-block-at-requires Inv-loop μ-loop
 block-at-requires c κs = search (skips, needs)
 
-other-block-requires : tie.Need-other-block-requires Inv-loop μ-loop
-other-block-requires c κs = search (skips, needs)
+all-other-requires : tie.Need-all-other-requires Inv-loop μ-loop
+all-other-requires c κs = search (skips, needs)
 
 add-i : tie.Need-add-i Inv-loop μ-loop
 add-i c = search (skips, needs)
@@ -54,7 +54,7 @@ pass-other-spec =
     pass-long-requires
     loop-holds
     block-at-requires
-    other-block-requires
+    all-other-requires
     add-i
     loop-less
     loop-again

@@ -4,11 +4,10 @@ use Rattle.base.specs.Seek.{all}
 use Prim.Native.Nat.{_+_, _-_, _≤_}
 use mathlib.Core.Logic.{⊎-elim}
 use native.Mathlib.Omega.{arith}
-use Rattle.scan.proofs.block.Turns.{Passes, pass-not, pass-more, is-other}
-use Rattle.text.proofs.division.Turns.{pass-all}
+use Rattle.scan.proofs.block.Turns.{Passes, pass-not, pass-more, pass-end, is-other}
 use Rattle.scan.specs.block.Blocks.{isOther}
-use Rattle.text.proofs.division.all_other.Statement.{statement}
-use Rattle.text.proofs.division.all_other.Tie as tie
+use Rattle.scan.proofs.block.all_other.Statement.{statement}
+use Rattle.scan.proofs.block.all_other.Tie as tie
 
 abbrev Inv-loop : tie.InvT-loop
 Inv-loop s at size b other₀ j₀ other j = (j ≤ size) × Passes (isOther b) s at j other
@@ -45,7 +44,7 @@ loop-again c =
     )
 
 returns : tie.Need-returns Inv-loop μ-loop
-returns c = search pass-all
+returns c = search pass-end
 
 pub all-other-spec : {M : Type 1} → statement M
 all-other-spec =
