@@ -20,7 +20,7 @@ use Rattle.paper.specs.Texts.{others, cut, over, overs, pad, opens, finish, mes
 use Rattle.paper.specs.Batch.{Header, Thing, sum, itemThings, groupThings, things, heapOf, batchOf}
 use Rattle.paper.specs.Proper.{check, headerProper, fileDue, groupDue, itemDue, mayStop, kindProper, payerProper, itemPayerProper, partsFrom, itemProper, rowsProper, batchProper}
 use Rattle.paper.specs.Lines.{linesOf}
-use Rattle.paper.specs.Entries.{Listed, got, no, counted, Kind, kindOf, onField, field, place, gap, lineEnd, onHead, onFile, onGroup, onItem}
+use Rattle.paper.specs.Entries.{Listed, got, no, counted, Kind, kindOf, onField, field, place, gap, lineEnd, onHead, onFile, onGroup, onItem, onEntry}
 use Rattle.paper.specs.FirstLine.{textField, readTo, restLength, readRest, readFirst, spellFirst}
 use Rattle.paper.specs.FileLine.{member, numberFault, numberAllowed, readKind, readNumber, readCode, readFile, spellFile}
 use Rattle.paper.specs.GroupLine.{spaceCount, hasPayer, totalAndDate, readGroup, spellPayer, spellGroup}
@@ -43,7 +43,7 @@ today = 20180101
 
 -- a file, judged on a sheet
 unfoldable pub judged : Sheet → List ℕ → Answer
-unfolding pick all starts seek kindAllowed bankAllowed given isText isDigit null digitsOn digits fixedOn fixed leap monthDays realDay yearsDays monthsDays dayNumber real shortDay longDay readDay past dueAllowed dueWarnings readDue weighted nonZero accountOk ruled twoParts onePart readAccount isNobody zeros onlyZeros readPayer withComma readAmount readTotal amountProper readItemAmount ninth readBank others cut over overs pad opens finish messageEnd message marked readText sum linesOf kindOf onField field place gap lineEnd textField readTo restLength readRest readFirst member numberFault numberAllowed readKind readNumber readCode readFile spaceCount hasPayer totalAndDate readGroup readSymbolOrNone isValue fixedTail afterSymbol openTail tail fromPayee readItem plusAt readClose numberTest readAs readLine differs groupItems fileItems seen contextOf isDue isFull totalBroken closed counted notices onHead onFile onGroup onItem meet onSaid read step endOf run judge
+unfolding pick all starts seek kindAllowed bankAllowed given isText isDigit null digitsOn digits fixedOn fixed leap monthDays realDay yearsDays monthsDays dayNumber real shortDay longDay readDay past dueAllowed dueWarnings readDue weighted nonZero accountOk ruled twoParts onePart readAccount isNobody zeros onlyZeros readPayer withComma readAmount readTotal amountProper readItemAmount ninth readBank others cut over overs pad opens finish messageEnd message marked readText sum linesOf kindOf onField field place gap lineEnd textField readTo restLength readRest readFirst member numberFault numberAllowed readKind readNumber readCode readFile spaceCount hasPayer totalAndDate readGroup readSymbolOrNone isValue fixedTail afterSymbol openTail tail fromPayee readItem plusAt readClose numberTest readAs readLine differs groupItems fileItems seen contextOf isDue isFull totalBroken closed counted notices onEntry onHead onFile onGroup onItem meet onSaid read step endOf run judge
 judged sh f = judge sh today f
 
 -- what a line of a kind warns of, in a group that is single or not

@@ -12,7 +12,7 @@ use Rattle.paper.specs.Bytes.{null}
 use Rattle.paper.specs.Accounts.{Account}
 use Rattle.paper.specs.Batch.{Item, Header, sum}
 use Rattle.paper.specs.Lines.{Line}
-use Rattle.paper.specs.Entries.{head, file, group, item, closeGroup, closeFile, Places, Counted, said, no, Kind, headLine, fileLine, groupLine, itemLine, groupEnd, fileEnd, kindOf, onHead, onFile, onGroup, onItem}
+use Rattle.paper.specs.Entries.{head, file, group, item, closeGroup, closeFile, Places, Counted, said, no, Kind, headLine, fileLine, groupLine, itemLine, groupEnd, fileEnd, kindOf, onHead, onFile, onGroup, onItem, onEntry}
 use Rattle.paper.specs.Spells.{readLine}
 use Rattle.paper.specs.Judge.{Answer, Refused, Between, InFile, InGroup, State, atFirst, atFile, atGroup, atItem, stop, contextOf, isDue, isFull, totalBroken, begun, fileOpened, groupOpened, itemAdded, itemsOf, groupClosed, fileClosed, closed, meet, onSaid, read, step}
 use Rattle.paper.specs.FirstFault.{Follows, Broken, not-due, full, in-line, total}
@@ -71,7 +71,7 @@ module _ (sh : Sheet) (today : ℕ) where
 
     says : (kind : Kind) (r : Counted) (st : State) → Told kind r → kindOf (t .bytes) ≡ kind → readLine sh today (contextOf st) (t .bytes) ≡ r
         → isDue st kind ≡ true → isFull sh st kind ≡ false → To st (onSaid sh k (t .start) r st)
-    unfolding onSaid meet isDue isFull onHead onFile onGroup onItem pick
+    unfolding onSaid meet isDue isFull onEntry onHead onFile onGroup onItem pick
     says kind r atFirst of-none j q d f = faulty kind _ j d f q
     says kind r atFirst of-head j q d f = on (heads (_, q))
     says kind r atFirst of-file j q d f = wrong d refl
@@ -128,7 +128,7 @@ module _ (sh : Sheet) (today : ℕ) where
     passes st kind r j d f q = pick-true _ _ (rw j d) ∙ pick-false _ _ (rw j f) ∙ ap (λ r. onSaid sh k (t .start) r st) q
 
     pub moves-step : {st new : State} → Moves k t st new → step sh today k t st ≡ new
-    unfolding step onSaid meet isDue isFull onHead onFile onGroup onItem closed pick
+    unfolding step onSaid meet isDue isFull onEntry onHead onFile onGroup onItem closed pick
     moves-step (heads {h = h} {v = v} (p, q)) =
         passes atFirst headLine _ (kind-head (told-line sh today _ (t .bytes) _ q)) refl refl q
     moves-step (opens {x = x} few (p, q)) =

@@ -22,43 +22,31 @@ pub data Entry : Type 0 where
   closeGroup : Entry
   closeFile : Entry
 
--- an entry that is what it is expected to be goes on (k), or closes (c); any other answers z
+-- an entry taken apart: what is made of a header, an account file, a group, an item, a group's end, an account file's end
 module _ {A : Type 0} where
-  -- a header
+  unfoldable pub onEntry : Entry → (Header → A) → (ℕ → ℕ → A) → (Account → ℕ → ℕ → A) → (Item → A) → A → A → A
+  onEntry (head h) a b c d e f = a h
+  onEntry (file n m) a b c d e f = b n m
+  onEntry (group p t u) a b c d e f = c p t u
+  onEntry (item x) a b c d e f = d x
+  onEntry closeGroup a b c d e f = e
+  onEntry closeFile a b c d e f = f
+
+  -- a header goes on (k), any other entry answers z
   unfoldable pub onHead : Entry → (Header → A) → A → A
-  onHead (head h) k z = k h
-  onHead (file n m) k z = z
-  onHead (group p t d) k z = z
-  onHead (item x) k z = z
-  onHead closeGroup k z = z
-  onHead closeFile k z = z
+  onHead x k z = onEntry x k (λ _ _. z) (λ _ _ _. z) (λ _. z) z z
 
-  -- an account file's kind and number
+  -- an account file goes on
   unfoldable pub onFile : Entry → (ℕ → ℕ → A) → A → A
-  onFile (head h) k z = z
-  onFile (file n m) k z = k n m
-  onFile (group p t d) k z = z
-  onFile (item x) k z = z
-  onFile closeGroup k z = z
-  onFile closeFile k z = z
+  onFile x k z = onEntry x (λ _. z) k (λ _ _ _. z) (λ _. z) z z
 
-  -- a group's payer, total and date, or the account file's end (c)
+  -- a group goes on, or its account file's end (c)
   unfoldable pub onGroup : Entry → (Account → ℕ → ℕ → A) → A → A → A
-  onGroup (head h) k c z = z
-  onGroup (file n m) k c z = z
-  onGroup (group p t d) k c z = k p t d
-  onGroup (item x) k c z = z
-  onGroup closeGroup k c z = z
-  onGroup closeFile k c z = c
+  onGroup x k c z = onEntry x (λ _. z) (λ _ _. z) k (λ _. z) z c
 
-  -- an item, or the group's end (c)
+  -- an item goes on, or its group's end (c)
   unfoldable pub onItem : Entry → (Item → A) → A → A → A
-  onItem (head h) k c z = z
-  onItem (file n m) k c z = z
-  onItem (group p t d) k c z = z
-  onItem (item x) k c z = k x
-  onItem closeGroup k c z = c
-  onItem closeFile k c z = z
+  onItem x k c z = onEntry x (λ _. z) (λ _ _. z) (λ _ _ _. z) k c z
 
 -- Where in the line things begin that the answer has to place: a group's total; an item's four parts and its name. What a line does not
 -- have is at 0.

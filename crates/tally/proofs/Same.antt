@@ -7,7 +7,7 @@ use lib.ListN.{length}
 use Rattle.sheet.specs.declared.Sheet.{Sheet}
 use Rattle.paper.specs.Batch.{sum, things}
 use Rattle.paper.specs.Lines.{Line, linesOf}
-use Rattle.paper.specs.Entries.{Entry, head, file, group, item, closeGroup, closeFile, Places, saying, Counted, got, no, counted, Kind, headLine, fileLine, groupLine, itemLine, groupEnd, fileEnd, kindOf, onHead, onFile, onGroup, onItem}
+use Rattle.paper.specs.Entries.{Entry, head, file, group, item, closeGroup, closeFile, Places, saying, Counted, got, no, counted, Kind, headLine, fileLine, groupLine, itemLine, groupEnd, fileEnd, kindOf, onHead, onFile, onGroup, onItem, onEntry}
 use Rattle.paper.specs.Spells.{Context, readAs, differs, groupItems, fileItems}
 use Rattle.paper.specs.Judge.{InGroup, State, atFirst, atFile, atGroup, atItem, stop, seen, revOn}
 use Rattle.paper.specs.Judge as judge
@@ -78,7 +78,7 @@ module _ (sh : Sheet) (k at : ℕ) where
       map-pick abs _ _ _ ∙ rw (s, n, d, r, m)
 
   meets : (e : Entry) (v : ℕ) (q : Places) (st : State) → abs (judge.meet sh k at (saying e v q) st) ≡ numbers.meet sh k at (saying e v q) (abs st)
-  unfolding abs judge.meet numbers.meet onHead onFile onGroup onItem brief seen sum groupItems fileItems groupRows fileRows
+  unfolding abs judge.meet numbers.meet onEntry onHead onFile onGroup onItem brief seen sum groupItems fileItems groupRows fileRows
   meets (head h) v q atFirst = refl
   meets (file n m) v q atFirst = refl
   meets (group p t d) v q atFirst = refl

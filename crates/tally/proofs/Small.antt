@@ -13,7 +13,7 @@ use Rattle.sheet.proofs.Laws.{Sane}
 use Rattle.paper.specs.Lines.{Line}
 use Rattle.paper.specs.Accounts.{Account}
 use Rattle.paper.specs.Batch.{Item, Header}
-use Rattle.paper.specs.Entries.{head, file, group, item, closeGroup, closeFile, Places, saying, Counted, Kind, fileLine, itemLine, groupEnd, kindOf, onHead, onFile, onGroup, onItem}
+use Rattle.paper.specs.Entries.{head, file, group, item, closeGroup, closeFile, Places, saying, Counted, Kind, fileLine, itemLine, groupEnd, kindOf, onHead, onFile, onGroup, onItem, onEntry}
 use Rattle.paper.specs.Spells.{differs}
 use Rattle.tally.specs.Tally.{Book, Shelf, Open, Tally, tFirst, tFile, tGroup, tItem, tStop, No, warned, groupMore, contextOf, isDue, isFull, closed, meet, onSaid, read, step}
 use Rattle.tally.specs.Small.{SmallFile, SmallGroup, SmallItem, Small, Limits}
@@ -63,7 +63,7 @@ closed-small sh b s o some small = either Small _ (λ _. tt) (λ _. go)
 
 module _ (sh : Sheet) (k at : ℕ) (p : Places) where
   head-small : (h : Header) (c : Tally) → Small (meet sh k at (saying (head h) 0 p) c)
-  unfolding meet onHead onFile onGroup onItem Small
+  unfolding meet onEntry onHead onFile onGroup onItem Small
   head-small h tFirst = record { files = omega arith; items = omega arith; rows = omega arith; warnings = omega arith }
   head-small h (tFile b) = tt
   head-small h (tGroup b s) = tt
@@ -71,7 +71,7 @@ module _ (sh : Sheet) (k at : ℕ) (p : Places) where
   head-small h (tStop a) = tt
 
   file-small : (n m : ℕ) (c : Tally) → isFull sh c fileLine ≡ false → Small c → Small (meet sh k at (saying (file n m) 0 p) c)
-  unfolding meet onHead onFile onGroup onItem Small
+  unfolding meet onEntry onHead onFile onGroup onItem Small
   file-small n m tFirst room small = tt
   file-small n m (tFile b) room small =
       let some : b .files < 1000 = file-room sh b fileLine room in
@@ -81,7 +81,7 @@ module _ (sh : Sheet) (k at : ℕ) (p : Places) where
   file-small n m (tStop a) room small = tt
 
   group-small : (y : Account) (t d v : ℕ) (c : Tally) → v ≤ 1 → Small c → Small (meet sh k at (saying (group y t d) v p) c)
-  unfolding meet onHead onFile onGroup onItem Small
+  unfolding meet onEntry onHead onFile onGroup onItem Small
   group-small y t d v tFirst one small = tt
   group-small y t d v (tFile b) one small = tt
   group-small y t d v (tGroup b s) one small =
@@ -99,7 +99,7 @@ module _ (sh : Sheet) (k at : ℕ) (p : Places) where
 
   item-small : (x : Item) (v : ℕ) (c : Tally) → v ≤ 6 → x .amount ≤ 99999999999999 → isFull sh c itemLine ≡ false → Small c
       → Small (meet sh k at (saying (item x) v p) c)
-  unfolding meet onHead onFile onGroup onItem Small
+  unfolding meet onEntry onHead onFile onGroup onItem Small
   item-small x v tFirst six most room small = tt
   item-small x v (tFile b) six most room small = tt
   item-small x v (tGroup b s) six most room small = tt
@@ -117,7 +117,7 @@ module _ (sh : Sheet) (k at : ℕ) (p : Places) where
   item-small x v (tStop a) six most room small = tt
 
   group-end-small : (c : Tally) → isDue c groupEnd ≡ true → Small c → Small (meet sh k at (saying closeGroup 0 p) c)
-  unfolding meet onHead onFile onGroup onItem Small
+  unfolding meet onEntry onHead onFile onGroup onItem Small
   group-end-small tFirst due small = tt
   group-end-small (tFile b) due small = tt
   group-end-small (tGroup b s) due small = tt
@@ -125,7 +125,7 @@ module _ (sh : Sheet) (k at : ℕ) (p : Places) where
   group-end-small (tStop a) due small = tt
 
   file-end-small : (c : Tally) → Small c → Small (meet sh k at (saying closeFile 0 p) c)
-  unfolding meet onHead onFile onGroup onItem Small
+  unfolding meet onEntry onHead onFile onGroup onItem Small
   file-end-small tFirst small = tt
   file-end-small (tFile b) small = tt
   file-end-small (tGroup b s) small =

@@ -8,7 +8,7 @@ use Rattle.base.proofs.Cases.{pick-true, pick-false}
 use Rattle.sheet.specs.declared.Sheet.{Sheet}
 use Rattle.paper.specs.Bytes.{null}
 use Rattle.paper.specs.Lines.{Line}
-use Rattle.paper.specs.Entries.{kindOf, groupEnd, no, onItem}
+use Rattle.paper.specs.Entries.{kindOf, groupEnd, no, onItem, onEntry}
 use Rattle.paper.specs.Spells.{readLine}
 use Rattle.paper.specs.Judge.{Answer, Refused, State, atFirst, atFile, atGroup, atItem, stop, contextOf, isDue, isFull, closed, meet, onSaid, read, step, endOf, run}
 use Rattle.paper.specs.FirstFault.{Lawful, Broken, ends-first, ends-none, ends-file, ends-group, not-due, full, in-line, total}
@@ -48,7 +48,7 @@ module _ (sh : Sheet) (today : ℕ) where
     stopped t ts st e = ap (λ s. run sh today size (suc k) ts s) e ∙ run-stop sh today size (suc k) ts _
 
     pub halts : {rb ts : List Line} {st : State} {a : Answer} → Lawful sh today rb st → Broken sh today size k st ts a → run sh today size k ts st ≡ a
-    unfolding run endOf step onSaid meet isDue isFull onItem closed pick null
+    unfolding run endOf step onSaid meet isDue isFull onEntry onItem closed pick null
     halts r ends-first = refl
     halts r (ends-none {x = x} none) = pick-true _ _ none
     halts r ends-file = refl

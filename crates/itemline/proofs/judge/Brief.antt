@@ -8,7 +8,7 @@ use Rattle.sheet.specs.declared.Sheet.{Sheet}
 use Rattle.paper.specs.Accounts.{Account, nobody}
 use Rattle.paper.specs.BankField.{Bank}
 use Rattle.paper.specs.Texts.{Noted}
-use Rattle.paper.specs.Entries.{Counted, got, no, counted, onItem}
+use Rattle.paper.specs.Entries.{Counted, got, no, counted, onItem, onEntry}
 use Rattle.paper.specs.ItemLine.{readItem}
 use Rattle.paper.proofs.Passing.{Keeps, field-passes, pick-passes}
 use Rattle.itemline.specs.tail.Told.{tailOf}
@@ -29,7 +29,7 @@ brief-keeps = record { refusal = λ n off. refl }
 -- amount and warnings are kept of an item's values
 value-brief : (payer payee : Account) (amount variable : ℕ) (bank : Bank) (specific : ℕ) (texts : Noted)
     → brief (itemSaid payer payee amount variable bank specific texts) ≡ keptBank amount bank specific texts
-unfolding itemSaid keptBank keptTexts brief onItem
+unfolding itemSaid keptBank keptTexts brief onEntry onItem
 value-brief payer payee amount variable bank specific texts = refl
 
 payee-brief : (sh : Sheet) (payer : Account) (at : ℕ) (s : List ℕ) → brief (fromPayee sh (itemSaid payer) at s) ≡ fromPayee sh keptPayee at s

@@ -9,7 +9,7 @@ use borrow.Author.Tests.{le-leb, lt-leb, eq-eqb, ne-eqb}
 use Rattle.base.specs.Pick.{pick}
 use Rattle.sheet.specs.declared.Sheet.{Sheet}
 use Rattle.paper.specs.Batch.{Header}
-use Rattle.paper.specs.Entries.{file, Places, plain, said, no, counted, Kind, fileLine, kindOf, onFile}
+use Rattle.paper.specs.Entries.{file, Places, plain, said, no, counted, Kind, fileLine, kindOf, onFile, onEntry}
 use Rattle.paper.specs.Warnings.{Notice}
 use Rattle.paper.specs.Spells.{numberTest, readAs}
 use Rattle.paper.specs.FileLine.{series, numberFault, readFile}
@@ -139,7 +139,7 @@ module _ (sh : Sheet) (f : List ℕ) (at k : ℕ) (c : Counts) (cut : Cut) (cuts
           opened-same : (today : ℕ) (h : Header) → h .from ≡ from → h .to ≡ to → (l : List ℕ) → Holds words l
               → resume sh today f h (series number ∷ l) (left.Group (cut .next) (k + 1) (fileMore c) (record { items = 0; groups = 0 }))
               ≡ resume sh today f h l (left.File at k c)
-          unfolding resume onSaid meet onFile counted
+          unfolding resume onSaid meet onEntry onFile counted
           opened-same today h p q l held =
               let z : c .warnings + 0 ≡ c .warnings = omega arith in
               run-on sh today (length f) k f at cut cuts (tFile (bookOf h l c)) _ (rw z at (says (reads.File kind number) x today h p q l held))

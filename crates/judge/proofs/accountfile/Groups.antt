@@ -10,7 +10,7 @@ use Rattle.base.specs.Pick.{pick}
 use Rattle.sheet.specs.declared.Sheet.{Sheet}
 use Rattle.paper.specs.Accounts.{isNobody}
 use Rattle.paper.specs.Batch.{Header}
-use Rattle.paper.specs.Entries.{Entry, group, closeFile, totalAt, counted, groupLine, fileEnd, kindOf, onGroup}
+use Rattle.paper.specs.Entries.{Entry, group, closeFile, totalAt, counted, groupLine, fileEnd, kindOf, onGroup, onEntry}
 use Rattle.paper.specs.GroupLine.{readGroup}
 use Rattle.paper.specs.ClosingLine.{readClose}
 use Rattle.paper.specs.Spells.{readAs}
@@ -101,7 +101,7 @@ module _ (sh : Sheet) (today : ℕ) (f : List ℕ) (at stop k : ℕ) (c : Counts
 
   pub opening-group : (single : Bool) (total date warnings spot : ℕ) → r ≡ reads.Group single total date warnings spot → (byte : ℕ) → byte ≡ at + spot
       → (x : Held) → NewHeld c s warnings single total k byte x → Opens sh today (lineIn f at stop) k c s (opening.Group x)
-  unfolding onSaid meet onGroup groupHeld
+  unfolding onSaid meet onEntry onGroup groupHeld
   opening-group single total date warnings spot q byte y x new =
       let same : x ≡ groupHeld c s warnings single total k (at + spot) = rw y at (new .same) in
       let nobody : single ≡ isNobody (t .payer) = rw q at (t .single) in
@@ -199,7 +199,7 @@ module _ (sh : Sheet) (f : List ℕ) (at k : ℕ) (c : Counts) (s : Shelf) (cut 
       file-end-refused n off q byte y today = rw y (stops today n (at + off) (closed-as (closing.Refused n off) q today))
 
       pub file-closed : AtGroup f at k c s → r ≡ closing.Closed → (today : ℕ) → Moved sh today f (left.Group at k c s) (left.File (cut .next) (k + 1) c)
-      unfolding resume onSaid meet onGroup counted
+      unfolding resume onSaid meet onEntry onGroup counted
       file-closed good q today =
           let w : c .warnings + 0 ≡ c .warnings = omega arith in
           record {

@@ -12,7 +12,7 @@ use Rattle.base.proofs.Seek.{never}
 use Rattle.sheet.specs.declared.Sheet.{Sheet}
 use Rattle.paper.specs.Batch.{Header, noHeader}
 use Rattle.paper.specs.Lines.{linesOf, linesFrom}
-use Rattle.paper.specs.Entries.{counted, headLine, kindOf, onHead}
+use Rattle.paper.specs.Entries.{counted, headLine, kindOf, onHead, onEntry}
 use Rattle.paper.specs.FirstLine.{readFirst}
 use Rattle.paper.specs.Spells.{readAs}
 use Rattle.paper.proofs.Starts.{kind-long}
@@ -96,12 +96,12 @@ module _ (sh : Sheet) (today : ℕ) (f : List ℕ) (cut : Cut) (cuts : Cuts f 0 
         stops n off (rw z at (said (reads.Refused n off) q))
 
     pub head-plain : r ≡ reads.Plain → (x : Brief) → x ≡ fromFirst sh today f (cut .next) (record { date = 0; client = 0; from = 0; to = 0; named = false }) → x ≡ tally sh today f
-    unfolding fromFirst onSaid meet onHead pick counted
+    unfolding fromFirst onSaid meet onEntry onHead pick counted
     head-plain q x a = a ∙ leads (tFile (newBook noHeader 0)) (said reads.Plain q)
 
     pub head-fields : firsts.Sound (top f cut) r → (date client from to : ℕ) → r ≡ reads.Header date client from to
         → (x : Brief) → x ≡ fromFirst sh today f (cut .next) (record { date = date; client = client; from = from; to = to; named = true }) → x ≡ tally sh today f
-    unfolding fromFirst onSaid meet onHead pick counted
+    unfolding fromFirst onSaid meet onEntry onHead pick counted
     head-fields sound date client from to q x a =
         a
         ∙ rw (← (name-same f cut (header-long f cut r sound date client from to q))) (leads _ (said (reads.Header date client from to) q))

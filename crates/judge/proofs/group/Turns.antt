@@ -14,7 +14,7 @@ use Rattle.sheet.specs.declared.Limits.{Limits}
 use Rattle.sheet.specs.Sheets.{LimitsOf}
 use Rattle.sheet.proofs.Laws.{Sane}
 use Rattle.paper.specs.Batch.{Header}
-use Rattle.paper.specs.Entries.{Entry, head, file, group, item, closeGroup, closeFile, Places, Counted, got, said, no, counted, Kind, itemLine, groupEnd, kindOf, onItem}
+use Rattle.paper.specs.Entries.{Entry, head, file, group, item, closeGroup, closeFile, Places, Counted, got, said, no, counted, Kind, itemLine, groupEnd, kindOf, onItem, onEntry}
 use Rattle.paper.specs.ItemLine.{readItem}
 use Rattle.paper.specs.ClosingLine.{readClose}
 use Rattle.paper.specs.Spells.{readAs, differs}
@@ -78,7 +78,7 @@ module _ (f : List ℕ) (at stop : ℕ) (p : at ≤ stop) (q : stop ≤ length f
 -- in a group nothing else of an item's line counts
 brief-entry : (sh : Sheet) (k start : ℕ) (e : Entry) (v : ℕ) (p : Places) (h : Header) (l : List ℕ) (x : Held)
     → onSaid sh k start (brief (said e v p)) (inGroup h l x) ≡ onSaid sh k start (said e v p) (inGroup h l x)
-unfolding onSaid meet onItem brief
+unfolding onSaid meet onEntry onItem brief
 brief-entry sh k start (head a) v p h l x = refl
 brief-entry sh k start (file kind number) v p h l x = refl
 brief-entry sh k start (group payer total date) v p h l x = refl
@@ -126,7 +126,7 @@ module _ (sh : Sheet) (f : List ℕ) (at stop : ℕ) (x : Held) where
             ∙ by-fields sh today k (lineIn f at stop) (inGroup h l x) refl itemLine e refl (simp (lt-leb _ _ i, lt-leb _ _ g)) _ refl)
 
         pub turn-item : (amount warnings : ℕ) → r ≡ judged.Item amount warnings → Turns sh (lineIn f at stop) x (turn.Item amount warnings)
-        unfolding onSaid meet onItem heldMore
+        unfolding onSaid meet onEntry onItem heldMore
         turn-item amount warnings q = record { same = judged-as (judged.Item amount warnings) q }
 
         pub turn-refused : (n off : ℕ) → r ≡ judged.Refused n off → (byte : ℕ) → byte ≡ at + off → Turns sh (lineIn f at stop) x (turn.Stop n byte)
@@ -148,7 +148,7 @@ module _ (sh : Sheet) (f : List ℕ) (at stop : ℕ) (x : Held) where
           by-fields sh today k (lineIn f at stop) (inGroup h l x) refl groupEnd e (simp (ne-eqb _ _ z)) refl _ (ap counted (rw q at (t closeGroup)))
 
       pub close-closed : r ≡ closing.Closed → Turns sh (lineIn f at stop) x turn.Close
-      unfolding onSaid meet onItem counted
+      unfolding onSaid meet onEntry onItem counted
       close-closed q = record { same = closed-as closing.Closed q }
 
       pub close-refused : (n off : ℕ) → r ≡ closing.Refused n off → (byte : ℕ) → byte ≡ at + off → Turns sh (lineIn f at stop) x (turn.Stop n byte)
