@@ -35,6 +35,10 @@ STANDING = {
     "outcomes/proofs/firstwrong/Main": ("header-proper", "rows-proper", "header-carried", "rows-carried"),
     # the whole walk of refusal 20, without a sheet: no call has it yet; requests that export, join and pair batches are to call it
     "rows/src/walk": ("proper_rows",),
+    # the internal form of an account: what W-204's calls will use, with its laws and worked examples
+    "internal/src/lib": ("read_internal", "put_internal"),
+    "internal/proofs/Laws": ("in-out", "digits-out", "sound", "spelled", "back"),
+    "internal/proofs/Examples": "*",
     # contracts that are no equations leave one answer all the same
     "reader/proofs/Determined": ("finds-one",),
     "rewriting/proofs/Front": ("determined",),

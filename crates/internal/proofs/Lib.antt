@@ -1,0 +1,5 @@
+pub mod Places
+pub mod Numbers
+pub mod Laws
+pub mod Exits
+pub mod Examples
