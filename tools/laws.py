@@ -37,7 +37,7 @@ STANDING = {
     "rows/src/walk": ("proper_rows",),
     # the internal form of an account: what W-204's calls will use, with its laws and worked examples
     "internal/src/lib": ("read_internal", "put_internal"),
-    "internal/proofs/Laws": ("in-out", "digits-out", "sound", "spelled", "back"),
+    "internal/proofs/Laws": "*",
     "internal/proofs/Examples": "*",
     # contracts that are no equations leave one answer all the same
     "reader/proofs/Determined": ("finds-one",),

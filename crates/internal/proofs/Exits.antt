@@ -18,7 +18,7 @@ use Rattle.numeral.specs.declared.Num.the-variants.{Value, Refused}
 use Rattle.numeral.proofs.Fixed.{fixed-length}
 use Rattle.gpc.specs.Internal.{outside, internal, edited, accountOf, readInternal, spellInternal}
 use Rattle.internal.proofs.Places.{taken-length}
-use Rattle.internal.proofs.Laws.{no-account, an-account}
+use Rattle.internal.proofs.Laws.{refused, accepted}
 
 -- ---- reading: e are the bytes d in the edited order, m and n what the digits of prefix and base say
 
@@ -26,9 +26,9 @@ module _ (d e : List ℕ) (f : e ≡ edited d) (m : Num) (g : told m ≡ digits 
   prefix-said : digits 6 6 (take 6 (edited d)) ≡ told m
   prefix-said = rw (← f) (rw (drop-none e) at (sym g))
 
-  no-prefix : (k : ℕ) → m ≡ Refused k → readInternal d ≡ fault 51
+  pub no-prefix : (k : ℕ) → m ≡ Refused k → fault 51 ≡ readInternal d
   unfolding accountOf given
-  no-prefix k r = no-account d k (rw (prefix-said, r) refl)
+  no-prefix k r = sym (refused d k (rw (prefix-said, r) refl))
 
   module _ (p : ℕ) (v : m ≡ Value p) (n : Num) (h : told n ≡ digits 10 10 (take 10 (drop 6 e))) where
     base-said : digits 10 10 (drop 6 (edited d)) ≡ told n
@@ -37,29 +37,15 @@ module _ (d e : List ℕ) (f : e ≡ edited d) (m : Num) (g : told m ≡ digits 
         let long : length (drop 6 e) ≡ 10 = omega (arith, length-drop 6 e, ap length f, taken-length outside d) in
         rw (← f) (rw (take-all 10 (drop 6 e) (omega arith)) at (sym h))
 
-    no-base : (k : ℕ) → n ≡ Refused k → readInternal d ≡ fault 51
+    pub no-base : (k : ℕ) → n ≡ Refused k → fault 51 ≡ readInternal d
     unfolding accountOf given
-    no-base k r = no-account d k (rw (prefix-said, v, base-said, r) refl)
+    no-base k r = sym (refused d k (rw (prefix-said, v, base-said, r) refl))
 
-    both-read : (b : ℕ) → n ≡ Value b → length d ≡ 16 → readInternal d ≡ value (account p b)
+    pub both-read : (b : ℕ) → n ≡ Value b → length d ≡ 16 → value (account p b) ≡ readInternal d
     unfolding accountOf given
-    both-read b w long = an-account d (account p b) long (rw (prefix-said, v, base-said, w) refl)
+    both-read b w long = sym (accepted d (account p b) long (rw (prefix-said, v, base-said, w) refl))
 
--- the same of sixteen bytes of s from `at` on
-module _ (s : List ℕ) (at : ℕ) (room : at + 16 ≤ length s) (d e : List ℕ) (q : d ≡ take 16 (drop at s)) (f : e ≡ edited d) (m : Num) (g : told m ≡ digits 6 6 (take 6 (drop 0 e))) where
-  pub prefix-refused : (k : ℕ) → m ≡ Refused k → fault 51 ≡ readInternal (take 16 (drop at s))
-  prefix-refused k r = rw (← q) (sym (no-prefix d e f m g k r))
-
-  module _ (p : ℕ) (v : m ≡ Value p) (n : Num) (h : told n ≡ digits 10 10 (take 10 (drop 6 e))) where
-    pub base-refused : (k : ℕ) → n ≡ Refused k → fault 51 ≡ readInternal (take 16 (drop at s))
-    base-refused k r = rw (← q) (sym (no-base d e f m g p v n h k r))
-
-    pub account-read : (b : ℕ) → n ≡ Value b → value (account p b) ≡ readInternal (take 16 (drop at s))
-    account-read b w =
-        let long : length d ≡ 16 = ap length q ∙ length-take-le 16 (drop at s) (omega (arith, length-drop at s)) in
-        rw (← q) (sym (both-read d e f m g p v n h b w long))
-
-pub ruleset readings = (prefix-refused, base-refused, account-read)
+pub ruleset readings = (no-prefix, no-base, both-read)
 
 -- ---- putting
 

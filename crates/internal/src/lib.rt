@@ -75,12 +75,11 @@ fn sixteen(s: &[u8], at: usize) -> [u8; 16]
     d
 }
 
-// The account in the sixteen bytes from `at` on.
-pub fn read_internal(s: &[u8], at: usize) -> Found
-    requires { ⌜ at + 16 ≤ length (now s) ⌝ }
-    ensures { λ r. ⌜ told r ≡ readInternal (take 16 (drop at (now (s .entry)))) ⌝ }
+// The account in sixteen bytes.
+fn account_in(d: [u8; 16]) -> Found
+    ensures { λ r. ⌜ told r ≡ readInternal d ⌝ }
 {
-    let e = edited(sixteen(s, at));
+    let e = edited(d);
     let Num::Value(prefix) = numeral::read_digits(&e[0..6], 6, 6) else {
         return Found::Refused(51);
     };
@@ -88,6 +87,14 @@ pub fn read_internal(s: &[u8], at: usize) -> Found
         return Found::Refused(51);
     };
     Found::Account(prefix, base)
+}
+
+// The account in the sixteen bytes from `at` on.
+pub fn read_internal(s: &[u8], at: usize) -> Found
+    requires { ⌜ at + 16 ≤ length (now s) ⌝ }
+    ensures { λ r. ⌜ told r ≡ readInternal (take 16 (drop at (now (s .entry)))) ⌝ }
+{
+    account_in(sixteen(s, at))
 }
 
 // The digits of prefix and base in the edited order.
