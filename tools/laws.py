@@ -39,6 +39,11 @@ STANDING = {
     "internal/src/lib": ("read_internal", "put_internal"),
     "internal/proofs/Laws": "*",
     "internal/proofs/Examples": "*",
+    # what W-204's calls will use: the fields of a statement, its sums and their laws
+    "turnover/src/lib": ("debit_is", "credit_is"),
+    "turnover/src/signed": ("in_word",),
+    "turnover/proofs/Laws": "*",
+    "turnover/proofs/Edges": "*",
     # contracts that are no equations leave one answer all the same
     "reader/proofs/Determined": ("finds-one",),
     "rewriting/proofs/Front": ("determined",),

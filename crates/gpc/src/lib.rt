@@ -1,1 +1,1 @@
-// Document 02's statements, W-204, as definitions: see specs/. No code.
+// Document 02's statements (W-204) as definitions: see specs/. No code.
