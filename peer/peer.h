@@ -1,19 +1,24 @@
 /*
  * ABO (.kpc) payment batches under the four sheets of document 01:
- * 1 is K, 2 is S, 3 is C and 4 is E.
+ * 1 is K, 2 is S, 3 is C and 4 is E; and statements of records 074 and 075
+ * (request W-204).
  *
- * Days are numbers YYYYMMDD.  Rows are 24 little-endian 64-bit words each, lent
- * as bytes of any alignment.  A pointer may be NULL where its length is 0.
- * A refusal changes none of the lent bytes.
+ * Days are numbers YYYYMMDD.  Rows are 24 little-endian 64-bit words each, in
+ * statements 17, lent as bytes of any alignment.  A pointer may be NULL where
+ * its length is 0.  A refusal changes none of the lent bytes.
  *
  * Each file here is used by those above it only:
  *
  *   rewrite.c                                 the rewriting program
  *   explain.c                                 answers in words; the rewriting
- *   read.c, write.c                           the calls
+ *   read.c, write.c                           the calls for batches
+ *   read_statement.c, write_statement.c       the calls for statements
  *   judge, fill; judge_batch                  passes over a file, over a batch
  *   judge_heads, judge_item; spell_batch      the lines of a file, of a batch
  *   judge_fields.h, split; batch.h            the parts of lines, of rows
+ *   statement_sums.h                          a statement that is added up
+ *   statement                                 its records and their rows
+ *   internal.h                                accounts in statements
  *   account.h, lines.h                        accounts, and the kinds of lines
  *   bytes.h, days.h, digits.h, header.h, sheet
  */
@@ -35,8 +40,8 @@ struct peer_answer {
 struct peer_answer peer_read(const uint8_t *file, size_t len, uint64_t sheet,
                              uint64_t today, uint8_t *rows, size_t rows_len);
 
-/* number 0: bytes written; number 16: bytes needed; numbers 20 and 21: the row
-   (0 is the header) and the field. */
+/* number 0: bytes written; number 16: bytes needed; numbers 20 and 21, and of
+   statements 50 to 53: the row (0 is the header) and the field. */
 struct peer_written {
     uint64_t number, row, field, bytes;
 };
@@ -63,5 +68,18 @@ struct peer_text peer_explain(const uint8_t *file, size_t len, uint64_t sheet,
    out.  Takes about 110 KiB of stack for its rows. */
 struct peer_text peer_rewrite(const uint8_t *in, size_t in_len, uint8_t *out,
                               size_t out_len);
+
+/* number 0: rows filled; number 16: needed is the count of rows the file asks
+   for; numbers 50 to 53: the record (from 1) and byte offset. */
+struct peer_statement_answer {
+    uint64_t number, line, byte, rows, needed;
+};
+
+struct peer_statement_answer peer_statement_read(const uint8_t *file,
+                                                 size_t len, uint8_t *rows,
+                                                 size_t rows_len);
+
+struct peer_written peer_statement_write(const uint8_t *rows, size_t rows_len,
+                                         uint8_t *out, size_t out_len);
 
 #endif

@@ -4,7 +4,7 @@ unsigned long test_passed, test_failed;
 struct peer_answer test_answer;
 uint8_t *test_out;
 
-enum { GUARD = 64, FILLED = 0xa5 };
+enum { FILLED = 0xa5 };
 
 void test_count(bool ok, const char *file, int line, const char *what)
 {
@@ -14,6 +14,27 @@ void test_count(bool ok, const char *file, int line, const char *what)
     }
     test_failed++;
     printf("%s:%d: failed: %s\n", file, line, what);
+}
+
+/* ---- chance ---- */
+
+uint64_t draw(void)
+{
+    static uint64_t state = UINT64_C(0x9e3779b97f4a7c15);
+    state ^= state << 13;
+    state ^= state >> 7;
+    state ^= state << 17;
+    return state * UINT64_C(2685821657736338717) >> 11;
+}
+
+uint64_t below(uint64_t limit)
+{
+    return draw() % limit;
+}
+
+bool one_in(uint64_t n)
+{
+    return below(n) == 0;
 }
 
 /* ---- files ---- */
@@ -51,7 +72,7 @@ size_t offset_of(const char *file, size_t len, uint64_t line, size_t plus)
 
 /* ---- lent bytes ---- */
 
-static uint8_t *lend(size_t len)
+uint8_t *lend(size_t len)
 {
     uint8_t *room = malloc(len + 2 * GUARD);
     if (room == NULL)
@@ -60,7 +81,7 @@ static uint8_t *lend(size_t len)
     return room;
 }
 
-static bool untouched(const uint8_t *bytes, size_t len)
+bool untouched(const uint8_t *bytes, size_t len)
 {
     for (size_t i = 0; i < len; i++)
         if (bytes[i] != FILLED)
@@ -68,8 +89,7 @@ static bool untouched(const uint8_t *bytes, size_t len)
     return true;
 }
 
-/* A copy of exactly this size, so that a read outside is caught. */
-static uint8_t *copy_of(const void *bytes, size_t len)
+uint8_t *copy_of(const void *bytes, size_t len)
 {
     uint8_t *copy = malloc(len > 0 ? len : 1);
     if (copy == NULL)

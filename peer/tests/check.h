@@ -20,6 +20,21 @@ extern unsigned long test_passed, test_failed;
 void test_count(bool ok, const char *file, int line, const char *what);
 #define CHECK(what, ok) test_count((ok), __FILE__, __LINE__, (what))
 
+/* The same numbers in each run. */
+uint64_t draw(void);
+uint64_t below(uint64_t limit);
+bool one_in(uint64_t n);
+
+/* ---- lent bytes ---- */
+
+/* Room for so many bytes with GUARD bytes before and behind it, filled all
+   over with the byte that untouched asks for. */
+enum { GUARD = 64 };
+uint8_t *lend(size_t len);
+bool untouched(const uint8_t *bytes, size_t len);
+/* A copy of exactly this size, so that a read outside is caught. */
+uint8_t *copy_of(const void *bytes, size_t len);
+
 /* ---- files ---- */
 
 /* The frame of the readings: six lines ended by LF, each of which can be
@@ -110,5 +125,7 @@ void test_writing(void);
 void test_rewriting(void);
 void test_samples(void);
 void test_random(void);
+void test_statements(void);
+void test_random_statements(void);
 
 #endif

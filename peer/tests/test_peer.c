@@ -11,6 +11,8 @@ int main(void)
     test_rewriting();
     test_samples();
     test_random();
+    test_statements();
+    test_random_statements();
     free(test_out);
     printf("%lu %lu\n", test_passed, test_failed);
     return test_failed == 0 ? 0 : 1;

@@ -4,25 +4,6 @@
 
 static struct batch_in b;
 
-static uint64_t draw(void)
-{
-    static uint64_t state = UINT64_C(0x9e3779b97f4a7c15);
-    state ^= state << 13;
-    state ^= state >> 7;
-    state ^= state << 17;
-    return state * UINT64_C(2685821657736338717) >> 11;
-}
-
-static uint64_t below(uint64_t limit)
-{
-    return draw() % limit;
-}
-
-static bool one_in(uint64_t n)
-{
-    return below(n) == 0;
-}
-
 /* ---- valid batches ---- */
 
 /* The rule of document 01, Accounts, by its own table of weights. */
