@@ -138,10 +138,10 @@ WRONG = [
     ),
     (
         "a warning's place, listed",
-        "K's priority digit would be warned of at the variable symbol",
-        "ItemLine",
-        "notices lowPriority a6 (bank .warnings)",
-        "notices lowPriority a4 (bank .warnings)",
+        "a text that is cut would be warned of at the line's first byte",
+        "Texts",
+        "(notice w (p .place) ∷ [])",
+        "(notice w 0 ∷ [])",
         "cases/Warned",
     ),
     (
