@@ -6,7 +6,7 @@ ghost use Prim.Native.Nat.{_+_, _≤_, _<_};
 ghost use lib.ListN.{length, take, drop};
 ghost use Rattle.base.specs.Seek.{all};
 ghost use Rattle.paper.specs.Bytes.{isText};
-ghost use Rattle.scan.specs.block.Blocks.{isHigh, isOther, Skips};
+ghost use Rattle.scan.specs.block.Blocks.{isHigh, isOther, isFar, Skips};
 
 // Where a block begins that holds the byte at i and those behind it, up to sixteen.
 fn block_at(i: usize, n: usize) -> usize
@@ -54,35 +54,36 @@ fn pass_high(s: &[u8], at: usize) -> usize
     i
 }
 
-// The same one byte after another: it stops before the first byte that may end a line, or near the text's end.
-fn near_high(s: &[u8], at: usize) -> usize
+// One byte after another: a place at or after `at`, right before the first byte that differs from `c` by no more than `w` in its bits, or near the text's end.
+// With `w` 0 that byte is `c` itself, with `c` 0 it is any up to `w`.
+fn near(s: &[u8], at: usize, c: u8, w: u8) -> usize
     requires { ⌜ at ≤ length (now s) ⌝ }
-    ensures { λ r. ⌜ Skips isHigh (now (s .entry)) at r ⌝ }
+    ensures { λ r. ⌜ Skips (isFar c w) (now (s .entry)) at r ⌝ }
 {
     let mut i = at;
     while 8 <= s.len() - i {
-        if s[i] < 14 {
+        if s[i] ^ c <= w {
             return i;
         }
-        if s[i + 1] < 14 {
+        if s[i + 1] ^ c <= w {
             return i + 1;
         }
-        if s[i + 2] < 14 {
+        if s[i + 2] ^ c <= w {
             return i + 2;
         }
-        if s[i + 3] < 14 {
+        if s[i + 3] ^ c <= w {
             return i + 3;
         }
-        if s[i + 4] < 14 {
+        if s[i + 4] ^ c <= w {
             return i + 4;
         }
-        if s[i + 5] < 14 {
+        if s[i + 5] ^ c <= w {
             return i + 5;
         }
-        if s[i + 6] < 14 {
+        if s[i + 6] ^ c <= w {
             return i + 6;
         }
-        if s[i + 7] < 14 {
+        if s[i + 7] ^ c <= w {
             return i + 7;
         }
         i += 8;
@@ -95,7 +96,7 @@ pub fn skip_high(s: &[u8], at: usize) -> usize
     requires { ⌜ at ≤ length (now s) ⌝ }
     ensures { λ r. ⌜ Skips isHigh (now (s .entry)) at r ⌝ }
 {
-    near_high(s, pass_high(s, at))
+    near(s, pass_high(s, at), 0, 13)
 }
 
 // Are the sixteen bytes at `at` all text bytes?
@@ -192,46 +193,10 @@ fn pass_other(s: &[u8], at: usize, b: u8) -> usize
     i
 }
 
-// The same one byte after another: it stops before the first b, or near the text's end.
-fn near_other(s: &[u8], at: usize, b: u8) -> usize
-    requires { ⌜ at ≤ length (now s) ⌝ }
-    ensures { λ r. ⌜ Skips (isOther b) (now (s .entry)) at r ⌝ }
-{
-    let mut i = at;
-    while 8 <= s.len() - i {
-        if s[i] == b {
-            return i;
-        }
-        if s[i + 1] == b {
-            return i + 1;
-        }
-        if s[i + 2] == b {
-            return i + 2;
-        }
-        if s[i + 3] == b {
-            return i + 3;
-        }
-        if s[i + 4] == b {
-            return i + 4;
-        }
-        if s[i + 5] == b {
-            return i + 5;
-        }
-        if s[i + 6] == b {
-            return i + 6;
-        }
-        if s[i + 7] == b {
-            return i + 7;
-        }
-        i += 8;
-    }
-    i
-}
-
 // A place at or after `at` with no b before it: right before the first, unless the text ends soon.
 pub fn skip_other(s: &[u8], at: usize, b: u8) -> usize
     requires { ⌜ at ≤ length (now s) ⌝ }
     ensures { λ r. ⌜ Skips (isOther b) (now (s .entry)) at r ⌝ }
 {
-    near_other(s, pass_other(s, at, b), b)
+    near(s, pass_other(s, at, b), b, 0)
 }

@@ -1,5 +1,5 @@
 -- The turns of the loops over a block and over blocks. Assumes nothing.
-use mathlib.Core.Path.{_≡_, refl, sym, _∙_}
+use mathlib.Core.Path.{_≡_, refl, sym, ap, _∙_}
 use mathlib.Core.Bool.{Bool, true, false}
 use mathlib.Core.List.{List, [], _∷_}
 use Prim.Native.Nat.{ℕ, zero, suc, _+_, _-_, _≤_, _<_}
@@ -8,12 +8,14 @@ use native.Mathlib.Numerals.{add-one}
 use native.Mathlib.Omega.{arith}
 use lib.ListN.{length, getD, take, drop, length-drop}
 use lib.Seq.{drop-cons, drop-drop, getD-drop, take-nil, take-suc}
-use borrow.Author.Tests.{ne-eqb, le-leb, le-ltb}
+use lib.Bits.{bitXor, xor-zero-r, xor-self}
+use lib.Dec.{ltb}
+use borrow.Author.Tests.{lt-ltb, ltb-true, ne-eqb, le-leb, le-ltb}
 use Rattle.base.specs.Pick.{pick}
 use Rattle.base.specs.Seek.{all}
-use Rattle.base.proofs.Seek.{never, all-head, all-tail, all-cons, all-append}
+use Rattle.base.proofs.Seek.{never, all-head, all-tail, all-cons, all-append, all-weaker}
 use Rattle.paper.specs.Bytes.{isText}
-use Rattle.scan.specs.block.Blocks.{isHigh, isOther, Skips}
+use Rattle.scan.specs.block.Blocks.{isHigh, isOther, isFar, Skips}
 
 -- ---- one byte
 
@@ -26,6 +28,9 @@ is-text x l n h = rw (le-ltb x 32 l, ne-eqb x 127 n, le-leb x 255 (omega arith))
 
 pub is-other : (b x : ℕ) → (x ≡ b → ⊥) → isOther b x ≡ true
 is-other b x n = simp (ne-eqb x b n)
+
+pub is-far : (c w x : ℕ) → w < bitXor x c → isFar c w x ≡ true
+is-far c w x l = lt-ltb w (bitXor x c) l
 
 -- ---- a block: the first j bytes have passed the test, if the answer is still true
 
@@ -111,6 +116,25 @@ module _ (p : ℕ → Bool) (s : List ℕ) (at : ℕ) where
     unfolding all
     near-one l h = skip-by i 1 k (omega arith) (rw (drop-cons s i 0 l) (all-cons p (getD s i 0) [] h refl))
 
+-- on, by bytes far from what ends lines, or from one byte
+far-high : (x : ℕ) → isFar 0 13 x ≡ true → isHigh x ≡ true
+far-high x h = let l : 13 < x = rw (xor-zero-r x) at (ltb-true 13 (bitXor x 0) h) in is-high x (omega arith)
+
+far-other : (b x : ℕ) → isFar b 0 x ≡ true → isOther b x ≡ true
+far-other b x h = is-other b x (λ e. never (sym h ∙ ap (λ (y : ℕ). ltb 0 (bitXor y b)) e ∙ ap (ltb 0) (xor-self b)))
+
+weaker : (p q : ℕ → Bool) → ((x : ℕ) → p x ≡ true → q x ≡ true) → (s : List ℕ) (at r : ℕ) → Skips p s at r → Skips q s at r
+weaker p q h s at r k = record { from = k .from; inside = k .inside; between = all-weaker p q h (take (r - at) (drop at s)) (k .between) }
+
+module _ (s : List ℕ) (at i r : ℕ) where
+  pub near-high : Skips isHigh s at i → Skips (isFar 0 13) s i r → Skips isHigh s at r
+  near-high k n = skip-then isHigh s at i r k (weaker (isFar 0 13) isHigh far-high s i r n)
+
+  pub near-other : (b : ℕ) → Skips (isOther b) s at i → Skips (isFar b 0) s i r → Skips (isOther b) s at r
+  near-other b k n = skip-then (isOther b) s at i r k (weaker (isFar b 0) (isOther b) (far-other b) s i r n)
+
+pub ruleset skip-near = (near-high, near-other)
+
 pub ruleset skips = (skip-none, skip-block, skip-over)
 
 -- eight bytes, one after another: behind the first that pass
@@ -145,4 +169,4 @@ module _ (p : ℕ → Bool) (s : List ℕ) (at i : ℕ) (k : Skips p s at i) (l 
               pub near-8 : p (getD s (i + 7) 0) ≡ true → Skips p s at (i + 8)
               near-8 h = let z : i + 7 + 1 ≡ i + 8 = omega arith in rw z at (near-one p s at (i + 7) near-7 (omega arith) h)
 
-pub ruleset nears = (skip-none, near-1, near-2, near-3, near-4, near-5, near-6, near-7, near-8, is-high, is-other)
+pub ruleset nears = (skip-none, near-1, near-2, near-3, near-4, near-5, near-6, near-7, near-8, is-far)

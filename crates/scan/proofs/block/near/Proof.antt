@@ -1,17 +1,17 @@
--- `near_other` meets its contract: every byte passed is of the kind. Assumes nothing.
+-- `near` meets its contract: every byte passed is of the kind. Assumes nothing.
 use Prim.Native.Nat.{_-_}
 use lib.ListN.{length}
-use Rattle.scan.specs.block.Blocks.{isOther, Skips}
+use Rattle.scan.specs.block.Blocks.{isFar, Skips}
 use borrow.Author.Needs.{needs}
 use Rattle.scan.proofs.block.Turns.{nears}
-use Rattle.scan.proofs.block.near_other.Statement.{statement}
-use Rattle.scan.proofs.block.near_other.Tie as tie
+use Rattle.scan.proofs.block.near.Statement.{statement}
+use Rattle.scan.proofs.block.near.Tie as tie
 
 abbrev Inv-loop : tie.InvT-loop
-Inv-loop s at b i₀ i = Skips (isOther b) s at i
+Inv-loop s at c w i₀ i = Skips (isFar c w) s at i
 
 abbrev μ-loop : tie.MeasureT-loop
-μ-loop s at b i₀ i = length s - i
+μ-loop s at c w i₀ i = length s - i
 
 loop-holds : tie.Need-loop-holds Inv-loop μ-loop
 loop-holds c = search (nears, needs)
@@ -121,8 +121,8 @@ loop-again c = search (nears, needs)
 returns-9 : tie.Need-returns-9 Inv-loop μ-loop
 returns-9 c = search nears
 
-pub near-other-spec : {M : Type 1} → statement M
-near-other-spec =
+pub near-spec : {M : Type 1} → statement M
+near-spec =
     tie.close
     (tie.spec
     Inv-loop
