@@ -3,9 +3,10 @@
 use Prim.Native.Nat.{ℕ}
 use mathlib.Core.List.{List, [], _∷_, _++_}
 use lib.ListN.{getD, take, drop}
-use Rattle.paper.specs.Read.{Field, value, fault, given}
+use Rattle.paper.specs.Read.{Field, value, given}
 use Rattle.paper.specs.Numerals.{digits, fixed}
 use Rattle.paper.specs.Accounts.{Account, account}
+use Rattle.gpc.specs.Parts.{or51}
 
 -- the elements of d at these places, one after the other
 unfoldable pub taken : List ℕ → List ℕ → List ℕ
@@ -32,11 +33,6 @@ edited d = taken outside d
 -- the account of sixteen edited digits: the first six are its prefix, the last ten its base
 unfoldable pub accountOf : List ℕ → Field Account
 accountOf e = given (digits 6 6 (take 6 e)) λ prefix. given (digits 10 10 (drop 6 e)) λ base. value (account prefix base)
-
--- a read field of a record is refused with 51, whatever is wrong with it
-unfoldable pub or51 : {A : Type 0} → Field A → Field A
-or51 (value a) = value a
-or51 (fault n) = fault 51
 
 -- sixteen digits and nothing else, which are the account of their edited order; that it keeps the rule of accounts is not asked
 unfoldable pub readInternal : List ℕ → Field Account

@@ -8,7 +8,8 @@ use Rattle.base.specs.Pick.{pick}
 use Rattle.paper.specs.Read.{Field, value, fault}
 use Rattle.paper.specs.Numerals.{digits, fixed}
 use Rattle.paper.specs.Batch.{most14}
-use Rattle.paper.specs.Entries.{Said, place}
+use Rattle.paper.specs.Entries.{Said, onField}
+use Rattle.gpc.specs.Parts.{slice, or51}
 
 -- a size, and whether it is below nothing
 pub record Signed : Type 0 where
@@ -44,14 +45,9 @@ side a b c d = above a + above b + (below c + below d)
 
 -- ---- in a field: fourteen digits, and the sign behind them as a field of its own
 
--- a field that is not read is refused with this number, whatever is wrong with it
-unfoldable pub refusedBy : {A : Type 0} → ℕ → Field A → Field A
-refusedBy n (value v) = value v
-refusedBy n (fault m) = fault n
-
 -- exactly k digits: 51 otherwise
 unfoldable pub readDigits : ℕ → List ℕ → Field ℕ
-readDigits k s = refusedBy 51 (digits k k s)
+readDigits k s = or51 (digits k k s)
 
 -- the byte that says plus: `+` for a balance
 abbrev pub balancePlus : ℕ
@@ -66,12 +62,12 @@ unfoldable pub readMinus : ℕ → List ℕ → Field Bool
 readMinus plus [] = fault 51
 readMinus plus (x ∷ s) = pick (eqb x 45) (value true) (pick (eqb x plus) (value false) (fault 51))
 
--- the digits are tested before the sign, and each is refused at its own first byte
-unfoldable pub readSigned : {B : Type 0} → ℕ → ℕ → List ℕ → (Signed → ℕ → List ℕ → Said B) → Said B
-readSigned plus at s k =
-    place 14 (readDigits 14) at s λ n a1 s1.
-    place 1 (readMinus plus) a1 s1 λ minus a2 s2.
-    k (signed minus n) a2 s2
+-- the fifteen bytes from a place on: the digits are tested before the sign, and each is refused at its own first byte
+unfoldable pub onSigned : {B : Type 0} → ℕ → ℕ → List ℕ → (Signed → Said B) → Said B
+onSigned plus at s k =
+    onField at (readDigits 14 (slice at 14 s)) λ n.
+    onField (at + 14) (readMinus plus (slice (at + 14) 1 s)) λ minus.
+    k (signed minus n)
 
 -- its one spelling; zero is no minus, so it has the byte that says plus
 unfoldable pub spellSigned : ℕ → Signed → List ℕ
@@ -87,6 +83,6 @@ negative n = (18446744073709551616 - n) % 18446744073709551616
 unfoldable pub signedWord : Signed → ℕ
 signedWord x = pick (x .minus) (negative (x .size)) (x .size)
 
--- what a word of a row says
+-- what a word of a row says; none says minus zero
 unfoldable pub wordSigned : ℕ → Signed
-wordSigned w = pick (ltb w 9223372036854775808) (record { minus = false; size = w }) (record { minus = true; size = negative w })
+wordSigned w = pick (ltb w 9223372036854775808) (record { minus = false; size = w }) (signed true (negative w))

@@ -5,7 +5,8 @@ use Rattle.paper.specs.Read.{value, fault, given}
 use Rattle.paper.specs.Bytes.{bytes, isDigit}
 use Rattle.paper.specs.Numerals.{digits, digitsOn, fixed, fixedOn}
 use Rattle.paper.specs.Accounts.{account}
-use Rattle.gpc.specs.Internal.{taken, internal, edited, accountOf, or51, readInternal, spellInternal}
+use Rattle.gpc.specs.Parts.{or51}
+use Rattle.gpc.specs.Internal.{taken, internal, edited, accountOf, readInternal, spellInternal}
 
 -- 19-19 is 9010000000000019, digit by digit, and back
 pub nineteen-moved : (internal (bytes "0000190000000019") ≡ bytes "9010000000000019") × (edited (bytes "9010000000000019") ≡ bytes "0000190000000019")

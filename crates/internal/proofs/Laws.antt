@@ -15,7 +15,8 @@ use Rattle.paper.specs.Accounts.{Account}
 use Rattle.numeral.proofs.Fixed.{fixed-length}
 use Rattle.numeral.proofs.Sound.{digits-least, digits-most, digits-reads}
 use Rattle.numeral.proofs.given.Given.{given-on, given-value}
-use Rattle.gpc.specs.Internal.{taken, inside, outside, internal, edited, accountOf, or51, readInternal, spellInternal}
+use Rattle.gpc.specs.Parts.{or51}
+use Rattle.gpc.specs.Internal.{taken, inside, outside, internal, edited, accountOf, readInternal, spellInternal}
 use Rattle.internal.proofs.Places.{taken-length, taken-twice, count, taken-count, taken-all}
 use Rattle.internal.proofs.Parts.{parts-plain, parts-small, parts-spelled, parts-read, parts-back, refused-by, accepted-by, no-other}
 

@@ -17,7 +17,8 @@ use Rattle.numeral.proofs.Fixed.{fixed-length}
 use Rattle.numeral.proofs.Back.{fixed-back}
 use Rattle.numeral.proofs.Sound.{digits-plain, digits-sound, digits-reads}
 use Rattle.numeral.proofs.given.Given.{value-fault, value-same, given-value}
-use Rattle.gpc.specs.Internal.{accountOf, or51}
+use Rattle.gpc.specs.Parts.{or51}
+use Rattle.gpc.specs.Internal.{accountOf}
 use Rattle.internal.proofs.Numbers.{digits-spelled}
 
 -- ---- digits that are an account

@@ -1,22 +1,21 @@
 -- What holds of numbers with a sign, of a statement's sums and of their tests, for the calls that are to stand on them. Assumes nothing.
 use mathlib.Core.Path.{_≡_, refl, sym, ap, _∙_}
 use mathlib.Core.Bool.{Bool, true, false}
-use mathlib.Core.List.{List, [], _∷_, _++_, append-assoc}
+use mathlib.Core.List.{List, [], _∷_, _++_}
 use Prim.Native.Nat.{ℕ, _+_, _*_, _<_, _≤_}
 use native.Mathlib.Omega.{arith}
-use lib.Dec.{eqb}
+use lib.Dec.{eqb, ltb}
 use lib.ListN.{length}
-use borrow.Author.Tests.{eqb-true, eq-eqb, ne-eqb, ltb-false, lt-ltb, le-ltb}
+use borrow.Author.Tests.{eqb-true, eq-eqb, ne-eqb, lt-ltb, le-ltb}
 use Rattle.base.specs.Pick.{pick}
-use Rattle.base.proofs.Cases.{either, by-eq, by-lt}
+use Rattle.base.proofs.Cases.{either, by-eq}
 use Rattle.paper.specs.Batch.{most14}
 use Rattle.paper.specs.Read.{value}
 use Rattle.paper.specs.Numerals.{fixed}
-use Rattle.paper.specs.Entries.{Said}
-use Rattle.numeral.proofs.Fixed.{fixed-length}
+use Rattle.paper.specs.Entries.{Said, onField}
 use Rattle.numeral.proofs.Back.{fixed-back}
-use Rattle.roundtrip.proofs.lineback.Fields.{place-back}
-use Rattle.gpc.specs.Signed.{Signed, signed, Fourteen, isDifference, above, below, side, refusedBy, readDigits, readMinus, readSigned, spellSigned, negative, signedWord, wordSigned}
+use Rattle.gpc.specs.Parts.{slice, or51}
+use Rattle.gpc.specs.Signed.{Signed, signed, Fourteen, isDifference, above, below, side, readDigits, readMinus, onSigned, negative, signedWord, wordSigned}
 use Rattle.gpc.specs.Turnovers.{Moved, moved, isCode, most12, part, total, balanced}
 use Rattle.turnover.specs.declared.Turn.{Turn}
 use Rattle.turnover.specs.declared.Turns.{Turns}
@@ -44,33 +43,30 @@ signed-same : (minus : Bool) (n : ℕ) → (minus ≡ true → 0 < n) → signed
 signed-same true n some = sym (read-some true n (λ e. omega (arith, some refl)))
 signed-same false n some = by-eq n 0 (λ e. sym (read-zero false n e)) (λ e. sym (read-some false n e))
 
--- ---- a record's field: `plus` is the byte that says plus, s what stands behind the field
+-- ---- a record's field: `plus` is the byte that says plus, s the record, `at` the field's place in it
 
-module _ {B : Type 0} (plus at : ℕ) (k : Signed → ℕ → List ℕ → Said B) (s : List ℕ) where
-  spelled : (minus : Bool) (n b : ℕ) → n ≤ most14 → readMinus plus (b ∷ []) ≡ value minus
-      → readSigned plus at (fixed 14 n ++ (b ∷ s)) k ≡ k (signed minus n) (at + 14 + 1) s
-  unfolding readSigned readDigits refusedBy
-  spelled minus n b h e =
-      place-back (readDigits 14) at (fixed 14 n) n _ 14 (b ∷ s) (fixed-length 14 n) (rw (fixed-back 14 n (omega arith)))
-      ∙ place-back (readMinus plus) (at + 14) (b ∷ []) minus _ 1 s refl e
+module _ {B : Type 0} (plus at : ℕ) (s : List ℕ) (k : Signed → Said B) where
+  spelled : (minus : Bool) (n b : ℕ) → n ≤ most14 → slice at 14 s ≡ fixed 14 n → slice (at + 14) 1 s ≡ b ∷ [] → readMinus plus (b ∷ []) ≡ value minus
+      → onSigned plus at s k ≡ k (signed minus n)
+  unfolding onSigned onField readDigits or51
+  spelled minus n b h d g e = rw (d, fixed-back 14 n (omega arith), g, e) refl
 
   -- minus before fourteen zeros is read as zero
-  pub field-zero : readSigned plus at (fixed 14 0 ++ (45 ∷ s)) k ≡ k (number false 0) (at + 14 + 1) s
+  pub field-zero : slice at 14 s ≡ fixed 14 0 → slice (at + 14) 1 s ≡ 45 ∷ [] → onSigned plus at s k ≡ k (number false 0)
   unfolding readMinus pick
-  field-zero = spelled true 0 45 (omega arith) refl ∙ rw (minus-zero true)
+  field-zero d g = spelled true 0 45 (omega arith) d g refl ∙ ap k (minus-zero true)
 
   sign-back : (minus : Bool) → (plus ≡ 45 → ⊥) → readMinus plus (pick minus 45 plus ∷ []) ≡ value minus
   unfolding readMinus pick
   sign-back true n = refl
-  sign-back false n = rw (ne-eqb plus 45 n, eq-eqb plus plus refl)
+  sign-back false n = rw (ne-eqb plus 45 n, eq-eqb plus plus refl) refl
 
   -- what fourteen digits and a sign can say is read back from its spelling
-  pub field-back : (x : Signed) → Fourteen x → (plus ≡ 45 → ⊥) → readSigned plus at (spellSigned plus x ++ s) k ≡ k x (at + 14 + 1) s
-  unfolding spellSigned
-  field-back x h n =
-      rw (append-assoc)
-      (spelled (x .minus) (x .size) (pick (x .minus) 45 plus) (h .small) (sign-back (x .minus) n)
-      ∙ rw (signed-same (x .minus) (x .size) (h .some)))
+  pub field-back : (x : Signed) → Fourteen x → (plus ≡ 45 → ⊥) → slice at 14 s ≡ fixed 14 (x .size) → slice (at + 14) 1 s ≡ pick (x .minus) 45 plus ∷ []
+      → onSigned plus at s k ≡ k x
+  field-back x h n d g =
+      spelled (x .minus) (x .size) (pick (x .minus) 45 plus) (h .small) d g (sign-back (x .minus) n)
+      ∙ ap k (signed-same (x .minus) (x .size) (h .some))
 
 -- ---- words of a row
 
@@ -80,28 +76,20 @@ back true n h some =
     let s = some refl in
     let high : 9223372036854775808 ≤ negative n = omega arith in
     let same : negative (negative n) ≡ n = omega arith in
-    rw (le-ltb (negative n) 9223372036854775808 high, same)
+    rw (le-ltb (negative n) 9223372036854775808 high, same) (signed-same true n some)
 back false n h some = rw (lt-ltb n 9223372036854775808 (omega arith))
 
 -- what fourteen digits and a sign can say comes back from its word
 pub word-back : (x : Signed) → Fourteen x → wordSigned (signedWord x) ≡ x
 word-back x h = back (x .minus) (x .size) (h .small) (h .some)
 
--- every word says a number, whose word it is
-pub word-again : (w : ℕ) → w < 18446744073709551616 → signedWord (wordSigned w) ≡ w
-unfolding wordSigned signedWord negative pick
-word-again w h =
-    by-lt w 9223372036854775808
-    (λ l. rw (lt-ltb w 9223372036854775808 l))
-    (λ g. let same : negative (negative w) ≡ w = omega arith in rw (le-ltb w 9223372036854775808 g, same))
-
 -- .. and never minus zero, so a word of at most fourteen digits says what a field can say
-pub word-fourteen : (w : ℕ) → w < 18446744073709551616 → wordSigned w .size ≤ most14 → Fourteen (wordSigned w)
-unfolding wordSigned negative
-word-fourteen w h =
-    either (λ (x : Signed). x .size ≤ most14 → Fourteen x) _
+pub word-fourteen : (w : ℕ) → wordSigned w .size ≤ most14 → Fourteen (wordSigned w)
+unfolding wordSigned signed
+word-fourteen w =
+    either (λ (x : Signed). x .size ≤ most14 → Fourteen x) (ltb w 9223372036854775808)
     (λ t s. record { small = s; some = λ e. absurd (let f : false ≡ true = e in let z : _≡_ {A = ℕ} 0 1 = cc in omega arith) })
-    (λ t s. record { small = s; some = λ e. omega (arith, ltb-false w 9223372036854775808 t) })
+    (λ t s. read-fourteen true (negative w) s)
 
 -- ---- sums
 
@@ -158,9 +146,6 @@ room t ms few h = record { debit = free (t .debit) (at 1) (at 4) (h .debits); cr
 module _ (u d : ℕ) (x : Signed) where
   pub difference-true : isDifference u d x ≡ true → above x + d ≡ u + below x
   difference-true e = eqb-true (above x + d) (u + below x) (sym (difference u d x) ∙ e)
-
-  pub true-difference : above x + d ≡ u + below x → isDifference u d x ≡ true
-  true-difference e = difference u d x ∙ eq-eqb (above x + d) (u + below x) e
 
 same-number : (m k : Bool) (a b : ℕ) → (m ≡ true → 0 < a) → (k ≡ true → 0 < b) → pick m 0 a + pick k b 0 ≡ pick k 0 b + pick m a 0
     → number m a ≡ number k b

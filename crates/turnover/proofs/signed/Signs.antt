@@ -47,9 +47,11 @@ module _ (w : ℕ) where
   unfolding wordSigned
   in-plus h = sym (pick-true _ _ (lt-ltb w 9223372036854775808 h))
 
-  pub in-minus : (r : ℕ) → 9223372036854775808 ≤ w → r ≡ negative w → number true r ≡ wordSigned w
-  unfolding wordSigned
-  in-minus r h e = rw e (sym (pick-false _ _ (le-ltb w 9223372036854775808 h)))
+  pub in-minus : (r : ℕ) → 9223372036854775808 ≤ w → w < 18446744073709551616 → r ≡ negative w → number true r ≡ wordSigned w
+  unfolding wordSigned negative
+  in-minus r h k e =
+      let some : r ≡ 0 → ⊥ = λ z. omega (arith, e) in
+      read-some true r some ∙ rw e (sym (pick-false _ _ (le-ltb w 9223372036854775808 h)))
 
 pub ruleset words = (taken-off, word-minus, word-plus, in-plus, in-minus)
 
