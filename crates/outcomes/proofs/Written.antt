@@ -15,9 +15,9 @@ use Rattle.paper.specs.Judge.{judge}
 use Rattle.paper.specs.Rows.{rowSize, rowsIn, thingsIn}
 use Rattle.paper.specs.Reading.{rowCount}
 use Rattle.paper.specs.Canonical.{canon}
-use Rattle.paper.specs.Writing.{drafted, refusal, draft}
+use Rattle.paper.specs.Writing.{drafted, refusal, Refuses, draft}
 use Rattle.exact.proofs.Main.{exact}
-use Rattle.roundtrip.specs.whole.Carries.{Refuses, headRead, pastWarnings}
+use Rattle.roundtrip.specs.whole.Carries.{headRead, pastWarnings}
 use Rattle.roundtrip.proofs.whole.Main as whole
 use Rattle.roundtrip.proofs.whole.Drafts.{by-draft, draft-known}
 use Rattle.outcomes.specs.Outcomes.{ReadsAs, Hold, WritesAs}

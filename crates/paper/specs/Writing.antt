@@ -1,5 +1,6 @@
 -- The whole answer of writing, and what it leaves in the lent output. Document 01, "Numbers returned". Assumes nothing.
 use Prim.Native.Nat.{ℕ}
+use mathlib.Core.Path.{_≡_}
 use mathlib.Core.List.{List, _++_}
 use lib.Dec.{ltb}
 use lib.ListN.{length, drop}
@@ -19,6 +20,10 @@ use Rattle.paper.specs.Canonical.{canon}
 pub data Draft : Type 0 where
   drafted : List ℕ → Draft
   refusal : ℕ → ℕ → ℕ → Draft
+
+-- writing refuses: with some number, row and field
+abbrev pub Refuses : Draft → Type 0
+Refuses d = (n : ℕ) × (row : ℕ) × (field : ℕ) × (d ≡ refusal n row field)
 
 -- a fault that was found is refused with its number; otherwise the next is tested
 unfoldable pub onVerdict : ℕ → Verdict → Draft → Draft

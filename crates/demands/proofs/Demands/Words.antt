@@ -15,11 +15,11 @@ pub use Rattle.paper.specs.FirstWrong.{AllMet, FirstWrong, properRules, carried
 -- .. and what the contracts of the calls name: the answers of reading and of writing, and the bytes that they leave
 pub use Rattle.paper.specs.Rows.{rowSize, rowsIn, thingsIn}
 pub use Rattle.paper.specs.Reading.{ReadAnswer, refusedAt, rowCount, readAnswer, rowsAfter}
-pub use Rattle.paper.specs.Writing.{Draft, refusal, draft, WriteAnswer, writtenIn, outputAfter}
+pub use Rattle.paper.specs.Writing.{Draft, refusal, Refuses, draft, WriteAnswer, writtenIn, outputAfter}
 pub use Rattle.reader.specs.Named.{lineAnswer}
 -- an answer together with the bytes that are left
 pub use Rattle.outcomes.specs.Outcomes.{ReadsAs, Hold, WritesAs}
-pub use Rattle.roundtrip.specs.whole.Carries.{Refuses, headRead, pastWarnings}
+pub use Rattle.roundtrip.specs.whole.Carries.{headRead, pastWarnings}
 -- when each number is given
 pub use Rattle.outcomes.specs.numbers.Gives.{ReadGives, WriteGives}
 -- a refusal of a file, and the line that holds its byte

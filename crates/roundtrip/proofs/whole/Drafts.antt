@@ -17,9 +17,9 @@ use Rattle.paper.specs.Words.{word}
 use Rattle.paper.specs.Rows.{rowsIn, thingIn, thingsIn}
 use Rattle.paper.specs.Carried.{headerCarried, batchCarried}
 use Rattle.paper.specs.Canonical.{canon}
-use Rattle.paper.specs.Writing.{Draft, drafted, refusal, onVerdict, draftOf, draftWith, draft}
+use Rattle.paper.specs.Writing.{Draft, drafted, refusal, Refuses, onVerdict, draftOf, draftWith, draft}
 use Rattle.paper.proofs.Trees.{batch-things}
-use Rattle.roundtrip.specs.whole.Carries.{FourParts, Passes, Carries, Refuses}
+use Rattle.roundtrip.specs.whole.Carries.{FourParts, Passes, Carries}
 
 -- ---- a file, or a refusal
 

@@ -16,10 +16,10 @@ use Rattle.paper.specs.Spells.{dues}
 use Rattle.paper.specs.Judge.{Accepted, judge}
 use Rattle.paper.specs.Rows.{rowsIn, thingsIn}
 use Rattle.paper.specs.Canonical.{canon}
-use Rattle.paper.specs.Writing.{drafted, draftOf, draft}
+use Rattle.paper.specs.Writing.{drafted, Refuses, draftOf, draft}
 use Rattle.paper.specs.Rewriting.{rewritten}
 use Rattle.exact.proofs.Main.{exact}
-use Rattle.roundtrip.specs.whole.Carries.{FourParts, Passes, Carries, Refuses, headRead, pastWarnings, Exactly}
+use Rattle.roundtrip.specs.whole.Carries.{FourParts, Passes, Carries, headRead, pastWarnings, Exactly}
 use Rattle.roundtrip.proofs.whole.Lines.{each-exactly}
 use Rattle.roundtrip.proofs.whole.Trees.{things-batch}
 use Rattle.roundtrip.proofs.whole.Headers.{head-off, canon-read, passes-read, passes-written}

@@ -11,7 +11,6 @@ use Rattle.paper.specs.Lines.{Line}
 use Rattle.paper.specs.Proper.{fine, headerProper, batchProper}
 use Rattle.paper.specs.Carried.{headerCarried, batchCarried}
 use Rattle.paper.specs.Spells.{Due, Reads}
-use Rattle.paper.specs.Writing.{Draft, refusal}
 
 -- Every item has four parts. Rows always say such items; a list of things need not.
 abbrev pub FourParts : List Thing → Type 0
@@ -32,10 +31,6 @@ pub record Passes (sh : Sheet) (today : ℕ) (h : Header) (ts : List Thing) : Ty
 -- the sheet carries the batch with the header on that day
 abbrev pub Carries : Sheet → ℕ → Header → Batch → Type 0
 Carries sh today h b = Passes sh today h (things b)
-
--- writing refuses: with some number, row and field
-abbrev pub Refuses : Draft → Type 0
-Refuses d = (n : ℕ) × (row : ℕ) × (field : ℕ) × (d ≡ refusal n row field)
 
 -- what reading gives of a header that was written: on a sheet without one (C), zeros and a name of spaces
 unfoldable pub headRead : Sheet → Header → Header
