@@ -11,13 +11,7 @@ pub fn put_row(rows: &mut [u8], at: usize, words: [u64; 24]) -> usize
     requires { ⌜ at + 192 ≤ length (now rows) ⌝ }
     ensures { λ r. ⌜ Wrote (now (rows .entry)) at (wordsBytes words) (now (rows .exit)) r ⌝ }
 {
-    let mut next = at;
-    let mut i = 0;
-    while i < 24 {
-        next = out::word::put_word(rows, next, words[i]);
-        i += 1;
-    }
-    next
+    out::word::put_words(rows, at, &words)
 }
 
 // The row of an account file.

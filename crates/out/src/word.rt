@@ -1,9 +1,9 @@
 // Little-endian words in lent bytes: eight bytes each, the lowest first.
 ghost use mathlib.Core.Path.{_≡_};
-ghost use Prim.Native.Nat.{_+_, _≤_};
+ghost use Prim.Native.Nat.{_+_, _*_, _≤_};
 ghost use lib.ListN.{length};
 ghost use Rattle.base.specs.Put.{Wrote};
-ghost use Rattle.paper.specs.Words.{wordBytes};
+ghost use Rattle.paper.specs.Words.{wordBytes, wordsBytes};
 ghost use Rattle.out.specs.word.Places.{wordHere};
 
 // The word whose bytes begin at `at`. The compiler makes one load of the eight.
@@ -41,4 +41,18 @@ pub fn put_word(rows: &mut [u8], at: usize, x: u64) -> usize
     rows[at + 6] = (g % 256) as u8;
     rows[at + 7] = (h % 256) as u8;
     at + 8
+}
+
+// Writes words one after the other, the first at `at`, and returns the next place.
+pub fn put_words(rows: &mut [u8], at: usize, words: &[u64]) -> usize
+    requires { ⌜ at + 8 * length (now words) ≤ length (now rows) ⌝ }
+    ensures { λ r. ⌜ Wrote (now (rows .entry)) at (wordsBytes (now (words .entry))) (now (rows .exit)) r ⌝ }
+{
+    let mut next = at;
+    let mut i = 0;
+    while i < words.len() {
+        next = put_word(rows, next, words[i]);
+        i += 1;
+    }
+    next
 }

@@ -5,12 +5,12 @@ use Prim.Native.Nat.{ℕ, _+_, _*_, _≤_, _<_}
 use native.Mathlib.Numerals.{add-one}
 use native.Mathlib.Omega.{arith}
 use lib.ListN.{length, take, getD, length-take}
-use lib.Seq.{take-suc}
+use lib.Seq.{take-suc, take-all}
 use Rattle.base.specs.Put.{Wrote}
 use Rattle.base.proofs.Put.{_then_}
 use Rattle.paper.specs.Words.{wordBytes, wordsBytes}
 use Rattle.out.proofs.put.Room.{wrote-length, wrote-none}
 use Rattle.out.proofs.word.Laws.{words-length, words-append}
 
 -- the first i + 1 words are the first i and one more
 words-next : (ws : List ℕ) (i : ℕ) → i < length ws → wordsBytes (take (i + 1) ws) ≡ wordsBytes (take i ws) ++ wordBytes 8 (getD ws i 0)
@@ -37,3 +37,9 @@ module _ (o o1 ws : List ℕ) (at p i : ℕ) (v : Wrote o at (wordsBytes (take i
   -- one word more
   pub row-next : (o2 : List ℕ) (q : ℕ) → i < length ws → Wrote o1 p (wordBytes 8 (getD ws i 0)) o2 q → Wrote o at (wordsBytes (take (i + 1) ws)) o2 q
   row-next o2 q h w = rw (words-next ws i h) (v then w)
+
+  -- all are put
+  pub row-all : length ws ≤ i → Wrote o at (wordsBytes ws) o1 p
+  row-all h = rw (take-all i ws h) at v
+
+pub ruleset puts = (row-first, row-room, row-next, row-all)
