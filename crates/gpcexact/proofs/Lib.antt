@@ -1,0 +1,10 @@
+pub mod Things
+pub mod Closing
+pub mod Runs
+pub mod Told
+pub mod Main
+pub mod Stops
+pub mod Faults
+pub mod Fields
+pub mod Places
+pub mod Named
