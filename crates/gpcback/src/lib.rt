@@ -1,0 +1,1 @@
+// What is written is read back: records and rows of statements, and their spelling. No code.
