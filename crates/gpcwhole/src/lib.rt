@@ -1,0 +1,1 @@
+// What both calls on statements answer, told of the files and the rows themselves. No code.
