@@ -1,0 +1,3 @@
+pub mod Tested
+pub mod Words
+pub mod Puts
