@@ -18,6 +18,7 @@ STANDING = {
     # the demands, and what users quote of them
     "demands/proofs/Demands": "*",
     "demands/proofs/Corollaries": "*",
+    "demands/proofs/Statements": "*",
     # functions that make the calls as a user does, so that the calls' promises are used
     "demands/src/lib": "*",
     # document 01's cases and its sample run, and worked examples of each rule, computed from the definitions
@@ -35,14 +36,8 @@ STANDING = {
     "outcomes/proofs/firstwrong/Main": ("header-proper", "rows-proper", "header-carried", "rows-carried"),
     # the whole walk of refusal 20, without a sheet: no call has it yet; requests that export, join and pair batches are to call it
     "rows/src/walk": ("proper_rows",),
-    # the internal form of an account: what W-204's calls will use, with its laws and worked examples
-    "internal/src/lib": ("read_internal", "put_internal"),
-    "internal/proofs/Laws": "*",
+    # worked examples of a statement's fields
     "internal/proofs/Examples": "*",
-    # what W-204's calls will use: the fields of a statement, its sums and their laws
-    "turnover/src/lib": ("debit_is", "credit_is"),
-    "turnover/src/signed": ("in_word",),
-    "turnover/proofs/Laws": "*",
     "turnover/proofs/Edges": "*",
     # contracts that are no equations leave one answer all the same
     "reader/proofs/Determined": ("finds-one",),
@@ -253,7 +248,7 @@ def spoken(files):
     """the files of definitions whose words say what is proved: those of the demands' statements and of the contracts of the calls and of
     the functions that make them, and from there on down"""
     todo = []
-    for key in ("demands/proofs/Demands", "demands/proofs/Corollaries"):
+    for key in ("demands/proofs/Demands", "demands/proofs/Corollaries", "demands/proofs/Statements"):
         stated = (line.split("-- ")[0] for line in files[key].lines if not re.match(r"\s*[^\s:]+( [^\s:]+)* = ", line))
         todo += named(files, files[key], set().union(*map(words, stated)))
     for line in files["demands/proofs/Demands/Words"].lines:

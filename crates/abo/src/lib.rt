@@ -3,16 +3,19 @@
 use explain::AboText;
 use read::AboAnswer;
 use reader::AboLine;
+use statement::reading::AboStatement;
 use write::AboWritten;
 ghost use mathlib.Core.Path.{_≡_};
 ghost use lib.ListN.{length};
 ghost use Rattle.paper.specs.Reading.{readAnswer, rowsAfter};
 ghost use Rattle.paper.specs.Writing.{draft, writtenIn, outputAfter};
 ghost use Rattle.paper.specs.Explaining.{explanation};
+ghost use Rattle.gpc.specs.Answers.{statementAnswer, statementRows, statementDraft};
 ghost use Rattle.read.specs.Told.{told as toldRead};
 ghost use Rattle.write.specs.Told.{told as toldWritten, headerOf};
 ghost use Rattle.explain.specs.Told.{told as toldText, textAnswer};
 ghost use Rattle.reader.specs.Named.{told as toldLine, lineAnswer};
+ghost use Rattle.statement.specs.reading.Told.{told as toldStatement};
 
 // Reads a file on a sheet (1 K, 2 S, 3 C, 4 E) with today's date, YYYYMMDD, into lent rows. A refusal leaves the rows as they were.
 #[no_mangle]
@@ -58,4 +61,22 @@ pub extern "C" fn abo_line(file: &[u8], line: u64) -> AboLine
     ensures { λ r. ⌜ toldLine r ≡ lineAnswer line (now (file .entry)) ⌝ }
 {
     reader::line_of(file, line)
+}
+
+// Reads a file of statements (GPC records 074 and 075) into lent rows. A refusal leaves the rows as they were.
+#[no_mangle]
+pub extern "C" fn abo_statement_read(file: &[u8], rows: &mut [u8]) -> AboStatement
+    ensures { λ r. ⌜ toldStatement r ≡ statementAnswer (now (file .entry)) (now (rows .entry)) ⌝ }
+    ensures { λ _. ⌜ now (rows .exit) ≡ statementRows (now (file .entry)) (now (rows .entry)) ⌝ }
+{
+    statement::reading::read_statements(file, rows)
+}
+
+// Writes the statements that lent rows hold into a lent output. A refusal leaves the output as it was.
+#[no_mangle]
+pub extern "C" fn abo_statement_write(rows: &[u8], out: &mut [u8]) -> AboWritten
+    ensures { λ r. ⌜ toldWritten r ≡ writtenIn (length (now (out .entry))) (statementDraft (now (rows .entry))) ⌝ }
+    ensures { λ _. ⌜ now (out .exit) ≡ outputAfter (now (out .entry)) (statementDraft (now (rows .entry))) ⌝ }
+{
+    statement::writing::write_statements(rows, out)
 }

@@ -2,3 +2,4 @@ pub mod Twice
 pub mod Round
 pub mod Demands
 pub mod Corollaries
+pub mod Statements

@@ -14,6 +14,11 @@ use Rattle.read.specs.declared.AboAnswer.{AboAnswer}
 use Rattle.read.specs.Told.{told as toldRead}
 use Rattle.write.specs.declared.AboWritten.{AboWritten}
 use Rattle.write.specs.Told.{told as toldWritten}
+use Rattle.gpc.specs.Answers.{statementAnswer, statementRows, statementDraft}
+use Rattle.gpcwhole.specs.Outcomes.{ComesBack as StatementsComeBack}
+use Rattle.gpcwhole.proofs.Back.{comes-back as statements-back}
+use Rattle.statement.specs.declared.reading.AboStatement.{AboStatement}
+use Rattle.statement.specs.reading.Told.{told as toldStatement}
 
 -- the first n bytes are n, where there are as many
 pub front-counted : (n : ℕ) (o : List ℕ) → n ≤ length o → n ≡ length (take n o)
@@ -41,3 +46,17 @@ returned sheet today h rows texts out lent o left w a e x p q small z =
     let zero : writtenIn (length out) d .number ≡ 0 = ap (λ (r : WriteAnswer). r .number) (sym e) ∙ z in
     let long = length-take-le (writtenIn (length out) d .bytes) (outputAfter out d) (written-inside out d zero) in
     rw (p, q, x, n) (comes-back sheet today h rows texts out lent d refl zero (omega (arith, long, written-inside out d zero, rw x at small)))
+
+-- ---- statements
+
+pub statements-returned : (rows out lent o left : List ℕ) (w : AboWritten) (a : AboStatement)
+    → toldWritten w ≡ writtenIn (length out) (statementDraft rows)
+    → o ≡ outputAfter out (statementDraft rows)
+    → toldStatement a ≡ statementAnswer (take (w .bytes) o) lent
+    → left ≡ statementRows (take (w .bytes) o) lent
+    → w .number ≡ 0
+    → StatementsComeBack rows (take (w .bytes) o) lent (toldStatement a) left
+statements-returned rows out lent o left w a e x p q z =
+    let n : w .bytes ≡ writtenIn (length out) (statementDraft rows) .bytes = ap (λ (r : WriteAnswer). r .bytes) e in
+    let zero : writtenIn (length out) (statementDraft rows) .number ≡ 0 = ap (λ (r : WriteAnswer). r .number) (sym e) ∙ z in
+    rw (p, q, x, n) (statements-back rows out lent zero)

@@ -17,6 +17,10 @@ use Rattle.explain.proofs.Determined as explain
 use Rattle.reader.specs.declared.AboLine.{AboLine}
 use Rattle.reader.specs.Named.{told as toldLine, lineAnswer}
 use Rattle.reader.proofs.Determined as reader
+use Rattle.gpc.specs.Answers.{statementAnswer, statementRows}
+use Rattle.statement.specs.declared.reading.AboStatement.{AboStatement}
+use Rattle.statement.specs.reading.Told.{told as toldStatement}
+use Rattle.statement.proofs.reading.Determined as statement
 
 -- ---- reading: l and m are the rows lent
 
@@ -40,6 +44,14 @@ explained-alike d l m a b e x y = explain.told-one a b (x ∙ ap (λ (z : List �
 
 pub output-alike : (d : Draft) (l m o p : List ℕ) → l ≡ m → o ≡ outputAfter l d → p ≡ outputAfter m d → o ≡ p
 output-alike d l m o p e x y = x ∙ ap (λ (z : List ℕ). outputAfter z d) e ∙ sym y
+
+-- ---- reading statements: l and m are the rows lent
+
+pub statements-alike : (f l m : List ℕ) (a b : AboStatement) → l ≡ m → toldStatement a ≡ statementAnswer f l → toldStatement b ≡ statementAnswer f m → a ≡ b
+statements-alike f l m a b e x y = statement.told-one a b (x ∙ ap (λ (z : List ℕ). statementAnswer f z) e ∙ sym y)
+
+pub statement-rows-alike : (f l m r q : List ℕ) → l ≡ m → r ≡ statementRows f l → q ≡ statementRows f m → r ≡ q
+statement-rows-alike f l m r q e x y = x ∙ ap (λ (z : List ℕ). statementRows f z) e ∙ sym y
 
 -- ---- finding a line
 

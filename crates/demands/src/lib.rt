@@ -2,6 +2,7 @@
 use explain::AboText;
 use read::AboAnswer;
 use reader::AboLine;
+use statement::reading::AboStatement;
 use write::AboWritten;
 ghost use mathlib.Core.Path.{_≡_};
 ghost use Prim.Native.Nat.{_≤_, _<_};
@@ -10,6 +11,9 @@ ghost use Rattle.paper.specs.Reading.{readAnswer, rowsAfter};
 ghost use Rattle.read.specs.Told.{told as toldRead};
 ghost use Rattle.write.specs.Told.{headerOf};
 ghost use Rattle.outcomes.specs.Outcomes.{ComesBack};
+ghost use Rattle.gpc.specs.Answers.{statementAnswer, statementRows};
+ghost use Rattle.gpcwhole.specs.Outcomes.{ComesBack as StatementsComeBack};
+ghost use Rattle.statement.specs.reading.Told.{told as toldStatement};
 
 // two answers of reading
 pub struct TwoReadings {
@@ -164,4 +168,63 @@ pub fn write_and_read(
     }
     let read = read_front(out, written.bytes, sheet, today, back);
     Returned { written, read }
+}
+
+// ---- statements
+
+// two answers of reading statements
+pub struct TwoStatementReadings {
+    pub first: AboStatement,
+    pub second: AboStatement,
+}
+
+// Reads a file of statements twice, into rows that were lent alike.
+pub fn statement_read_twice(file: &[u8], a: &mut [u8], b: &mut [u8]) -> TwoStatementReadings
+    requires { ⌜ now a ≡ now b ⌝ }
+    ensures { λ r. ⌜ r .first ≡ r .second ⌝ }
+    ensures { λ _. ⌜ now (a .exit) ≡ now (b .exit) ⌝ }
+{
+    let first = abo::abo_statement_read(file, a);
+    let second = abo::abo_statement_read(file, b);
+    TwoStatementReadings { first, second }
+}
+
+// Writes statements twice, into outputs that were lent alike.
+pub fn statement_write_twice(rows: &[u8], a: &mut [u8], b: &mut [u8]) -> TwoWritings
+    requires { ⌜ now a ≡ now b ⌝ }
+    ensures { λ r. ⌜ r .first ≡ r .second ⌝ }
+    ensures { λ _. ⌜ now (a .exit) ≡ now (b .exit) ⌝ }
+{
+    let first = abo::abo_statement_write(rows, a);
+    let second = abo::abo_statement_write(rows, b);
+    TwoWritings { first, second }
+}
+
+// the answers of writing statements, and of reading what was written
+pub struct StatementsReturned {
+    pub written: AboWritten,
+    pub read: AboStatement,
+}
+
+// Reads the first bytes of an output as statements.
+fn statement_read_front(out: &[u8], len: u64, back: &mut [u8]) -> AboStatement
+    requires { ⌜ len ≤ length (now out) ⌝ }
+    ensures { λ r. ⌜ toldStatement r ≡ statementAnswer (take len (now (out .entry))) (now (back .entry)) ⌝ }
+    ensures { λ _. ⌜ now (back .exit) ≡ statementRows (take len (now (out .entry))) (now (back .entry)) ⌝ }
+{
+    let n = len as usize;
+    abo::abo_statement_read(&out[..n], back)
+}
+
+// Writes statements, and reads the written file; of rows that are refused, no bytes.
+pub fn statement_write_and_read(rows: &[u8], out: &mut [u8], back: &mut [u8]) -> StatementsReturned
+    ensures { λ r. ⌜ (r .written .number ≡ 0 → StatementsComeBack (now (rows .entry)) (take (r .written .bytes) (now (out .exit))) (now (back .entry)) (toldStatement (r .read)) (now (back .exit))) ⌝ }
+{
+    let written = abo::abo_statement_write(rows, out);
+    if written.number != 0 {
+        let read = statement_read_front(out, 0, back);
+        return StatementsReturned { written, read };
+    }
+    let read = statement_read_front(out, written.bytes, back);
+    StatementsReturned { written, read }
 }

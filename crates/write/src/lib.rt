@@ -38,7 +38,7 @@ pub enum BatchJudged {
 }
 
 // A refusal writes nothing and names no bytes.
-fn refusal(number: u64, row: u64, field: u64) -> AboWritten
+pub fn refusal(number: u64, row: u64, field: u64) -> AboWritten
     ensures { λ r. ⌜ told r ≡ refusedAt number row field ⌝ }
 {
     AboWritten {
@@ -50,7 +50,7 @@ fn refusal(number: u64, row: u64, field: u64) -> AboWritten
 }
 
 // The file's bytes: written with 0, needed with 16.
-fn counted(number: u64, bytes: u64) -> AboWritten
+pub fn counted(number: u64, bytes: u64) -> AboWritten
     ensures { λ r. ⌜ told r ≡ countedAs number bytes ⌝ }
 {
     AboWritten {

@@ -1,0 +1,4 @@
+pub mod Judging
+pub mod Answering
+pub mod Filling
+pub mod Determined

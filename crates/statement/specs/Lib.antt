@@ -1,0 +1,4 @@
+pub mod Forms
+pub mod run
+pub mod reading
+pub mod writing
