@@ -1,6 +1,7 @@
 /*
- * Reading, writing and explaining Czech ABO (.kpc) payment files for the bank sheets K, S, C and E, and finding their lines: four
- * calls, the rows that they take and give, and the numbers that they return.  For C99 and later and for C++; link with libabo.a.
+ * Reading, writing and explaining Czech ABO (.kpc) payment files for the bank sheets K, S, C and E, finding their lines, and reading
+ * and writing statements (GPC records 074 and 075): six calls, the rows that they take and give, and the numbers that they return.
+ * For C99 and later and for C++; link with libabo.a.
  *
  * Days.  Every day is a number YYYYMMDD: the 2nd of January 2018 is 20180102.  So is `today`, which the caller gives with each
  * call, because the library never asks the clock; it must be a real day of 2000 to 2099.
@@ -12,9 +13,9 @@
  * Refusals.  A call that returns another number than 0 has changed none of the lent bytes.  An accepted one has changed only
  * the rows or bytes that it counts in its answer; what is lent beyond them stays as it was.
  *
- * Byte order.  Rows are lent as bytes: 24 words of 64 bits, each with its lowest byte first, whatever the machine.  Where
- * the machine's own order is the same, as on x86-64, an array of `union abo_row` is lent as it lies, which abo_read_rows and
- * abo_write_rows do:
+ * Byte order.  Rows are lent as bytes: words of 64 bits, each with its lowest byte first, whatever the machine; 24 of them, and in
+ * statements eight and then bytes of the record.  Where the machine's own order is the same, as on x86-64, an array of `union abo_row`
+ * or `union abo_statement_row` is lent as it lies, which abo_read_rows, abo_write_rows and their kin do:
  *
  *     union abo_row rows[1000];
  *     struct abo_answer a = abo_read_rows(file, len, ABO_SHEET_K, 20180101, rows, 1000);
@@ -42,8 +43,8 @@ extern "C" {
 /* ---- Version: the first part grows when a program must be changed to go on working, the second when something is added ---- */
 
 #define ABO_VERSION_MAJOR 1
-#define ABO_VERSION_MINOR 2
-#define ABO_VERSION "1.2"
+#define ABO_VERSION_MINOR 3
+#define ABO_VERSION "1.3"
 
 /* ---- Sheets: which bank's rules a file is judged by ---- */
 
@@ -75,18 +76,26 @@ enum abo_number {
     ABO_TOO_MANY = 15,       /* one item or account file more than a file may have */
     ABO_NO_ROOM = 16,        /* the lent room is too small; the answer says how much is needed */
     ABO_NOT_A_BATCH = 20,    /* writing: rows or header are no batch, whatever the sheet */
-    ABO_NOT_CARRIED = 21     /* writing: a batch, but no file of this sheet can carry it */
+    ABO_NOT_CARRIED = 21,    /* writing: a batch, but no file of this sheet can carry it */
+    ABO_BAD_RECORD = 50,     /* statements: a record or row is missing, cut short, of another type, or a movement before any head */
+    ABO_BAD_VALUE = 51,      /* statements: a field is not its digits, sign or code, or in writing passes its digits */
+    ABO_BAD_TURNOVER = 52,   /* statements: a turnover is not what the statement's movements add up to */
+    ABO_BAD_BALANCE = 53     /* statements: the new balance is not the old one less debit plus credit */
 };
 
 /* ---- Rows: the batch in order, an account file, its groups, behind each group its items ---- */
 
 enum abo_size {
-    ABO_ROW_WORDS = 24,     /* words of a row */
+    ABO_ROW_WORDS = 24,     /* words of a row of a batch */
     ABO_ROW_BYTES = 192,    /* bytes of a row */
     ABO_PARTS = 4,          /* message parts of an item */
     ABO_TEXT_BYTES = 35,    /* most bytes of a message part, or of an item's name */
     ABO_NAME_BYTES = 20,    /* bytes of the header's name, always all of them */
-    ABO_EXPLAIN_BYTES = 65  /* room that is enough for every line of abo_explain */
+    ABO_EXPLAIN_BYTES = 65, /* room that is enough for every line of abo_explain */
+
+    ABO_RECORD_BYTES = 130,        /* bytes of a statement's record, its CR LF among them */
+    ABO_STATEMENT_WORDS = 8,       /* words of a statement's row that are numbers; bytes of the record follow */
+    ABO_STATEMENT_ROW_BYTES = 136  /* bytes of a statement's row */
 };
 
 enum abo_row_kind {
@@ -207,9 +216,10 @@ struct abo_answer abo_read(const uint8_t *file, size_t len, uint64_t sheet,
 /* ---- Writing ---- */
 
 struct abo_written {
-    uint64_t number; /* 0, 1, 2, 16, 20 or 21 */
-    uint64_t row;    /* with 20 and 21: the row, from 1, or 0 for the header, else 0 */
-    uint64_t field;  /* with 20 and 21: enum abo_field, or enum abo_header_field where the row is 0, else 0 */
+    uint64_t number; /* 0, 1, 2, 16, 20 or 21; of statements 0, 16 or 50 to 53 */
+    uint64_t row;    /* with 20, 21 and 50 to 53: the row, from 1, or 0 for the header, else 0 */
+    uint64_t field;  /* with 20 and 21: enum abo_field, or enum abo_header_field where the row is 0; with 50 to 53:
+                        enum abo_statement_field; else 0 */
     uint64_t bytes;  /* accepted: bytes written; with 16: bytes needed; else 0 */
 };
 
@@ -285,8 +295,111 @@ struct abo_found {
 };
 
 /* Finds the line of a number, counted from 1 as in refusals; the file's end counts as one line more, which is empty.  A refusal
-   with 3 to 15 always has its line found, and its byte lies in that line or right behind the line's last byte. */
+   with 3 to 15 always has its line found, and its byte lies in that line or right behind the line's last byte.  It is not for
+   statements, whose records end by their length. */
 struct abo_found abo_line(const uint8_t *file, size_t len, uint64_t line);
+
+/* ---- Statements: GPC records 074, a statement's head, and 075, its movements ---- */
+
+/* A file is one or more statements, each a head and its movements, if it has any.  A record is 128 bytes and CR LF and stands in one
+   row.  Its numbers are words of the row; its other bytes, which have no rule, are kept in the row as they are. */
+enum abo_statement_row_kind {
+    ABO_STATEMENT_HEAD = 74,    /* record 074 */
+    ABO_STATEMENT_MOVEMENT = 75 /* record 075, of the head above */
+};
+
+/* The code of a movement.  What is reversed is taken off again: debit turnover is the sum of 1 less that of 4, credit turnover the sum
+   of 2 less that of 5, and the new balance is the old one less the debit turnover plus the credit turnover. */
+enum abo_code {
+    ABO_CODE_DEBIT = 1,
+    ABO_CODE_CREDIT = 2,
+    ABO_CODE_DEBIT_REVERSED = 4,
+    ABO_CODE_CREDIT_REVERSED = 5
+};
+
+/* Words of a statement's row, which abo_statement_write names fields by: prefix and base of an account are told apart.  ABO_FIELD_ROW,
+   as a fault: missing, cut short, of no such kind, or a movement before any head. */
+enum abo_statement_field {
+    ABO_HEAD_PREFIX = 1,      /* head: account's prefix, below 10^6 */
+    ABO_HEAD_BASE = 2,        /* head: account's base, below 10^10 */
+    ABO_HEAD_OLD_BALANCE = 3, /* head: old balance in haler, below 10^14 either way */
+    ABO_HEAD_NEW_BALANCE = 4, /* head: new balance, so too */
+    ABO_HEAD_DEBIT = 5,       /* head: debit turnover, so too */
+    ABO_HEAD_CREDIT = 6,      /* head: credit turnover, so too */
+
+    ABO_MOVEMENT_PREFIX = 1,       /* movement: account's prefix */
+    ABO_MOVEMENT_BASE = 2,         /* movement: account's base; it need not be the head's */
+    ABO_MOVEMENT_OTHER_PREFIX = 3, /* movement: the other account's prefix */
+    ABO_MOVEMENT_OTHER_BASE = 4,   /* movement: the other account's base */
+    ABO_MOVEMENT_AMOUNT = 5,       /* movement: amount in haler, below 10^12 */
+    ABO_MOVEMENT_CODE = 6,         /* movement: enum abo_code */
+    ABO_MOVEMENT_VARIABLE = 7      /* movement: variable symbol, below 10^10 */
+};
+
+/* Bytes are the bank's own, in its character set, and no zero byte ends them.  Days are DDMMRR. */
+struct abo_statement_head {
+    uint64_t row; /* ABO_STATEMENT_HEAD */
+    struct abo_account account;
+    int64_t old_balance, new_balance, debit, credit;
+    uint64_t unused_word;                      /* what is unused is 0 when read, and not looked at when written */
+    uint8_t name[20], old_day[6];              /* short name of the account; day of the old balance */
+    uint8_t number[3], posted_day[6], rest[14]; /* the statement's number and day; what the bank adds */
+    uint8_t unused[23];
+};
+
+struct abo_statement_movement {
+    uint64_t row; /* ABO_STATEMENT_MOVEMENT */
+    struct abo_account account, other;
+    uint64_t amount, code, variable;
+    uint8_t document[13];               /* number of the document */
+    uint8_t constant[10], specific[10]; /* symbols; the first has the other account's bank in its digits 3 to 6 */
+    uint8_t value_day[6], text[20];     /* day of the value; what the bank says besides, as the other's name */
+    uint8_t change, kind[4], due_day[6]; /* code of a change; kind of data; day due, or taken off */
+    uint8_t unused[2];
+};
+
+/* One row of a statement.  `word[ABO_FIELD_ROW]` says which of both views it has. */
+union abo_statement_row {
+    uint64_t word[ABO_STATEMENT_ROW_BYTES / 8];
+    struct abo_statement_head head;
+    struct abo_statement_movement movement;
+};
+
+struct abo_statement_answer {
+    uint64_t number; /* 0, 16 or 50 to 53 */
+    uint64_t line;   /* with 50 to 53: the record, from 1, else 0; it begins at byte ABO_RECORD_BYTES * (line - 1) */
+    uint64_t byte;   /* with 50 to 53: place of the fault in the file, from 0, else 0 */
+    uint64_t rows;   /* accepted: rows filled, one for each record, else 0 */
+    uint64_t needed; /* with 16: rows (not bytes) needed, else 0 */
+};
+
+/* Reads statements into lent rows, which keep no place of the file.  `rows_len` counts bytes, of which only whole rows are used.  The
+   byte of a refusal is the record's first with 50, the field's or sign's with 51, and with 52 and 53 that of the turnover or new balance
+   in the statement's head. */
+struct abo_statement_answer abo_statement_read(const uint8_t *file, size_t len,
+                                               uint8_t *rows, size_t rows_len);
+
+/* Writes the records that rows hold: their one spelling, ABO_RECORD_BYTES for each row.  `rows_len` counts bytes; bytes behind the
+   last whole row are refused as a row that is cut short.  The answer's number is 0, 16 or 50 to 53, and of the last four each has a row and
+   an enum abo_statement_field. */
+struct abo_written abo_statement_write(const uint8_t *rows, size_t rows_len,
+                                       uint8_t *out, size_t out_len);
+
+/* The same two calls on an array of rows, counted in rows. */
+static inline struct abo_statement_answer
+abo_statement_read_rows(const uint8_t *file, size_t len,
+                        union abo_statement_row *rows, size_t count)
+{
+    return abo_statement_read(file, len, (uint8_t *)rows, count * sizeof *rows);
+}
+
+static inline struct abo_written
+abo_statement_write_rows(const union abo_statement_row *rows, size_t count,
+                         uint8_t *out, size_t out_len)
+{
+    return abo_statement_write((const uint8_t *)rows, count * sizeof *rows, out,
+                               out_len);
+}
 
 /* ---- The layout, held against the compiler's ---- */
 
@@ -317,11 +430,40 @@ ABO_HOLDS(item_constant, ABO_AT(abo_item_row, constant, ABO_ITEM_CONSTANT));
 ABO_HOLDS(item_priority, ABO_AT(abo_item_row, priority, ABO_ITEM_PRIORITY));
 ABO_HOLDS(item_part, ABO_AT(abo_item_row, part, ABO_ITEM_PART_1));
 ABO_HOLDS(item_name, ABO_AT(abo_item_row, name, ABO_ITEM_NAME));
+ABO_HOLDS(statement_row, sizeof(union abo_statement_row) == ABO_STATEMENT_ROW_BYTES);
+ABO_HOLDS(statement_head, sizeof(struct abo_statement_head) == ABO_STATEMENT_ROW_BYTES);
+ABO_HOLDS(statement_movement, sizeof(struct abo_statement_movement) == ABO_STATEMENT_ROW_BYTES);
+ABO_HOLDS(head_account, ABO_AT(abo_statement_head, account, ABO_HEAD_PREFIX));
+ABO_HOLDS(head_old_balance, ABO_AT(abo_statement_head, old_balance, ABO_HEAD_OLD_BALANCE));
+ABO_HOLDS(head_new_balance, ABO_AT(abo_statement_head, new_balance, ABO_HEAD_NEW_BALANCE));
+ABO_HOLDS(head_debit, ABO_AT(abo_statement_head, debit, ABO_HEAD_DEBIT));
+ABO_HOLDS(head_credit, ABO_AT(abo_statement_head, credit, ABO_HEAD_CREDIT));
+ABO_HOLDS(head_kept, ABO_AT(abo_statement_head, name, ABO_STATEMENT_WORDS));
+ABO_HOLDS(head_old_day, offsetof(struct abo_statement_head, old_day) == 84);
+ABO_HOLDS(head_number, offsetof(struct abo_statement_head, number) == 90);
+ABO_HOLDS(head_posted_day, offsetof(struct abo_statement_head, posted_day) == 93);
+ABO_HOLDS(head_rest, offsetof(struct abo_statement_head, rest) == 99);
+ABO_HOLDS(head_unused, offsetof(struct abo_statement_head, unused) == 113);
+ABO_HOLDS(movement_account, ABO_AT(abo_statement_movement, account, ABO_MOVEMENT_PREFIX));
+ABO_HOLDS(movement_other, ABO_AT(abo_statement_movement, other, ABO_MOVEMENT_OTHER_PREFIX));
+ABO_HOLDS(movement_amount, ABO_AT(abo_statement_movement, amount, ABO_MOVEMENT_AMOUNT));
+ABO_HOLDS(movement_code, ABO_AT(abo_statement_movement, code, ABO_MOVEMENT_CODE));
+ABO_HOLDS(movement_variable, ABO_AT(abo_statement_movement, variable, ABO_MOVEMENT_VARIABLE));
+ABO_HOLDS(movement_kept, ABO_AT(abo_statement_movement, document, ABO_STATEMENT_WORDS));
+ABO_HOLDS(movement_constant, offsetof(struct abo_statement_movement, constant) == 77);
+ABO_HOLDS(movement_specific, offsetof(struct abo_statement_movement, specific) == 87);
+ABO_HOLDS(movement_value_day, offsetof(struct abo_statement_movement, value_day) == 97);
+ABO_HOLDS(movement_text, offsetof(struct abo_statement_movement, text) == 103);
+ABO_HOLDS(movement_change, offsetof(struct abo_statement_movement, change) == 123);
+ABO_HOLDS(movement_kind, offsetof(struct abo_statement_movement, kind) == 124);
+ABO_HOLDS(movement_due_day, offsetof(struct abo_statement_movement, due_day) == 128);
+ABO_HOLDS(movement_unused, offsetof(struct abo_statement_movement, unused) == 134);
 ABO_HOLDS(header, sizeof(struct abo_header) == 56 && offsetof(struct abo_header, name) == 32);
 ABO_HOLDS(answer, sizeof(struct abo_answer) == 104 && offsetof(struct abo_answer, header) == 48);
 ABO_HOLDS(written, sizeof(struct abo_written) == 32);
 ABO_HOLDS(text, sizeof(struct abo_text) == 16);
 ABO_HOLDS(found, sizeof(struct abo_found) == 24);
+ABO_HOLDS(statement_answer, sizeof(struct abo_statement_answer) == 40);
 
 #undef ABO_AT
 #undef ABO_HOLDS

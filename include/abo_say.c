@@ -1,4 +1,4 @@
-/* One table for each thing that has words: numbers, rows, fields, sheets, kinds of account files.  docs/NUMBERS.md and docs/RULES.md
+/* One table for each thing that has words: numbers, rows, fields, records, codes, sheets, kinds of account files.  docs/NUMBERS.md and docs/RULES.md
    say all of it at length. */
 #include "abo_say.h"
 
@@ -31,6 +31,11 @@ static const struct number_words numbers[] = {
     NUMBER(ABO_NO_ROOM, "the room that was lent is too small"),
     NUMBER(ABO_NOT_A_BATCH, "this is no batch on any sheet"),
     NUMBER(ABO_NOT_CARRIED, "no file of this sheet can carry it"),
+    NUMBER(ABO_BAD_RECORD,
+           "a record of 128 bytes and CR LF is due here that begins with 074, or with 075 below the head of its statement"),
+    NUMBER(ABO_BAD_VALUE, "these are not the digits, the sign or the code that the field has, or the number has too many digits"),
+    NUMBER(ABO_BAD_TURNOVER, "the turnover is not what the statement's movements add up to"),
+    NUMBER(ABO_BAD_BALANCE, "the new balance is not the old one less the debit turnover plus the credit turnover"),
 };
 
 const char *abo_say_number(uint64_t number)
@@ -52,8 +57,10 @@ const char *abo_say_row(uint64_t row)
         [ABO_ROW_FILE] = "account file",
         [ABO_ROW_GROUP] = "group",
         [ABO_ROW_ITEM] = "item",
+        [ABO_STATEMENT_HEAD] = "head of a statement",
+        [ABO_STATEMENT_MOVEMENT] = "movement",
     };
-    return row < COUNT_OF(words) ? words[row] : "row of no known kind";
+    return row < COUNT_OF(words) && words[row] != NULL ? words[row] : "row of no known kind";
 }
 
 struct field_words {
@@ -93,10 +100,37 @@ static const struct field_words fields[][ABO_ROW_WORDS] = {
                       [ABO_ITEM_NAME] = {"the name", A_TEXT}},
 };
 
+#define A_PREFIX "at most 6 digits"
+#define A_BASE "at most 10 digits"
+#define A_SUM "at most 999999999999.99 crowns, above zero or below"
+
+static const struct field_words head_fields[ABO_STATEMENT_WORDS] = {
+    [ABO_HEAD_PREFIX] = {"the account's prefix", A_PREFIX},
+    [ABO_HEAD_BASE] = {"the account's base", A_BASE},
+    [ABO_HEAD_OLD_BALANCE] = {"the old balance", A_SUM},
+    [ABO_HEAD_NEW_BALANCE] = {"the new balance", A_SUM},
+    [ABO_HEAD_DEBIT] = {"the debit turnover", A_SUM},
+    [ABO_HEAD_CREDIT] = {"the credit turnover", A_SUM},
+};
+
+static const struct field_words movement_fields[ABO_STATEMENT_WORDS] = {
+    [ABO_MOVEMENT_PREFIX] = {"the account's prefix", A_PREFIX},
+    [ABO_MOVEMENT_BASE] = {"the account's base", A_BASE},
+    [ABO_MOVEMENT_OTHER_PREFIX] = {"the other account's prefix", A_PREFIX},
+    [ABO_MOVEMENT_OTHER_BASE] = {"the other account's base", A_BASE},
+    [ABO_MOVEMENT_AMOUNT] = {"the amount", "at most 9999999999.99 crowns"},
+    [ABO_MOVEMENT_CODE] = {"the posting code", "1, 2, 4 or 5"},
+    [ABO_MOVEMENT_VARIABLE] = {"the variable symbol", "at most 10 digits"},
+};
+
 static const struct field_words *words_of(uint64_t row, uint64_t field)
 {
     static const struct field_words none = {NULL, NULL};
-    return row < COUNT_OF(fields) && field < ABO_ROW_WORDS ? &fields[row][field] : &none;
+    if (row < COUNT_OF(fields) && field < ABO_ROW_WORDS)
+        return &fields[row][field];
+    if (row == ABO_STATEMENT_HEAD && field < ABO_STATEMENT_WORDS)
+        return &head_fields[field];
+    return row == ABO_STATEMENT_MOVEMENT && field < ABO_STATEMENT_WORDS ? &movement_fields[field] : &none;
 }
 
 const char *abo_say_field(uint64_t row, uint64_t field)
@@ -147,6 +181,52 @@ const char *abo_say_items(uint64_t kind)
 {
     static const char *const words[] = {"payments", "collections", "priority payments", "instant payments"};
     return kind >= 1501 && kind - 1501 < COUNT_OF(words) ? words[kind - 1501] : "items";
+}
+
+#define AN_INTERNAL "16 digits in the order of the internal form"
+#define A_SUM_FIELD "14 digits"
+
+static const struct abo_record_words head_record[] = {
+    {3, 16, "the account", AN_INTERNAL},
+    {45, 14, "the old balance", A_SUM_FIELD},
+    {59, 1, "the sign of the old balance", "+ or -"},
+    {60, 14, "the new balance", A_SUM_FIELD},
+    {74, 1, "the sign of the new balance", "+ or -"},
+    {75, 14, "the debit turnover", A_SUM_FIELD},
+    {89, 1, "the sign of the debit turnover", "0 or -"},
+    {90, 14, "the credit turnover", A_SUM_FIELD},
+    {104, 1, "the sign of the credit turnover", "0 or -"},
+};
+
+static const struct abo_record_words movement_record[] = {
+    {3, 16, "the account", AN_INTERNAL},
+    {19, 16, "the other account", AN_INTERNAL},
+    {48, 12, "the amount", "12 digits"},
+    {60, 1, "the posting code", "1, 2, 4 or 5"},
+    {61, 10, "the variable symbol", "10 digits"},
+};
+
+const struct abo_record_words *abo_say_record(uint64_t row, uint64_t place)
+{
+    const struct abo_record_words *words = row == ABO_STATEMENT_HEAD ? head_record : movement_record;
+    size_t count = row == ABO_STATEMENT_HEAD ? COUNT_OF(head_record) : COUNT_OF(movement_record);
+    if (row != ABO_STATEMENT_HEAD && row != ABO_STATEMENT_MOVEMENT)
+        return NULL;
+    for (size_t i = 0; i < count; i++)
+        if (words[i].place == place)
+            return &words[i];
+    return NULL;
+}
+
+const char *abo_say_code(uint64_t code)
+{
+    static const char *const words[] = {
+        [ABO_CODE_DEBIT] = "debit",
+        [ABO_CODE_CREDIT] = "credit",
+        [ABO_CODE_DEBIT_REVERSED] = "reversed debit",
+        [ABO_CODE_CREDIT_REVERSED] = "reversed credit",
+    };
+    return code < COUNT_OF(words) ? words[code] : NULL;
 }
 
 const struct abo_sheet_words *abo_say_sheet(uint64_t sheet)
