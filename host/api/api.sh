@@ -1,6 +1,6 @@
 #!/bin/sh
-# The page docs/C-API.md against what it speaks of: its program is host/api/example.c word by word, which compiles and prints what
-# the page says, also of a batch that is refused; its commands work as they stand; its names are in the headers, and their functions
+# The page docs/C-API.md against what it speaks of: its programs are host/api/example.c and host/api/example_statement.c word by word, which
+# compile and print what the page says, also of a batch or statement that is refused; its commands work as they stand; its names are in the headers, and their functions
 # in the page; the archive has no state. The last line is 'N passed, M failed', and the exit status is 0 only if nothing failed.
 # host/target.sh names the variables.
 set -u
@@ -48,6 +48,14 @@ by_the_page() { # the page's commands, in a folder of their own that has its pro
     (cd "$work/by_hand" && sh -eu link.sh) >"$work/printed" && tr -d '\r' <"$work/printed" | diff "$work/said" -
 }
 
+of_statements() { # the page's second program, of a statement that is accepted and of one that is refused
+    # shellcheck disable=SC2086
+    $cc -std=c99 -O2 $strict -pedantic -Iinclude $static -o "$work/of_statements" host/api/example_statement.c include/abo_say.c "$lib" &&
+        $run "$work/of_statements" <host/statements/pond.gpc | diff "$work/said_statement" - &&
+        ! $run "$work/of_statements" <host/statements/document_003.gpc 2>"$work/told" >"$work/printed" &&
+        diff "$work/said_statement_refused" "$work/told" && [ ! -s "$work/printed" ]
+}
+
 symbols() { # TYPES: names of this archive that nm gives one of these types
     "$($cc -print-prog-name=nm)" "$lib" | awk -v types="^[$1]$" 'NF > 1 && $(NF - 1) ~ types { print $NF }' | sort -u
 }
@@ -63,6 +71,9 @@ in_header() { # NAME: is declared, as a whole word
 block example.c >"$work/shown.c"
 block printed >"$work/said"
 block refused >"$work/said_refused"
+block example_statement.c >"$work/shown_statement.c"
+block 'statement printed' >"$work/said_statement"
+block 'statement refused' >"$work/said_statement_refused"
 sed 's/}, 800, /}, 0, /' host/api/example.c >"$work/spoilt.c"
 check "the page's program is host/api/example.c" diff host/api/example.c "$work/shown.c"
 for standard in c99 c11; do
@@ -72,6 +83,8 @@ done
 check "the example without a payee's bank" compile c99 "$work/spoilt.c"
 check "the example without a payee's bank says what the page says" refused
 check "the page's commands work" by_the_page
+check "the page's second program is host/api/example_statement.c" diff host/api/example_statement.c "$work/shown_statement.c"
+check "the page's second program prints what the page says" of_statements
 check "the archive has no state and calls nothing but memcpy" no_state
 # names of files apart
 for name in $(sed 's/[a-z_]*\.[ch]//g' "$page" | grep -oE '\b(ABO|abo)_[A-Za-z0-9_]+' | sort -u); do

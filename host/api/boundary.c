@@ -12,6 +12,7 @@
 #include "../../peer/peer.h"
 #include "../call/lines.h"
 #include "page.h"
+#include "small_statement.h"
 
 enum { ROWS = 6, ROOM = 4096 };
 
@@ -24,9 +25,9 @@ static uint64_t word_at(const void *from, size_t offset)
 }
 
 /* Which words of each kind of answer were anything but 0. */
-enum kind { ANSWER, WRITTEN, TEXT, FOUND, KINDS };
+enum kind { ANSWER, WRITTEN, TEXT, FOUND, STATEMENT, KINDS };
 enum { MOST_WORDS = 10 };
-static const size_t words_of[KINDS] = {10, 4, 2, 3};
+static const size_t words_of[KINDS] = {10, 4, 2, 3, 5};
 static bool seen[KINDS][MOST_WORDS];
 
 static void check_words(enum kind kind, const char *what, const void *answer, const uint64_t *due)
@@ -189,6 +190,53 @@ static void check_lines(void)
     free(l.list);
 }
 
+/* ---- Statements ---- */
+
+static uint8_t statement[SMALL_FILE]; /* as the second program writes it */
+
+/* The rows differ from each other and from the file in every count and byte, so that no slice is taken for another. */
+static void check_statement_read(const char *what, size_t len, size_t room)
+{
+    static uint8_t out[ROOM], due_out[ROOM];
+    memset(out, 0xa5, sizeof out);
+    memset(due_out, 0xa5, sizeof due_out);
+    struct abo_statement_answer a = abo_statement_read(statement, len, out, room);
+    struct peer_statement_answer p = peer_statement_read(statement, len, due_out, room);
+    const uint64_t due[] = {p.number, p.line, p.byte, p.rows, p.needed};
+    check_words(STATEMENT, what, &a, due);
+    check(memcmp(out, due_out, sizeof out) == 0, what, "the rows are the second program's");
+}
+
+static void check_statement_write(const char *what, const union abo_statement_row *from, size_t len, size_t room)
+{
+    static uint8_t out[ROOM], due_out[ROOM];
+    memset(out, 0xa5, sizeof out);
+    memset(due_out, 0xa5, sizeof due_out);
+    struct abo_written w = abo_statement_write((const uint8_t *)from, len, out, room);
+    struct peer_written p = peer_statement_write((const uint8_t *)from, len, due_out, room);
+    const uint64_t due[] = {p.number, p.row, p.field, p.bytes};
+    check_words(WRITTEN, what, &w, due);
+    check(memcmp(out, due_out, sizeof out) == 0, what, "the output is the second program's");
+}
+
+static void check_statements(void)
+{
+    static union abo_statement_row small[SMALL_RECORDS];
+    make_small_statement(small);
+    struct peer_written p = peer_statement_write((const uint8_t *)small, sizeof small, statement, sizeof statement);
+    check(p.number == ABO_ACCEPTED && p.bytes == sizeof statement, "a statement", "is written by the second program");
+    check_statement_read("a statement", sizeof statement, ROOM);
+    check_statement_read("a statement with no room", sizeof statement, sizeof small - 1);
+    check_statement_read("a statement cut short", sizeof statement - 1, ROOM);
+    check_statement_write("a statement's rows", small, sizeof small, ROOM);
+    check_statement_write("a statement's rows with no room", small, sizeof small, sizeof statement - 1);
+    check_statement_write("a statement's rows cut short", small, sizeof small - 1, ROOM);
+    small[1].movement.code = 3;
+    check_statement_write("a statement's rows with a wrong code", small, sizeof small, ROOM);
+    statement[ABO_RECORD_BYTES + 60] = '3';
+    check_statement_read("a statement with a wrong code", sizeof statement, ROOM);
+}
+
 /* A field that is 0 in every answer would be tested by nothing. */
 static void check_all_seen(void)
 {
@@ -207,6 +255,7 @@ int main(void)
     check_explain("an explanation of a refusal", ABO_SHEET_S, 20180101, ABO_EXPLAIN_BYTES);
     check_explain("a day in the sheet's place", 20180101, ABO_SHEET_K, ABO_EXPLAIN_BYTES);
     check_lines();
+    check_statements();
     check_all_seen();
     return last_line();
 }

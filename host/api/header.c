@@ -2,8 +2,9 @@
  * The public header against the pages that describe it: the word and the name
  * of each field against docs/ROWS.md, the numbers returned and their names
  * against docs/NUMBERS.md, the answers against what the library gives, and the
- * header's own functions against the calls.  It is C99 and C++11 alike, and
- * host/api/header.sh builds it as both.
+ * header's own functions against the calls.  statement_rows.c has the same for
+ * statements.  It is C99 and C++11 alike, and host/api/header.sh builds it as
+ * both.
  *
  *   header docs/ROWS.md docs/NUMBERS.md
  */
@@ -106,7 +107,9 @@ static struct numbered numbers[] = {
     RETURNED(ABO_BAD_PAYEE_BANK), RETURNED(ABO_BAD_DIGIT),
     RETURNED(ABO_BAD_TEXT),       RETURNED(ABO_TOO_MANY),
     RETURNED(ABO_NO_ROOM),        RETURNED(ABO_NOT_A_BATCH),
-    RETURNED(ABO_NOT_CARRIED),
+    RETURNED(ABO_NOT_CARRIED),    RETURNED(ABO_BAD_RECORD),
+    RETURNED(ABO_BAD_VALUE),      RETURNED(ABO_BAD_TURNOVER),
+    RETURNED(ABO_BAD_BALANCE),
 };
 
 /* Do these words begin the cell, and end where one of its words does? */
@@ -201,7 +204,7 @@ static void check_rows_page(const char *path)
             continue;
         else if (table == ROWS_TABLE)
             next = check_row(cells, count, next);
-        else
+        else if (table == HEADER_TABLE)
             check_numbered(header_fields, COUNT_OF(header_fields), cells[1],
                            cells[0]);
     }

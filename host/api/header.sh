@@ -1,7 +1,7 @@
 #!/bin/sh
 # The public headers: they compile without a warning as C99, C11, C17, C++11 and C++17, the layout is that of docs/ROWS.md, the names
 # are those of docs/NUMBERS.md, and abo.h's own assertions refuse another layout; abo_say.c compiles as C99, and has words for
-# everything. The last line is 'N passed, M failed', and the exit status is 0 only if nothing failed. host/target.sh names the variables.
+# everything, for the records of docs/RULES.md too. The last line is 'N passed, M failed', and the exit status is 0 only if nothing failed. host/target.sh names the variables.
 set -u
 cd "$(dirname "$0")/../.." || exit 2
 . host/target.sh
@@ -55,10 +55,17 @@ done
 for standard in c99 c11 c++11; do
     tested header "$standard" docs/ROWS.md docs/NUMBERS.md
     tested say "$standard" include/abo.h docs/ROWS.md
+    tested statement_rows "$standard" docs/ROWS.md
+    tested say_statement "$standard" docs/ROWS.md docs/RULES.md
 done
 wrong 'two fields of an item exchanged' 's/uint64_t bank, amount,/uint64_t amount, bank,/'
 wrong 'a field that is missing' 's/uint64_t due;//'
 wrong 'a row one word too long' 's/uint64_t unused\[3\]/uint64_t unused[4]/'
 wrong 'an answer one word too long' 's/uint64_t bytes;/uint64_t bytes, more;/'
+wrong 'two fields of a movement exchanged' 's/uint64_t amount, code,/uint64_t code, amount,/'
+wrong 'two balances exchanged' 's/int64_t old_balance, new_balance,/int64_t new_balance, old_balance,/'
+wrong 'kept bytes of a movement one too few' 's/uint8_t document\[13\]/uint8_t document[12]/'
+wrong 'kept bytes of a head one too many' 's/rest\[14\]/rest[15]/'
+wrong "a statement's answer one word too short" 's/uint64_t needed; .*else 0 .*$//'
 wrong 'a line found with one word too few' 's/uint64_t at; //'
 last_line

@@ -65,17 +65,27 @@ static inline int cells_of(char *line, char *cells[CELLS])
 }
 
 /* The tables of docs/ROWS.md, known by their first cell. */
-enum rows_table { NO_TABLE, ROWS_TABLE, HEADER_TABLE };
+enum rows_table {
+    NO_TABLE,
+    ROWS_TABLE,
+    HEADER_TABLE,
+    STATEMENT_TABLE,
+    HEAD_TABLE,
+    MOVEMENT_TABLE
+};
 
 /* The table that a line with these cells is in, after a line of `table`. */
 static inline enum rows_table table_of(enum rows_table table, char **cells,
                                        int count)
 {
+    static const char *const names[] = {NULL, "word", "field", "statement word",
+                                        "head's byte", "movement's byte"};
     if (count == 0)
         return NO_TABLE;
-    if (strcmp(cells[0], "word") == 0)
-        return ROWS_TABLE;
-    return strcmp(cells[0], "field") == 0 ? HEADER_TABLE : table;
+    for (size_t i = ROWS_TABLE; i < COUNT_OF(names); i++)
+        if (strcmp(cells[0], names[i]) == 0)
+            return (enum rows_table)i;
+    return table;
 }
 
 #endif

@@ -3,8 +3,9 @@
  * name; every field that docs/ROWS.md names has a noun and what it may hold,
  * and nothing else has; each field that the library refuses on a sheet alone
  * has words for what that sheet carries, and no other; every sheet has its
- * letter, its bank and the code that the library writes.  C99 and C++11 alike;
- * host/api/header.sh builds it as both, over abo_say.c as C.
+ * letter, its bank and the code that the library writes.  say_statement.c has
+ * the words of statements.  C99 and C++11 alike; host/api/header.sh builds it as
+ * both, over abo_say.c as C.
  *
  *   say include/abo.h docs/ROWS.md
  */
@@ -66,7 +67,7 @@ static void check_numbers(const char *header)
         }
     }
     fclose(f);
-    check(count > 0 && next == ABO_NOT_CARRIED + 1, header,
+    check(count > 0 && next == ABO_BAD_BALANCE + 1, header,
           "has the numbers up to the last");
     check(is_clause(none), "a number that is none", "has a clause, too");
     for (size_t i = 0; i < COUNT_OF(odd); i++)

@@ -7,6 +7,8 @@
 #include <stdio.h>
 #include <string.h>
 
+_Static_assert((int)NARROW_STACKS == (int)CALLS, "each call has a stack of its own");
+
 unsigned long edge_counts[CALLS][NUMBERS];
 
 /* The work on the narrow stack takes no arguments, so they lie here. */
@@ -96,14 +98,20 @@ struct outcome check_edges(struct scene *s, const char *what, uint64_t seed,
 
 void report_edges(void)
 {
-    printf("number    read   write explain    line\n");
+    printf("number");
+    for (unsigned which = 0; which < CALLS; which++)
+        printf(" %15s", call_names[which]);
+    printf("\n");
     for (unsigned number = 0; number < NUMBERS; number++) {
-        const unsigned long of[CALLS] = {
-            edge_counts[READS][number], edge_counts[WRITES][number],
-            edge_counts[EXPLAINS][number], edge_counts[FINDS][number]};
-        if (of[READS] + of[WRITES] + of[EXPLAINS] + of[FINDS] > 0)
-            printf("%6u %7lu %7lu %7lu %7lu\n", number, of[READS], of[WRITES],
-                   of[EXPLAINS], of[FINDS]);
+        unsigned long all = 0;
+        for (unsigned which = 0; which < CALLS; which++)
+            all += edge_counts[which][number];
+        if (all == 0)
+            continue;
+        printf("%6u", number);
+        for (unsigned which = 0; which < CALLS; which++)
+            printf(" %15lu", edge_counts[which][number]);
+        printf("\n");
     }
     for (unsigned which = 0; which < CALLS; which++)
         printf("stack used by abo_%s: at most %zu of %d bytes\n",

@@ -1,5 +1,5 @@
 /*
- * An attack on the four calls.  Every slice is lent at the edge of a page that
+ * An attack on the six calls.  Every slice is lent at the edge of a page that
  * nobody may touch, of no length at times, or at NULL; slices to be read lie
  * over one another; numbers come from all 64 bits; files and rows are valid,
  * next to valid, or without sense.  Each call is made on a stack of 64 KiB and
@@ -20,6 +20,8 @@
 #include "../generate/large.h"
 #include "../generate/plan.h"
 #include "../generate/seeds.h"
+#include "../generate/spoil_statement.h"
+#include "../generate/statements.h"
 #include "../generate/wild.h"
 #include "ask_edges.h"
 
@@ -289,6 +291,67 @@ static void attack_file(void)
     attack_made(what, &made, true);
 }
 
+/* A statement, and at times bytes without sense, a file of another kind, or a
+   part of one. */
+static const char *draw_statement_file(struct text *file)
+{
+    static struct made made;
+    generate_statement(file, roll(&dice));
+    switch (below(&dice, 12)) {
+    case 0:
+        wild_bytes(file, &dice);
+        return "bytes without sense";
+    case 1:
+        file->len = one_in(&dice, 4) ? 0 : below(&dice, file->len + 1);
+        return "a statement cut short";
+    case 2:
+        generate(&made, roll(&dice));
+        text_clear(file);
+        text_bytes(file, made.file.data, made.file.len);
+        return "a batch as a statement";
+    default:
+        return "a statement";
+    }
+}
+
+/* Read, and what was read is written, with a wild word at times. */
+static void attack_statement_file(void)
+{
+    static struct text bytes;
+    const char *what = draw_statement_file(&bytes);
+    struct call c = {.which = READS_STATEMENT};
+    scene.parts_used = 0;
+    c.file = lend_part(0, bytes.data, bytes.len);
+    struct outcome read = ask_rooms(what, &c);
+    if (read.number != ABO_ACCEPTED)
+        return;
+    text_clear(&bytes);
+    text_bytes(&bytes, scene.ours.lent, (size_t)read.written);
+    if (one_in(&dice, 3))
+        wild_statement_word(&bytes, &dice);
+    c.which = WRITES_STATEMENT;
+    c.file = lend_part(1, bytes.data, bytes.len);
+    ask_rooms("what was read of a statement", &c);
+}
+
+static void attack_statement_rows(void)
+{
+    static struct text rows;
+    const char *what = "a statement's rows";
+    draw_statement(&rows, roll(&dice));
+    if (one_in(&dice, 8)) {
+        what = "a statement's rows without sense";
+        wild_statement_rows(&rows, &dice);
+    } else if (one_in(&dice, 2)) {
+        what = "a statement's rows with a wild word";
+        wild_statement_word(&rows, &dice);
+    }
+    struct call c = {.which = WRITES_STATEMENT};
+    scene.parts_used = 0;
+    c.file = lend_part(0, rows.data, rows.len);
+    ask_rooms(what, &c);
+}
+
 /* At the limits on counts, and one past them: no generated file is as long. */
 static void attack_bulks(void)
 {
@@ -311,7 +374,9 @@ static void attack_bulks(void)
    one that it can give must have come. */
 static void report(struct seeds seeds)
 {
-    static const uint32_t can_come[CALLS] = {0x1ffff, 0x310007, 0x10001, 3};
+    static const uint64_t statements = UINT64_C(0xf) << 50 | 0x10001;
+    const uint64_t can_come[CALLS] = {0x1ffff,    0x310007,   0x10001, 3,
+                                      statements, statements};
     bool tested = are_enough(seeds, ENOUGH);
     report_edges();
     for (unsigned which = 0; which < CALLS; which++)
@@ -337,6 +402,10 @@ int main(int argc, char **argv)
             attack_file();
         else
             attack_rows();
+        if (round_seed % 4 == 0) /* these take fewer rounds, having few ways */
+            attack_statement_file();
+        else if (round_seed % 4 == 2)
+            attack_statement_rows();
     }
     report(seeds);
     return last_line();

@@ -1,7 +1,8 @@
 /*
- * The four calls on stacks of 64 KiB, on the files with the most lines of each
+ * The six calls on stacks of 64 KiB, on the files with the most lines of each
  * kind and on the corner files: each is explained, read and, if it says a batch,
- * written again, and its lines are walked to the last.  Code that calls itself
+ * written again, and its lines are walked to the last; on statements of many
+ * records and on many statements, which are read and written.  Code that calls itself
  * once a line, or keeps a line on the stack, does not come back from these.
  *
  *   stack [0 [SEED [STEP]]]     as seeds.h says; nothing is generated
@@ -20,6 +21,7 @@
 #include "../generate/large.h"
 #include "../generate/limits.h"
 #include "../generate/seeds.h"
+#include "../generate/statements.h"
 #include "ask_edges.h"
 #include "narrow.h"
 
@@ -109,6 +111,29 @@ static void test_bulks(struct seeds seeds, unsigned sheet)
     text_free(&made.file);
 }
 
+/* Statements, read and written again as the same bytes. */
+static void test_statements(void)
+{
+    static const struct {
+        size_t statements, movements;
+    } list[] = {{1, 100000}, {100000, 0}, {30000, 2}, {300, 300}};
+    struct text file = {0};
+    for (unsigned i = 0; i < COUNT_OF(list); i++) {
+        put_many_statements(&file, list[i].statements, list[i].movements);
+        struct call c = call_of_statement(READS_STATEMENT, &file);
+        c.file = lend_part(0, file.data, file.len);
+        struct outcome read = ask_exact("statements", i, &c);
+        c.which = WRITES_STATEMENT;
+        c.file = lend_part(0, scene.ours.lent, (size_t)read.written);
+        struct outcome w = ask_exact("rows of statements", i, &c);
+        check(read.number == ABO_ACCEPTED && w.number == ABO_ACCEPTED &&
+                  w.written == file.len &&
+                  memcmp(scene.ours.lent, file.data, file.len) == 0,
+              "a large statement is not read, or not written as it was");
+    }
+    text_free(&file);
+}
+
 /* Work that takes a little more than there is must not come back, or nothing
    above would say anything. */
 static void too_deep(void)
@@ -145,6 +170,7 @@ int main(int argc, char **argv)
             test_file("corner file", i, &made);
     }
     text_free(&made.file);
+    test_statements();
     report_edges();
     test_guard();
     return last_line();

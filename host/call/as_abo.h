@@ -28,4 +28,11 @@ static inline struct abo_text text_of_peer(struct peer_text t)
     return (struct abo_text){t.number, t.bytes};
 }
 
+static inline struct abo_statement_answer
+statement_of_peer(struct peer_statement_answer a)
+{
+    return (struct abo_statement_answer){a.number, a.line, a.byte, a.rows,
+                                         a.needed};
+}
+
 #endif

@@ -4,7 +4,9 @@
 #include <stdio.h>
 #include <string.h>
 
-const char *const call_names[CALLS] = {"read", "write", "explain", "line"};
+const char *const call_names[CALLS] = {
+    "read", "write", "explain", "line", "statement_read", "statement_write",
+};
 
 struct outcome outcome_of_answer(const struct abo_answer *a)
 {
@@ -45,6 +47,16 @@ struct outcome outcome_of_found(const struct abo_found *f)
     return (struct outcome){.number = f->found, .words = {f->at, f->len}};
 }
 
+struct outcome outcome_of_statement(const struct abo_statement_answer *a)
+{
+    return (struct outcome){
+        .number = a->number,
+        .words = {a->line, a->byte, a->rows, a->needed},
+        .written = a->number == 0 ? a->rows * ABO_STATEMENT_ROW_BYTES : 0,
+        .needed = a->needed * ABO_STATEMENT_ROW_BYTES,
+    };
+}
+
 bool same_outcome(const struct outcome *a, const struct outcome *b)
 {
     return a->number == b->number &&
@@ -72,7 +84,7 @@ void show_call(const struct call *c, size_t room, bool at_null)
            call_names[c->which], (unsigned long long)c->sheet,
            (unsigned long long)c->today, room, at_null ? " at NULL" : "",
            (unsigned long long)c->line);
-    show_bytes(c->which == WRITES ? "rows" : "file", c->file.bytes,
+    show_bytes(takes_rows(c->which) ? "rows" : "file", c->file.bytes,
                c->file.len);
     if (c->which == WRITES) {
         printf("  date %llu client %llu from %llu to %llu\n",

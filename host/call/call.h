@@ -1,11 +1,13 @@
-/* Any of the four calls and its answer as values, whoever is asked. */
+/* Any of the six calls and its answer as values, whoever is asked. */
 #ifndef HOST_CALL_H
 #define HOST_CALL_H
 
 #include <abo.h>
 #include <stdbool.h>
 
-enum which { READS, WRITES, EXPLAINS, FINDS, CALLS };
+enum which {
+    READS, WRITES, EXPLAINS, FINDS, READS_STATEMENT, WRITES_STATEMENT, CALLS
+};
 extern const char *const call_names[CALLS];
 
 struct slice {
@@ -14,8 +16,9 @@ struct slice {
 };
 
 /* The arguments but for the room.  Texts, name and the four numbers are
-   writing's, and its rows lie where the others have the file.  The line is
-   that to be found, which takes no sheet, day or room. */
+   writing's, and its rows lie where the others have the file, as those of
+   writing a statement do.  The line is that to be found, which takes no sheet,
+   day or room; statements take no sheet and day. */
 struct call {
     enum which which;
     struct slice file, texts, name;
@@ -25,12 +28,12 @@ struct call {
 };
 
 /* The header's words are the last four. */
-enum { HEADER_WORDS = 5, OUTCOME_WORDS = 9, NUMBERS = ABO_NOT_CARRIED + 1 };
+enum { HEADER_WORDS = 5, OUTCOME_WORDS = 9, NUMBERS = ABO_BAD_BALANCE + 1 };
 
 /* The answer of any call: reading's line, byte, rows, warnings, needed and the
-   header's four numbers; writing's row, field and bytes; explaining's bytes;
-   of a line its place and length, and as the number 1 if it was found, else
-   0. */
+   header's four numbers; writing's row, field and bytes, of statements too;
+   explaining's bytes; of a line its place and length, and as the number 1 if it
+   was found, else 0; of reading a statement line, byte, rows and needed. */
 struct outcome {
     uint64_t number, words[OUTCOME_WORDS];
     uint8_t name[ABO_NAME_BYTES];
@@ -44,6 +47,18 @@ struct outcome outcome_of_answer(const struct abo_answer *a);
 struct outcome outcome_of_written(const struct abo_written *w);
 struct outcome outcome_of_text(const struct abo_text *t);
 struct outcome outcome_of_found(const struct abo_found *f);
+struct outcome outcome_of_statement(const struct abo_statement_answer *a);
+
+/* Does the call take rows in the place of a file; is it about a statement? */
+static inline bool takes_rows(enum which which)
+{
+    return which == WRITES || which == WRITES_STATEMENT;
+}
+
+static inline bool of_statement(enum which which)
+{
+    return which == READS_STATEMENT || which == WRITES_STATEMENT;
+}
 
 bool same_outcome(const struct outcome *a, const struct outcome *b);
 bool same_header(const struct abo_header *a, const struct abo_header *b);

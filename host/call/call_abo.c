@@ -1,5 +1,18 @@
 #include "call_abo.h"
 
+static struct outcome call_statement(const struct call *c, uint8_t *out,
+                                     size_t room)
+{
+    if (c->which == READS_STATEMENT) {
+        struct abo_statement_answer a =
+            abo_statement_read(c->file.bytes, c->file.len, out, room);
+        return outcome_of_statement(&a);
+    }
+    struct abo_written w =
+        abo_statement_write(c->file.bytes, c->file.len, out, room);
+    return outcome_of_written(&w);
+}
+
 struct outcome call_abo(const struct call *c, uint8_t *out, size_t room)
 {
     if (c->which == READS) {
@@ -18,6 +31,8 @@ struct outcome call_abo(const struct call *c, uint8_t *out, size_t room)
         struct abo_found f = abo_line(c->file.bytes, c->file.len, c->line);
         return outcome_of_found(&f);
     }
+    if (of_statement(c->which))
+        return call_statement(c, out, room);
     struct abo_text t = abo_explain(c->file.bytes, c->file.len, c->sheet,
                                     c->today, out, room);
     return outcome_of_text(&t);

@@ -25,3 +25,8 @@ struct call call_of_draft(const struct draft *draft)
         .today = draft->today,
     };
 }
+
+struct call call_of_statement(enum which which, const struct text *bytes)
+{
+    return (struct call){.which = which, .file = {bytes->data, bytes->len}};
+}

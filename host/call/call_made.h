@@ -9,6 +9,9 @@
 /* A file to be read or explained, or to find a line in. */
 struct call call_of_made(enum which which, const struct made *made);
 
+/* A statement to be read, or its rows to be written. */
+struct call call_of_statement(enum which which, const struct text *bytes);
+
 /* A batch to be written. */
 struct call call_of_draft(const struct draft *draft);
 

@@ -2,6 +2,19 @@
 #include "as_abo.h"
 #include "lines.h"
 
+static struct outcome call_statement(const struct call *c, uint8_t *out,
+                                     size_t room)
+{
+    if (c->which == READS_STATEMENT) {
+        struct abo_statement_answer a = statement_of_peer(
+            peer_statement_read(c->file.bytes, c->file.len, out, room));
+        return outcome_of_statement(&a);
+    }
+    struct abo_written w = written_of_peer(
+        peer_statement_write(c->file.bytes, c->file.len, out, room));
+    return outcome_of_written(&w);
+}
+
 struct outcome call_peer(const struct call *c, uint8_t *out, size_t room)
 {
     if (c->which == READS) {
@@ -22,6 +35,8 @@ struct outcome call_peer(const struct call *c, uint8_t *out, size_t room)
         struct abo_found f = line_numbered(&lines, c->line);
         return outcome_of_found(&f);
     }
+    if (of_statement(c->which))
+        return call_statement(c, out, room);
     struct abo_text t = text_of_peer(peer_explain(
         c->file.bytes, c->file.len, c->sheet, c->today, out, room));
     return outcome_of_text(&t);

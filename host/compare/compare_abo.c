@@ -7,6 +7,10 @@
  *                                              The last three are empty if the file is refused
  *   compare_abo make SHEET KIND BYTES          a valid file of about so many bytes (host/generate/sized.h names the kinds)
  *   compare_abo generate SEED FILE             puts the file of a seed there; prints the sheet and the day to read it with
+ *   compare_abo statement FILE                 a line for each movement: what it does to the balance, the balance behind it and the
+ *                                              variable symbol, divided by commas; or `refused N record R byte B`
+ *   compare_abo make_statement BYTES           a valid statement file of about so many bytes
+ *   compare_abo generate_statement SEED FILE   puts the statement file of a seed there
  *
  * SHEET is a number, DAY is YYYYMMDD.  The exit status is the tool's: 0 accepted, 1 refused, 2 for a sheet or a day that is
  * none, and for trouble.
@@ -20,6 +24,7 @@
 #include "../../peer/peer.h"
 #include "../generate/generate.h"
 #include "../generate/sized.h"
+#include "../generate/statements.h"
 #include "../generate/words.h"
 
 struct reading {
@@ -203,9 +208,78 @@ static int generate_to(char **argument)
     return whole ? 0 : 2;
 }
 
+static void print_signed(__int128 haler)
+{
+    if (haler < 0)
+        putchar('-');
+    print_crowns(stdout, (unsigned __int128)(haler < 0 ? -haler : haler));
+    putchar(',');
+}
+
+static void print_movements(const struct text *rows)
+{
+    __int128 balance = 0;
+    for (size_t at = 0; at < rows->len; at += ABO_STATEMENT_ROW_BYTES) {
+        union abo_statement_row row;
+        memcpy(&row, rows->data + at, sizeof row);
+        if (row.word[0] == ABO_STATEMENT_HEAD) {
+            balance = row.head.old_balance;
+            continue;
+        }
+        int64_t amount = (int64_t)row.movement.amount;
+        if (row.movement.code == 1 || row.movement.code == 5)
+            amount = -amount;
+        balance += amount;
+        print_signed(amount);
+        print_signed(balance);
+        printf("%" PRIu64 "\n", row.movement.variable);
+    }
+}
+
+static int statement(char **argument)
+{
+    struct text file = {0}, rows = {0};
+    if (!text_load(&file, argument[0]))
+        return 2;
+    text_repeat(&rows, 0, file.len / ABO_RECORD_BYTES * ABO_STATEMENT_ROW_BYTES);
+    struct peer_statement_answer a = peer_statement_read(file.data, file.len, rows.data, rows.len);
+    if (a.number == 0)
+        print_movements(&rows);
+    else
+        printf("refused %" PRIu64 " record %" PRIu64 " byte %" PRIu64 "\n", a.number, a.line, a.byte);
+    text_free(&file);
+    text_free(&rows);
+    return a.number == 0 ? 0 : 1;
+}
+
+static int make_statement(char **argument)
+{
+    struct text file = {0};
+    size_t records = strtoul(argument[0], NULL, 10) / ABO_RECORD_BYTES;
+    put_many_statements(&file, records / 11 + 1, 10);
+    fwrite(file.data, 1, file.len, stdout);
+    text_free(&file);
+    return 0;
+}
+
+static int generate_statement_to(char **argument)
+{
+    struct text file = {0};
+    generate_statement(&file, strtoull(argument[0], NULL, 10));
+    bool whole = text_save(&file, argument[1]);
+    text_free(&file);
+    return whole ? 0 : 2;
+}
+
 int main(int argc, char **argv)
 {
     const char *what = argc > 1 ? argv[1] : "";
+    if (argc == 3 && strcmp(what, "statement") == 0)
+        return statement(argv + 2);
+    if (argc == 3 && strcmp(what, "make_statement") == 0)
+        return make_statement(argv + 2);
+    if (argc == 4 && strcmp(what, "generate_statement") == 0)
+        return generate_statement_to(argv + 2);
     if (argc == 4 && strcmp(what, "generate") == 0)
         return generate_to(argv + 2);
     if (argc == 5 && strcmp(what, "make") == 0)

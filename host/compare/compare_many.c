@@ -3,8 +3,9 @@
  * batches, each in one room.  The library is asked in a server's process, so
  * that it alone is emulated where it must be.
  *
- *   compare_many read|write|explain|line FILES SEED SERVER ..
+ *   compare_many CALL FILES SEED SERVER ..
  *
+ * CALL is read, write, explain, line, statement_read or statement_write.
  * SERVER is how it is started, as qemu-x86_64 build/library_server.
  */
 #include <stdio.h>
@@ -17,6 +18,7 @@
 #include "../generate/draw_draft.h"
 #include "../generate/plan.h"
 #include "../generate/seeds.h"
+#include "../generate/statements.h"
 #include "ask_server.h"
 
 enum { ENOUGH = 20000, ENOUGH_FOR_RARE = 1000000 };
@@ -81,16 +83,33 @@ static void ask_batches(struct seeds seeds)
     free_draft(&draft);
 }
 
+static void ask_statements(struct seeds seeds, enum which which)
+{
+    struct text bytes = {0};
+    for (uint64_t i = 0; i < seeds.count; i++) {
+        if (which == READS_STATEMENT)
+            generate_statement(&bytes, seeds.first + i);
+        else
+            draw_statement(&bytes, seeds.first + i);
+        struct call call = call_of_statement(which, &bytes);
+        ask(seeds.first + i, &call);
+    }
+    text_free(&bytes);
+}
+
 static bool can_come(enum which which, unsigned number)
 {
     if (which == FINDS)
         return number <= 1; /* not found, found */
     if (number == ABO_ACCEPTED || number == ABO_NO_ROOM)
         return true;
+    if (of_statement(which))
+        return number >= ABO_BAD_RECORD;
     if (which == READS)
         return number < ABO_NO_ROOM;
     return which == WRITES &&
-           (number <= ABO_BAD_TODAY || number >= ABO_NOT_A_BATCH);
+           (number <= ABO_BAD_TODAY || number == ABO_NOT_A_BATCH ||
+            number == ABO_NOT_CARRIED);
 }
 
 /* With enough files every number that the call can give must have come; too
@@ -113,14 +132,17 @@ int main(int argc, char **argv)
     while (argc > 4 && which < CALLS && strcmp(argv[1], call_names[which]) != 0)
         which++;
     if (argc <= 4 || which == CALLS) {
-        fprintf(stderr, "compare_many: name read, write, explain or line, how "
-                        "many files, the first seed and the server.\n");
+        fprintf(stderr, "compare_many: name read, write, explain, line, "
+                        "statement_read or statement_write, how many files, "
+                        "the first seed and the server.\n");
         return 2;
     }
     struct seeds seeds = take_seeds(3, argv + 1, 0);
     catch_crashes();
     begin_asking(argv + 4);
-    if (which == WRITES)
+    if (of_statement((enum which)which))
+        ask_statements(seeds, (enum which)which);
+    else if (which == WRITES)
         ask_batches(seeds);
     else
         ask_files(seeds, (enum which)which);

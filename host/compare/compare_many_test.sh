@@ -1,5 +1,5 @@
 #!/bin/sh
-# Compares each of the three calls with the second program's on many files, the library being in a process of its own
+# Compares five of the calls with the second program's on many files, the library being in a process of its own
 # (host/compare/compare_many.c); then sees that wrong answers and a server that ends are found. The last line is 'N passed, M failed'.
 #
 #   host/compare/compare_many_test.sh FILES SEED     so many files for each call, from this seed on
@@ -12,6 +12,7 @@ cd "$(dirname "$0")/../.." || exit 2
 [ $# -eq 2 ] || { sed -n '2,7s/^# \{0,1\}//p' "$0" >&2; exit 2; }
 files=$1
 seed=$2
+calls='read write explain statement_read statement_write'
 build_test library_server wrong_server native/compare_many || exit 2
 
 compare() { # CALL FILES SERVER
@@ -25,11 +26,11 @@ finds_wrong() { # CALL: host/compare/wrong_server.c spoils every hundredth call,
     [ "$last" = "1387 passed, 14 failed" ]
 }
 
-for call in read write explain; do
+for call in $calls; do
     echo "$call:"
     add "$call" compare "$call" "$files" "$build/library_server"
 done
-for call in read write explain; do
+for call in $calls; do
     check "each wrong answer is found, and no other: $call" finds_wrong "$call"
 done
 check "a server that ends at once is found" refuses "$build/native/compare_many" read 1 "$seed" true

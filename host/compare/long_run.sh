@@ -1,11 +1,11 @@
 #!/bin/sh
-# The long comparison of the library with the second program (host/compare/compare_many.c): each of the three calls on so many files, from this
+# The long comparison of the library with the second program (host/compare/compare_many.c): each of five calls on so many files, from this
 # seed on, one call after another, its files in equal parts on all cores. Prints for each the first seed, the files asked for, the calls
 # compared, the differences found and the seconds; below it how often each number came. What was said of differences is kept in
 # build/long_run. The exit status is 0 only if there is none.
 #
 #   host/compare/long_run.sh FILES SEED [FILES SEED ..]
-#   CALLS=read host/compare/long_run.sh 10000000 1000001      some of read, write, explain and line
+#   CALLS=read host/compare/long_run.sh 10000000 1000001      some of read, write, explain, line, statement_read and statement_write
 #   CORES=1 host/compare/long_run.sh 1000000 1                on so many cores (default: all)
 #
 # host/target.sh names the other variables.
@@ -19,7 +19,7 @@ kept=$build/long_run
 mkdir -p "$kept" || exit 2
 wrong=0
 
-row() { printf '%-8s %12s %12s %12s %12s %9s\n' "$@"; }
+row() { printf '%-15s %12s %12s %12s %12s %9s\n' "$@"; }
 
 compare() { # CALL FILES SEED: leaves a log for each core; the status is 0 if each of them passed
     rm -f "$kept/$1.$3".*.log
@@ -49,14 +49,14 @@ told() { # CALL FILES SEED SECONDS: adds up what the logs say
         read -r calls differences
         read -r numbers
         row "$1" "$3" "$2" "$calls" "$differences" "$4"
-        echo "         numbers $numbers"
+        echo "                numbers $numbers"
         [ "$calls" -eq "$2" ]
     }
 }
 
 row call seed files calls differences seconds
 while [ $# -gt 0 ]; do
-    for call in ${CALLS:-read write explain}; do
+    for call in ${CALLS:-read write explain statement_read statement_write}; do
         began=$(date +%s)
         compare "$call" "$1" "$2" || wrong=1
         told "$call" "$1" "$2" $(($(date +%s) - began)) || wrong=1

@@ -6,13 +6,15 @@
  * difference (host/fuzz/fuzz.sh).  Else it is a program:
  *
  *   fuzz FILE ..                    runs inputs and counts
- *   fuzz -make FOLDER COUNT [SEED]  writes inputs: generated files, batches
+ *   fuzz -make FOLDER COUNT [SEED]  writes inputs: generated files, batches,
+ *                                   statements
  */
 #include <stdio.h>
 #include <stdlib.h>
 #include <string.h>
 
 #include "../call/show.h"
+#include "../generate/statements.h"
 #include "fuzz_input.h"
 
 static struct scene scene;
@@ -121,28 +123,39 @@ static void save(const struct text *t, const char *folder, uint64_t seed)
         give_up(path);
 }
 
+/* A file or a batch, or in every fourth input a statement. */
+static void make_input(struct text *input, uint64_t seed)
+{
+    static struct made made;
+    static struct draft draft;
+    static struct text statement;
+    struct dice d = {seed};
+    bool explains = one_in(&d, 4), rows = one_in(&d, 2);
+    if (seed % 4 == 3 && rows) {
+        draw_statement(&statement, seed);
+        put_statement_input(input, WRITES_STATEMENT, &statement, &d);
+    } else if (seed % 4 == 3) {
+        generate_statement(&statement, seed);
+        put_statement_input(input, READS_STATEMENT, &statement, &d);
+    } else if (rows) {
+        draw_draft(&draft, seed);
+        put_draft_input(input, &draft, &d);
+    } else {
+        generate(&made, seed);
+        if (one_in(&d, 8))
+            put_line_input(input, &made, &d);
+        else
+            put_file_input(input, &made, explains, &d);
+    }
+}
+
 static void make_inputs(const char *folder, uint64_t count, uint64_t seed)
 {
-    struct made made = {0};
-    struct draft draft = {0};
     struct text input = {0};
     for (uint64_t i = seed; i < seed + count; i++) {
-        struct dice d = {i};
-        bool explains = one_in(&d, 4);
-        if (one_in(&d, 2)) {
-            draw_draft(&draft, i);
-            put_draft_input(&input, &draft, &d);
-        } else {
-            generate(&made, i);
-            if (one_in(&d, 8))
-                put_line_input(&input, &made, &d);
-            else
-                put_file_input(&input, &made, explains, &d);
-        }
+        make_input(&input, i);
         save(&input, folder, i);
     }
-    text_free(&made.file);
-    free_draft(&draft);
     text_free(&input);
 }
 

@@ -1,6 +1,6 @@
 #!/bin/sh
 # Looks for a difference between the library and the second program with clang's libFuzzer, which follows the branches that the second
-# program takes. It begins with generated files and batches. A difference stops it, and the input stays in the folder it names.
+# program takes. It begins with generated files, batches and statements. A difference stops it, and the input stays in the folder it names.
 #
 #   host/fuzz/fuzz.sh [SECONDS]          default 300
 #   FILL=1 host/fuzz/fuzz.sh [SECONDS]   then fills host/fuzz/corpus anew: an input for each call and number, and those that add the most
@@ -25,7 +25,7 @@ if [ -n "$run" ]; then
     export SERVER="$run $build/library_server"
 fi
 # shellcheck disable=SC2086
-$run "$build/fuzz" -make "$work/made" 3000 || exit 2
+$run "$build/fuzz" -make "$work/made" 4000 || exit 2
 
 # All in one, since the second program must be compiled so that its branches can be followed.
 # shellcheck disable=SC2086
@@ -51,11 +51,11 @@ one_of_each() { # FOLDER: the shortest input for each call and number; what choo
         else
             rm "$1/$name"
         fi
-    done | awk '!(($1, $2, $3, $4) in seen) { seen[$1, $2, $3, $4]; print $NF }'
+    done | awk '{ input = $NF; $NF = "" } !($0 in seen) { seen[$0]; print input }'
 }
 
-choose() { # FIRST CONTROL: then always the input that adds the most branches to those of the ones before, up to 60
-    awk -v most=60 '
+choose() { # FIRST CONTROL: then always the input that adds the most branches to those of the ones before, up to 80
+    awk -v most=80 '
         function take(i) { chosen++; print name[i]; n = split(branches[i], list, " "); for (k = 1; k <= n; k++) taken[list[k]] }
         FNR == NR { first[$1]; next }
         FNR == 1 { inputs = $1 }

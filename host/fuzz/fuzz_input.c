@@ -4,9 +4,9 @@
 
 enum { HEAD = 5, WRITE_HEAD = 17, NAME = ABO_NAME_BYTES, ENOUGH_ROOM = 128, NO_SHEET = 5 };
 
-/* The first byte's modulus, and the bit of its quotient that makes an
-   explanation the finding of a line. */
-enum { CHOICES = 3, LINE_BIT = 32 };
+/* The first byte's modulus, the bit of its quotient that makes an explanation
+   the finding of a line, and the one that makes a batch a statement. */
+enum { CHOICES = 3, LINE_BIT = 32, STATEMENT_BIT = 64 };
 
 static uint64_t take_day(const uint8_t *data)
 {
@@ -66,6 +66,11 @@ bool decode_input(struct fuzz_input *in, const uint8_t *data, size_t len)
     };
     if (in->call.which == EXPLAINS && bits & LINE_BIT)
         take_line(in, data);
+    if (in->call.which != EXPLAINS && bits & STATEMENT_BIT) {
+        in->call.which =
+            in->call.which == READS ? READS_STATEMENT : WRITES_STATEMENT;
+        return true;
+    }
     return in->call.which != WRITES || take_batch(in, data, len);
 }
 
@@ -117,4 +122,13 @@ void put_draft_input(struct text *out, const struct draft *draft,
     text_bytes(out, draft->name, NAME);
     text_bytes(out, draft->texts.data, texts);
     text_bytes(out, draft->rows.data, draft->rows.len);
+}
+
+void put_statement_input(struct text *out, enum which which,
+                         const struct text *bytes, struct dice *d)
+{
+    put_head(out, which == READS_STATEMENT ? READS : WRITES, 0, 0, d);
+    out->data[0] = (uint8_t)(out->data[0] % CHOICES +
+                             CHOICES * (STATEMENT_BIT + below(d, 4)));
+    text_bytes(out, bytes->data, bytes->len);
 }

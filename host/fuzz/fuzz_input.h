@@ -2,13 +2,14 @@
  *
  *   0      the call (modulo 3: read, write, explain), and by the quotient's
  *          bits: 1 slices lie in front of the page behind them, 2 the texts
- *          run on over the rows, 32 a line is found and nothing explained
+ *          run on over the rows, 32 a line is found and nothing explained, 64
+ *          a statement is read or written and no batch
  *   1      the sheet, modulo 6: 0 and 5 are none
  *   2, 3   today: a place in the list of days, or past these a number; or the
  *          line's number
  *   4      the room: 0 is none, else 128 more than what is wanted; or, if not
  *          0, the line's number counts down from the largest
- *   ..     the file; or in writing
+ *   ..     the file, or the rows of a statement; or in writing a batch
  *   5      how many bytes of texts there are
  *   6 - 16 date like today, start and end of the interval, two bytes each;
  *          client, five bytes
@@ -42,5 +43,7 @@ void put_file_input(struct text *out, const struct made *made, bool explains,
 void put_line_input(struct text *out, const struct made *made, struct dice *d);
 void put_draft_input(struct text *out, const struct draft *draft,
                      struct dice *d);
+void put_statement_input(struct text *out, enum which which,
+                         const struct text *bytes, struct dice *d);
 
 #endif
