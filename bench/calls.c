@@ -3,6 +3,7 @@
 #include "../host/call/call_peer.h"
 #include "../host/generate/memory.h"
 #include "../host/generate/plain.h"
+#include "../host/generate/statements.h"
 
 #include <string.h>
 
@@ -20,10 +21,49 @@ static void lend_batch(struct lent *l, size_t rows_len)
     give_header(c, &l->read);
 }
 
+/* At least a head and a movement; false if there is no such kind. */
+static bool make_sized_statement(struct sized_file *file, const char *kind,
+                                 size_t bytes)
+{
+    size_t records = bytes / ABO_RECORD_BYTES, movements = 1;
+    if (records < 2)
+        records = 2;
+    if (strcmp(kind, "one") == 0)
+        movements = records - 1;
+    else if (strcmp(kind, "thousand") == 0)
+        movements = records > 1000 ? 1000 : records - 1;
+    else if (strcmp(kind, "single") != 0)
+        return false;
+    put_many_statements(&file->bytes, records / (movements + 1), movements);
+    file->items = file->rows = file->bytes.len / ABO_RECORD_BYTES;
+    return true;
+}
+
+static bool lend_statement(struct lent *l, enum which which, const char *kind,
+                           size_t bytes)
+{
+    if (!make_sized_statement(&l->file, kind, bytes))
+        return false;
+    const struct text *file = &l->file.bytes;
+    size_t rows_len = l->file.rows * ABO_STATEMENT_ROW_BYTES;
+    l->call = (struct call){.which = READS_STATEMENT,
+                            .file = {file->data, file->len}};
+    l->out_len = which == READS_STATEMENT ? rows_len : file->len;
+    l->out = resized(NULL, l->out_len);
+    if (which == WRITES_STATEMENT) { /* the rows that the second program reads */
+        l->rows = resized(NULL, rows_len);
+        l->read = call_peer(&l->call, l->rows, rows_len);
+        l->call = (struct call){.which = which, .file = {l->rows, rows_len}};
+    }
+    return true;
+}
+
 bool lend_for(struct lent *l, enum which which, unsigned sheet,
               const char *kind, size_t bytes)
 {
     memset(l, 0, sizeof *l);
+    if (of_statement(which))
+        return lend_statement(l, which, kind, bytes);
     if (!make_sized_file(&l->file, sheet, kind, bytes))
         return false;
     const struct text *file = &l->file.bytes;
@@ -51,7 +91,7 @@ static bool is_right(const struct lent *l, const struct outcome *o)
     static const char accepted[] = "accepted ";
     if (o->number != ABO_ACCEPTED)
         return false;
-    if (l->call.which == READS)
+    if (l->call.which == READS || of_statement(l->call.which))
         return o->written == l->out_len;
     return l->call.which == WRITES ||
            memcmp(l->out, accepted, sizeof accepted - 1) == 0;

@@ -8,7 +8,8 @@
 enum who { NONE, ABO, PEER };
 
 /* What a call is given, and the room that is lent to it: in reading for as many
-   rows as the file has, else for as many bytes. */
+   rows as the file has, else for as many bytes.  The items of a statement are
+   its records. */
 struct lent {
     struct sized_file file;
     uint8_t *rows;       /* of the file, if they are to be written .. */
@@ -18,7 +19,13 @@ struct lent {
     size_t out_len, left; /* the bytes of it that the last call has written */
 };
 
-/* Gives back false if there is no such file. */
+/* Gives back false if there is no such file.  Statements have no sheet, and are
+   of the kind
+ *
+ *   one        one statement of all movements
+ *   single     statements of one movement each
+ *   thousand   statements of 1,000 movements each
+ */
 bool lend_for(struct lent *l, enum which which, unsigned sheet,
               const char *kind, size_t bytes);
 void give_back(struct lent *l);

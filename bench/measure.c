@@ -2,15 +2,16 @@
  * Makes a file and has it read, explained, or written again, to be counted or
  * timed:
  *
- *   measure read|write|explain none|abo|peer SHEET KIND BYTES
- *   measure read|write|explain TIMES SHEET KIND BYTES
+ *   measure CALL none|abo|peer SHEET KIND BYTES
+ *   measure CALL TIMES SHEET KIND BYTES
  *
+ * CALL is read, write, explain, statement_read or statement_write.
  * The first form is for a counter of instructions.  What a call executes is the
  * difference of two counts, with it and with `none`, so nothing has to be told
  * apart by names.  The second form runs the library and the second program
  * TIMES times in turn, compares what they leave in the lent bytes, and gives
- * the median time of each.  SHEET is K, S, C or E; host/generate/sized.h names
- * the kinds.
+ * the median time of each.  SHEET is K, S, C or E, or `-` for a statement;
+ * host/generate/sized.h names the kinds, calls.h those of statements.
  */
 #define _POSIX_C_SOURCE 200809L
 #include <stdio.h>
@@ -25,8 +26,7 @@ enum { MOST_TIMES = 99 };
 
 static int usage(void)
 {
-    fputs("measure read|write|explain none|abo|peer|TIMES SHEET KIND BYTES\n",
-          stderr);
+    fputs("measure CALL none|abo|peer|TIMES SHEET KIND BYTES\n", stderr);
     return 2;
 }
 
@@ -97,14 +97,15 @@ static int take_time(struct lent *l, int times)
 int main(int argc, char **argv)
 {
     static const char *const whos[] = {"none", "abo", "peer"};
-    static const char *const sheets[] = {"K", "S", "C", "E"};
+    static const char *const sheets[] = {"-", "K", "S", "C", "E"};
     struct lent l;
     if (argc != 6)
         return usage();
-    int call = place_of(argv[1], call_names, FINDS);
+    int call = place_of(argv[1], call_names, CALLS);
     int who = place_of(argv[2], whos, 3);
-    int times = atoi(argv[2]), sheet = place_of(argv[3], sheets, 4) + 1;
-    if (call < 0 || sheet < 1 || (who < 0 && (times < 1 || times > MOST_TIMES)))
+    int times = atoi(argv[2]), sheet = place_of(argv[3], sheets, 5);
+    if (call < 0 || call == FINDS || sheet < 0 ||
+        of_statement((enum which)call) != (sheet == 0) || (who < 0 && (times < 1 || times > MOST_TIMES)))
         return usage();
     if (!lend_for(&l, (enum which)call, (unsigned)sheet, argv[4],
                   strtoul(argv[5], NULL, 10)))
