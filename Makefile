@@ -15,7 +15,7 @@
 # and linked -static; build/abo, build/orderbook and the installed abo are launchers over qemu, and the tests run the others by it.
 
 # The first number grows when a program must be changed to go on working, the second when a call or a constant is added.
-VERSION = 1.2
+VERSION = 1.3
 
 PREFIX = /usr/local
 BINDIR = $(PREFIX)/bin
@@ -121,7 +121,7 @@ libdir=$(patsubst $(PREFIX)/%,$${prefix}/%,$(LIBDIR))
 say=$(patsubst $(PREFIX)/%,$${prefix}/%,$(DATADIR))/abo/abo_say.c
 
 Name: abo
-Description: Czech ABO payment files, read, written and explained
+Description: Czech ABO payment files and GPC statements, read, written and explained
 Version: $(VERSION)
 Cflags: -I$${includedir}
 Libs: -L$${libdir} -labo

@@ -1,6 +1,6 @@
 /*
- * The command-line tool over the library: checks, rewrites, shows and explains ABO (.kpc) payment files.  `abo help` prints how it is
- * used (host/abo/help.c).
+ * The command-line tool over the library: checks, rewrites, shows and explains ABO (.kpc) payment files, and shows statements.
+ * `abo help` prints how it is used (host/abo/help.c).
  */
 #include <inttypes.h>
 #include <stdio.h>
@@ -11,6 +11,7 @@
 #include "abo/arguments.h"
 #include "abo/help.h"
 #include "abo/rewriting.h"
+#include "abo/statement_command.h"
 #include "abo/table.h"
 #include "common/input.h"
 #include "common/letters.h"
@@ -109,17 +110,21 @@ static enum status rewrite(struct job *j)
     return j->answer.number == ABO_ACCEPTED ? rewrite_accepted(j) : refused(j, stderr);
 }
 
+/* A statement is judged by no sheet, so that command has no job. */
 static const struct command {
     const char *name;
     enum status (*run)(struct job *);
-} commands[] = {{"check", check}, {"rewrite", rewrite}, {"show", show}, {"explain", explain}};
+} commands[] = {{"check", check}, {"rewrite", rewrite}, {"show", show}, {"explain", explain}, {"statement", NULL}};
 
 /* What only some commands take. */
 static bool fits(const struct command *c, const struct arguments *a)
 {
     bool rewrites = c->run == rewrite;
+    if (a->check || a->csv)
+        return misused("Only statement takes ", a->check ? "--check" : "--csv", ".");
     if (!rewrites && (a->out != NULL || a->accept_warnings))
-        return misused("Only rewrite takes ", a->out != NULL ? "-o" : "--accept-warnings", ".");
+        return misused(a->out != NULL ? "Only rewrite and statement take " : "Only rewrite takes ",
+                       a->out != NULL ? "-o" : "--accept-warnings", ".");
     if (rewrites && a->strict)
         return misused("A file with warnings is not rewritten anyway, so rewrite does not take ", "--strict", ".");
     if (rewrites && a->count > 1)
@@ -161,6 +166,8 @@ static enum status run(const struct command *c, char **arguments)
         print_help();
         return ACCEPTED;
     }
+    if (c->run == NULL)
+        return run_statement(&a);
     if (!fits(c, &a) || !complete(&a))
         return TROUBLE;
     for (size_t i = 0; i < a.count; i++) {

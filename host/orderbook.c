@@ -1,7 +1,8 @@
 /*
  * An order book over the library: a ledger of wages and invoices becomes the
  * file for a bank, is read back as that bank would read it, and is shown as a
- * table of what would be paid. `orderbook --help` prints how it is used and
+ * table of what would be paid; later a statement says which of it has left the
+ * account. `orderbook --help` prints how it is used and
  * the whole format of a ledger (orderbook/help.c); ledger/pond.txt is one.
  */
 #include <errno.h>
@@ -16,10 +17,12 @@
 #include "common/names.h"
 #include "common/output.h"
 #include "common/refusal.h"
+#include "common/statement.h"
 #include "common/sums.h"
 #include "orderbook/arguments.h"
 #include "orderbook/help.h"
 #include "orderbook/ledger_take.h"
+#include "orderbook/paid.h"
 #include "orderbook/table.h"
 #include "orderbook/telling.h"
 
@@ -48,8 +51,29 @@ static void show_accepted(FILE *out, const struct abo_answer *a,
     note_utf8(out, utf8_texts(rows, (size_t)a->rows, file));
 }
 
+/* Which of the payments have left, by the statement that was named. */
+static enum status show_left(const struct arguments *a, FILE *out,
+                             const union abo_row *rows, size_t count)
+{
+    struct statement s;
+    enum status status = TROUBLE;
+    if (take_statement(&s, program, a->paid)) {
+        if (s.answer.number != ABO_ACCEPTED) {
+            print_statement_refusal(stderr, a->paid, &s);
+            status = REFUSED;
+        } else if (show_paid(out, rows, count, &s)) {
+            status = DONE;
+        } else {
+            trouble(a->paid, "cannot be compared",
+                    "there is not enough memory for it");
+        }
+    }
+    free_statement(&s);
+    return status;
+}
+
 /* Reads as the bank would, first with no rows to learn how many are needed,
- * and shows the table. */
+ * and shows the table, or what a statement says of it. */
 static enum status read_file(const struct arguments *a, const char *name,
                              const struct input *file, FILE *out,
                              uint64_t *warnings)
@@ -66,13 +90,16 @@ static enum status read_file(const struct arguments *a, const char *name,
         answer = abo_read_rows(file->bytes, file->len, a->sheet, a->day, rows,
                                count);
     }
-    if (answer.number == ABO_ACCEPTED)
-        show_accepted(out, &answer, rows, file->bytes);
-    else
+    enum status status = answer.number == ABO_ACCEPTED ? DONE : REFUSED;
+    if (status != DONE)
         print_refusal(stderr, name, file, a->sheet, &answer);
+    else if (a->paid != NULL)
+        status = show_left(a, out, rows, (size_t)answer.rows);
+    else
+        show_accepted(out, &answer, rows, file->bytes);
     free(rows);
     *warnings = answer.warnings;
-    return answer.number == ABO_ACCEPTED ? DONE : REFUSED;
+    return status;
 }
 
 /* ---- Writing ---- */

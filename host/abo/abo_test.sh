@@ -454,6 +454,122 @@ check 'kinds of account files by their names' [ "$(cat "$work/out")" = \
 tell check "$file" --sheet C --day 2018-01-01
 check 'a sum of 17 digits' [ "$(cat "$work/out")" = 'accepted, 999 payments, 998999999999990.01 crowns, 0 warnings' ]
 
+# ---- statements ----
+
+shown() { # CASE EXPECTED ARG ..: what is printed of CASE.gpc is EXPECTED, both in host/statements
+    case=$1 expected=$2
+    shift 2
+    tell statement "host/statements/$case.gpc" "$@"
+    check "$case: the status is 0" [ "$status" -eq 0 ]
+    check "$case: nothing is told besides" [ ! -s "$work/err" ]
+    check "$case: word by word" diff "host/statements/$expected" "$work/out"
+}
+shown pond pond.expected
+shown pond pond.csv --csv
+shown document_000 document_000.expected
+tell statement host/statements/pond.gpc --check
+check 'a statement, --check' [ "$status $(cat "$work/out" "$work/err")" = '0 accepted, 3 statements, 8 movements' ]
+tell statement - <host/statements/pond.gpc
+check 'a statement from standard input' cmp "$work/out" host/statements/pond.expected
+
+record() { # NUMBER: of pond.gpc, from 1
+    tail -c "+$((($1 - 1) * 130 + 1))" host/statements/pond.gpc | head -c 130
+}
+spoilt() { # RECORD PLACE TEXT: pond.gpc with this text at that place, from 0
+    at=$((($1 - 1) * 130 + $2))
+    { head -c "$at" host/statements/pond.gpc; printf %b "$3"; tail -c "+$((at + $(printf %b "$3" | wc -c) + 1))" host/statements/pond.gpc; } >"$file"
+}
+complains() { # WHAT: how the file is refused, by --check to standard output, else to standard error with no output
+    tell statement "$file" --check
+    check "$1: the status of --check is 1" [ "$status" -eq 1 ]
+    check "$1: no wider than a terminal" in_columns "$work/out"
+    { echo "== $1"; cat "$work/out"; } >>"$work/refusals"
+    cp "$work/out" "$work/wanted"
+    for form in '' --csv; do
+        # shellcheck disable=SC2086
+        tell statement "$file" $form
+        check "$1: $form tells the same" cmp "$work/wanted" "$work/err"
+        check "$1: $form prints nothing" [ "$status $(cat "$work/out")" = '1 ' ]
+    done
+}
+batch=$file
+file=$work/statement
+: >"$file"
+complains 'an empty file'
+head -c 129 host/statements/pond.gpc >"$file"
+complains 'a file that ends inside its first record'
+{ cat host/statements/pond.gpc; printf '\032'; } >"$file"
+complains 'a byte behind the last record'
+spoilt 1 128 '\n\n'
+complains 'a record without CR LF'
+record 2 >"$file"
+complains 'a movement before any head'
+cp host/statements/document_000_av.gpc "$file"
+complains 'a record 078'
+spoilt 2 60 3
+complains 'a posting code 3'
+spoilt 1 50 x
+complains 'a letter in a balance'
+spoilt 1 89 +
+complains 'a turnover with a plus'
+spoilt 2 3 '\r'
+complains 'a control character in an account'
+spoilt 4 61 '          '
+complains 'blanks for a variable symbol'
+cp host/statements/document_003.gpc "$file"
+complains 'a debit turnover'
+spoilt 3 90 00000024999899
+complains 'a credit turnover'
+spoilt 3 74 -
+complains 'a new balance'
+check 'refused statements, word by word' diff host/statements/refusals.expected "$work/refusals"
+
+# many files, an output by name, and what does not go together
+cp host/statements/document_003.gpc "$work/b file"
+tell statement host/statements/pond.gpc "$work/b file" "$work/none" --check
+check 'several statements: the gravest status' [ "$status" -eq 2 ]
+check 'several statements, each with its name' diff - "$work/out" <<END
+host/statements/pond.gpc: accepted, 3 statements, 8 movements
+$work/b file:1:76: refused at record 1, column 76, byte 75: the debit turnover is 61488.63, and the movements add up to 0.00 (52).
+  ..01071200000012104500+00000781266237+000000061488630000007753106000001010..
+                                        ^~~~~~~~~~~~~~
+END
+check 'several statements: the one that is not there' [ "$(cat "$work/err")" = "abo: $work/none cannot be read: No such file or directory." ]
+echo before >"$work/named"
+tell statement "$work/b file" -o "$work/named"
+check 'a refused statement leaves the output as it was' [ "$status $(cat "$work/named")" = '1 before' ]
+tell statement host/statements/pond.gpc --csv -o "$work/named"
+check 'the output has the cells' cmp "$work/named" host/statements/pond.csv
+check 'and nothing is printed of a statement' [ "$status $(cat "$work/out" "$work/err")" = '0 ' ]
+if [ -c /dev/full ]; then
+    for form in '' --check --csv; do
+        # shellcheck disable=SC2086
+        abo statement host/statements/pond.gpc $form >/dev/full 2>"$work/err"
+        check "statement $form to a full output" [ "$?" -eq 2 ]
+        check "statement $form to a full output says so" grep -q '^abo: Standard output could not be written whole' "$work/err"
+    done
+fi
+second make_statement 1000000 >"$work/large_statement"
+second statement "$work/large_statement" >"$work/due"
+tell statement "$work/large_statement" --csv
+tail -n +2 "$work/out" | cut -d , -f 5,6,8 >"$work/cells"
+check 'a large statement: the status is 0' [ "$status $(head -c 1 "$work/due" | wc -c)" = '0 1' ]
+check 'a large statement: amounts, balances and symbols are the second program'"'"'s' cmp "$work/cells" "$work/due"
+seed=${SEED:-1}
+while [ "$seed" -lt "$last" ]; do
+    second generate_statement "$seed" "$file"
+    second statement "$file" >"$work/due"
+    due=$?
+    tell statement "$file" --check
+    check "statement of seed $seed: the status is $due" [ "$status" -eq "$due" ]
+    sed '1s/^refused at record \([0-9]*\), column [0-9]*, byte \([0-9]*\): .* (\([0-9]*\))\.$/refused \3 record \1 byte \2/' "$work/out" |
+        head -n 1 >"$work/line"
+    [ "$due" -eq 0 ] || check "statement of seed $seed: the refusal is the second program's" cmp "$work/line" "$work/due"
+    [ "$due" -eq 0 ] || check "statement of seed $seed: no wider than a terminal" in_columns "$work/out"
+    seed=$((seed + 1))
+done
+file=$batch
+
 # ---- command lines that are wrong, and trouble with files: status 2, a sentence, no output ----
 
 wrong() { # SENTENCE ARG ..: the tool says this and no more
@@ -493,7 +609,22 @@ done
 for day in 2018-02-29 29.2.2018 20180229 2018-13-01 2018-00-01 2018-01-00 1999-12-31 2100-01-01; do
     wrong "The day $day is no real day of 2000 to 2099. $how" check "$file" --sheet C --day "$day"
 done
-wrong "Only rewrite takes -o. $how" check "$file" --sheet C --day 2018-01-01 -o "$work/named"
+wrong "Only rewrite and statement take -o. $how" check "$file" --sheet C --day 2018-01-01 -o "$work/named"
+pond=host/statements/pond.gpc
+wrong "Only statement takes --csv. $how" show "$file" --sheet C --day 2018-01-01 --csv
+wrong "Only statement takes --check. $how" rewrite "$file" --sheet C --day 2018-01-01 --check
+wrong "No file was named. $how" statement --check
+for option in '--sheet K' '--day today'; do
+    # shellcheck disable=SC2086
+    wrong "A statement is the same for every bank and day, so statement does not take ${option%% *}. $how" statement "$pond" $option
+done
+for option in --strict --accept-warnings; do
+    wrong "A statement has no warnings, so statement does not take $option. $how" statement "$pond" "$option"
+done
+wrong "With --check nothing else is made, so it does not go with --csv. $how" statement "$pond" --check --csv
+wrong "With --check nothing else is made, so it does not go with -o. $how" statement "$pond" --check -o "$work/named"
+wrong "With --csv or -o one file is taken at a time, and - is a second one. $how" statement "$pond" - --csv
+wrong "What is made of $work/b file must not take its place. $how" statement "$work/b file" -o "$work/b file"
 wrong "$work/none cannot be read: No such file or directory." check "$work/none" --sheet C --day 2018-01-01
 wrong "$work cannot be read: Is a directory." show "$work" --sheet C --day 2018-01-01
 wrong "$work/no/where could not be written whole: no file can be made beside it (No such file or directory)." \
@@ -521,7 +652,7 @@ for word in help --help -h 'check --help'; do
     # shellcheck disable=SC2086
     tell $word
     check "abo $word: the status is 0" [ "$status" -eq 0 ]
-    for told in 'exit status is 0' 'abo check' 'abo rewrite' 'abo show' 'abo explain' '--sheet SHEET' '--day DAY'; do
+    for told in 'exit status is 0' 'abo check' 'abo rewrite' 'abo show' 'abo explain' 'abo statement' '--sheet SHEET' '--day DAY'; do
         check "abo $word tells '$told'" grep -q -e "$told" "$work/out"
     done
 done
@@ -540,7 +671,7 @@ check "the page's version" grep -q "^\.TH ABO 1 [0-9-]* \"$(cat "$work/out")\"" 
 for option in $(grep -oE -e '(^| |\[)--?[a-z][a-z-]*' "$work/help" | tr -d ' [' | sort -u); do
     check "the page has $option" grep -qE -e "(^| )$option( |\$)" "$work/man"
 done
-for command in check show explain rewrite; do check "the page has $command" grep -qx "\.B abo $command" "$work/man"; done
+for command in check show explain rewrite statement; do check "the page has $command" grep -qx "\.B abo $command" "$work/man"; done
 grep -oE ' [KSCE]  [0-9]{4}  .*' "$work/help" | sed 's/^ \(.\)  [0-9]*/\1/' | while read -r letter bank; do
     grep -qE "^$letter  [1-4]  [0-9]{4}  $bank\$" "$work/man" || echo "$letter $bank"
 done >"$work/lacking"

@@ -43,6 +43,8 @@ static bool take_option(struct arguments *a, char ***at)
         {"-o", NULL, &a->out},
         {"--strict", &a->strict, NULL},
         {"--accept-warnings", &a->accept_warnings, NULL},
+        {"--check", &a->check, NULL},
+        {"--csv", &a->csv, NULL},
     };
     const char *word = **at;
     for (size_t i = 0; i < sizeof options / sizeof *options; i++) {

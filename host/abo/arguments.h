@@ -7,7 +7,7 @@
 #include <stdint.h>
 
 struct arguments {
-    bool help, strict, accept_warnings;
+    bool help, strict, accept_warnings, check, csv;
     char **files; /* `-` is standard input */
     size_t count;
     const char *out;                    /* NULL: standard output */

@@ -6,13 +6,15 @@
 #include "../common/sheet_and_day.h"
 
 static const char commands[] =
-    "abo " ABO_VERSION ": Czech ABO (.kpc) payment files, judged by a bank's sheet\n"
+    "abo " ABO_VERSION ": Czech ABO (.kpc) payment files, judged by a bank's sheet, and statements\n"
     "\n"
     "  abo check   FILE .. --sheet SHEET --day DAY [--strict]   is each file accepted, and if not, why and where\n"
     "  abo show    FILE .. --sheet SHEET --day DAY [--strict]   its account files, groups and items as a table\n"
     "  abo explain FILE .. --sheet SHEET --day DAY [--strict]   the library's answer in one line for programs\n"
     "  abo rewrite FILE --sheet SHEET --day DAY [-o OUT] [--accept-warnings]\n"
     "                                                           its one canonical spelling, to standard output or OUT\n"
+    "  abo statement FILE .. [--check]                          what a bank sent back (GPC records 074 and 075), as a table\n"
+    "  abo statement FILE [--csv] [-o OUT]                      the same to OUT; with --csv as cells for a spreadsheet\n"
     "  abo help, abo --version\n"
     "\n";
 
@@ -27,10 +29,15 @@ static const char rest[] =
     "\n"
     "--strict            a file with warnings is accepted, but the exit status is 1\n"
     "--accept-warnings   rewrite a file with warnings too: what was cut stays cut, and totals become the sums\n"
+    "--check             of a statement, only whether it is accepted, and if not, why and where\n"
+    "--csv               of a statement, a line for each movement, in UTF-8, its cells divided by commas\n"
+    "\n"
+    "A statement is the same for every bank and day. Its table has for each movement what it does to the balance, in crowns, and the\n"
+    "balance behind it. A refusal says the record, of 128 bytes and CR LF, in the place of the line.\n"
     "\n"
     "A refusal says the line and the column, counted from 1, and the byte, counted from 0 at the start of the file, and shows the\n"
     "line with a caret. Texts are shown by Windows-1250, which banks read; a byte with no letter is shown as \xef\xbf\xbd. check prints a\n"
-    "refusal to standard output, rewrite and show to standard error; with several files each begins NAME:LINE:COLUMN. The number at\n"
+    "refusal to standard output, as --check does, rewrite, show and statement to standard error; with several files each begins NAME:LINE:COLUMN. The number at\n"
     "its end is the library's.\n"
     "\n"
     "The exit status is 0 if each file is accepted, with warnings or without; 1 if one is refused, has warnings with --strict, or\n"

@@ -12,11 +12,11 @@
 #include "../common/output.h"
 
 /* Options with a value, and the ledger, which has no name. */
-enum option { SHEET, DAY, READ, ENCODING, OUT, LEDGER, OPTIONS };
+enum option { SHEET, DAY, READ, PAID, ENCODING, OUT, LEDGER, OPTIONS };
 
 static const char *const names[] = {
     [SHEET] = "--sheet", [DAY] = "--day", [READ] = "--read",
-    [ENCODING] = "--encoding", [OUT] = "-o",
+    [PAID] = "--paid", [ENCODING] = "--encoding", [OUT] = "-o",
 };
 
 /* Words as they were given; NULL where none was. */
@@ -100,6 +100,9 @@ static bool is_complete(const struct given *g)
                                         "no ledger", "");
     if (!reads && g->word[LEDGER] == NULL)
         return mistake("a ledger", "is wanted, or --read and a file", "");
+    if (!reads && g->word[PAID] != NULL)
+        return mistake("--paid", "goes with --read, and a file that was "
+                                 "handed to the bank", "");
     for (unsigned i = ENCODING; i <= OUT; i++)
         if (reads && g->word[i] != NULL)
             return mistake(names[i], "does not go with --read", "");
@@ -121,6 +124,7 @@ static bool understand(struct arguments *a, const struct given *g)
     const char *encoding = g->word[ENCODING];
     a->from = g->word[g->word[READ] != NULL ? READ : LEDGER];
     a->out = g->word[OUT];
+    a->paid = g->word[PAID];
     a->sheet = sheet_named(g->word[SHEET]);
     a->day = day_named(g->word[DAY]);
     a->encoding = IN_UTF_8;

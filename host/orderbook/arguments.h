@@ -12,6 +12,7 @@ enum wish { MAKE_FILE, READ_FILE, HELP, VERSION, MISTAKE };
 struct arguments {
     const char *from; /* the ledger, or the file that is read */
     const char *out;  /* NULL for standard output */
+    const char *paid; /* a statement; NULL if none is given */
     uint64_t sheet, day;
     enum encoding encoding;
 };

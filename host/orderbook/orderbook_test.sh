@@ -84,6 +84,32 @@ write_case bad_day_K bad_day K
 write_case message_E bad_message E
 write_case past_day_C bad_day C
 
+# ---- which payments have left the account ----
+
+statements=host/statements
+run_case paid_K --read $cases/pond_K.kpc --paid $statements/pond.gpc --sheet K --day "$day"
+run_case paid_refused --read $cases/pond_K.kpc --paid $statements/document_003.gpc --sheet K --day "$day"
+tell --read $cases/pond_K.kpc --paid $statements/document_000.gpc --sheet K --day "$day"
+check 'paid: another account pays nothing' \
+    [ "$status $(tail -n 1 "$work/out")" = '0 0 of 6 payments left the account, 0 came back, 6 not yet.' ]
+# the same wage three times in the file, and two debits of it: the first two have left
+{ head -n 2 $cases/pond_K.kpc; printf '2 174-1999738514 7350000 201126\r\n'; for _ in 1 2 3; do sed -n 4p $cases/pond_K.kpc; done
+    printf '3 +\r\n5 +\r\n'; } >"$work/thrice.kpc"
+debit() { tail -c +391 $statements/pond.gpc | head -c 130; } # the fourth record, a wage of 24500.00
+statement() { # OLD NEW DEBIT: the head of pond.gpc with these fields
+    head -c 45 $statements/pond.gpc
+    printf '%s%s%s000000000000000041161126              \r\n' "$1" "$2" "$3"
+}
+{ statement 00000005000000+ 00000000100000+ 000000049000000; debit; debit; } >"$work/twice.gpc"
+tell --read "$work/thrice.kpc" --paid "$work/twice.gpc" --sheet K --day "$day"
+check 'paid: each movement is for one payment' [ "$(cut -c 57- "$work/out" | sed -n '2,4p' | tr '\n' ,)$(tail -n 1 "$work/out")" = \
+    'left the account,left the account,not yet,2 of 3 payments left the account, 0 came back, 1 not yet.' ]
+{ statement 00000005000000+ 00000002550000+ 000000024500000; debit; debit | sed 's/24500001/24500004/'; debit; } >"$work/anew.gpc"
+tell --read "$work/thrice.kpc" --paid "$work/anew.gpc" --sheet K --day "$day"
+check 'paid: what came back and was made anew has left' [ "$(tail -n 1 "$work/out")" = '1 of 3 payments left the account, 1 came back, 1 not yet.' ]
+tell --read $cases/pond_K.kpc --paid "$work/none" --sheet K --day "$day"
+check 'paid: no such statement' [ "$status $(cat "$work/err")" = "2 orderbook: $work/none cannot be read: No such file or directory." ]
+
 # ---- lines that could mean two things, letters, and refusals by field and sheet ----
 
 front() { # none, head or due: what stands before a case's own lines
@@ -187,7 +213,7 @@ for help in --help -h; do
     check "$help: nothing on standard error" [ ! -s "$work/err" ]
 done
 cp "$work/out" "$work/help"
-for word in --sheet --day --read --encoding -o vs ks ss priority firm client interval payer file due wage invoice 8100 0800 0300 6100 \
+for word in --sheet --day --read --paid --encoding -o vs ks ss priority firm client interval payer file due wage invoice 8100 0800 0300 6100 \
     15.11.2026 20261115 today 20.11.2026; do
     check "the help names $word" grep -qw -e "$word" "$work/help"
 done
