@@ -1,9 +1,12 @@
 #!/usr/bin/env python3
-"""Edits definitions of document 01, one for each kind of line and field, and looks that theorems fall with each: the prover must refuse the
-crate that is named, a crate of theorems that a demand stands on or a table of worked examples (crates/cases), and nothing below it. All
-crates below are copied with it and proved anew as far as the definition reaches; what it does not reach is taken over from what `rt check`
-proved (tools/copies.py), which comes first. One check for each processor is made at a time (RT_JOBS says otherwise). The last line is
-'N passed, M failed'.
+"""Edits definitions of document 01, one for each kind of line and field, and of document 02's statements, one for each rule, and looks that
+theorems fall with each: the prover must refuse the crate that is named, and nothing below it. That is a crate that a demand stands on, with
+its theorems, worked examples and promises of code, or a table of worked examples (crates/cases). All crates below are copied with it and
+proved anew as far as the definition reaches; what it does not reach is taken over from what `rt check` proved (tools/copies.py), which comes
+first. One check for each processor is made at a time (RT_JOBS says otherwise). The last line is 'N passed, M failed'.
+
+  tools/definitions.py                  all of them
+  tools/definitions.py gpc: 'a day,'    those that have one of these words in what is edited, in the file or in the crate that must fall
 
 A fall counts only if the same crates, copied in the same way, are proved without the edit, and if the first that the prover says is that a
 fact fails.
@@ -19,8 +22,22 @@ import time
 
 from copies import Modules, below, complaints, copy, is_fact, is_ours, is_proved, is_refused, rt_check, stands_on
 
-# What is edited, and what would be wrong; the file of crates/paper/specs, what it says and would say; and the crate that must fall, with
-# cases the one table that is proved there.
+# The judge of statements up to a file's end; and what would be said there of a statement whose sums were tested, but not heeded.
+LAST = """{before}unfoldable pub judgeOn : Spots → ℕ → Stage → List Record → Judged
+judgeOn p k top [] = refused 50 k 0
+judgeOn p k top (noRecord ∷ rs) = refused 50 k 0
+judgeOn p k top (movementIs x ∷ rs) = refused 50 k 0
+judgeOn p k top (headIs x ∷ rs) = onSaid k x λ h. judgeOn p (suc k) (within k h []) rs
+judgeOn p k (within j h ms) [] = {taken}
+"""
+TAKEN = """abbrev pub taken : Statement → Said Statement → Judged
+taken s (got t) = accepted (t ∷ [])
+taken s (no n off) = accepted (s ∷ [])
+
+"""
+
+# What is edited, and what would be wrong; the file of crates/paper/specs, or of the specs of the crate before a colon, what it says and would
+# say; and the crate that must fall, with cases the one table that is proved there.
 WRONG = [
     # ---- reading: lines
     (
@@ -282,6 +299,161 @@ WRONG = [
         "items = b .items; single = isNobody payer; sum = b .sum }",
         "roundtrip",
     ),
+    # ---- statements: records
+    (
+        "a record's end, read",
+        "CR LF would not be asked for behind a head",
+        "gpc:Records",
+        "(movementIs (readMovement s)) noRecord))\n    noRecord",
+        "(movementIs (readMovement s)) noRecord))\n    (pick (starts (bytes \"074\") s) (headIs (readHead s)) noRecord)",
+        "gpcback",
+    ),
+    (
+        "a movement's amount, read",
+        "it would begin one byte early",
+        "gpc:Records",
+        "onField 48 (readDigits 12 (slice 48 12 s))",
+        "onField 48 (readDigits 12 (slice 47 12 s))",
+        "gpcback",
+    ),
+    (
+        "bytes left over, read",
+        "they would be passed over",
+        "gpc:Parts",
+        "piecesOn n zero s = pick (null s) [] (s ∷ [])",
+        "piecesOn n zero s = []",
+        "gpcback",
+    ),
+    (
+        "the internal form",
+        "the order of the way back would be that of the way there",
+        "gpc:Internal",
+        "internal d = taken inside d",
+        "internal d = taken outside d",
+        "internal",
+    ),
+    (
+        "a balance, read",
+        "minus before zero would stay minus",
+        "gpc:Signed",
+        "minus = pick (eqb n 0) false minus;",
+        "minus = pick (eqb n 0) minus minus;",
+        "turnover",
+    ),
+    (
+        "a balance, canonical",
+        "zero would have a minus",
+        "gpc:Signed",
+        "(pick (x .minus) 45 plus ∷ [])",
+        "(pick (eqb (x .size) 0) 45 (pick (x .minus) 45 plus) ∷ [])",
+        "turnover",
+    ),
+    (
+        "a file without minus before zero",
+        "a movement's first kept byte would be cleared",
+        "gpc:Canonical",
+        "(plainSign balancePlus 45 s))))\n    s\n",
+        "(plainSign balancePlus 45 s))))\n    (put s 35 (48 ∷ []))\n",
+        "gpcback",
+    ),
+    # ---- statements: sums, and the order of their tests
+    (
+        "posting codes",
+        "3 would be a reversed debit",
+        "gpc:Turnovers",
+        "(pick (eqb c 4) true",
+        "(pick (eqb c 3) true",
+        "turnover",
+    ),
+    (
+        "the debit turnover",
+        "reversed credits would be taken off it",
+        "gpc:Turnovers",
+        "isDifference (total 1 ms) (total 4 ms) x",
+        "isDifference (total 1 ms) (total 5 ms) x",
+        "turnover",
+    ),
+    (
+        "the rule of the balance",
+        "the new one would be old + debit - credit",
+        "gpc:Turnovers",
+        "eqb (side new debit old credit) (side old credit new debit)",
+        "eqb (side new credit old debit) (side old debit new credit)",
+        "turnover",
+    ),
+    (
+        "the sums of a statement, tested",
+        "they would come after the fields of the next head",
+        "gpc:Statements",
+        "    onSaid j (closed p h ms) λ s. with s (onSaid k x λ g. judgeOn p (suc k) (within k g []) rs)",
+        "    onSaid k x λ g. onSaid j (closed p h ms) λ s. with s (judgeOn p (suc k) (within k g []) rs)",
+        "gpcexact",
+    ),
+    (
+        "the last statement's sums, tested",
+        "they would not be",
+        "gpc:Statements",
+        LAST.format(before="", taken="onSaid j (closed p h ms) λ s. accepted (s ∷ [])"),
+        LAST.format(before=TAKEN, taken="taken (statement h ms) (closed p h ms)"),
+        "gpcexact",
+    ),
+    (
+        "a movement before any head",
+        "it would be passed over",
+        "gpc:Statements",
+        "judgeOn p k top (movementIs x ∷ rs) = refused 50 k 0",
+        "judgeOn p k top (movementIs x ∷ rs) = judgeOn p (suc k) top rs",
+        "gpcexact",
+    ),
+    (
+        "the first fault of statements, declared",
+        "sums would be told at the record behind them",
+        "gpc:FirstFault",
+        "Broken p h n (begun g ms) rs m h off",
+        "Broken p h n (begun g ms) rs m n off",
+        "gpcexact",
+    ),
+    # ---- statements: rows and answers
+    (
+        "a balance's word",
+        "its minus would be the first bit alone",
+        "gpc:Signed",
+        "pick (x .minus) (negative (x .size)) (x .size)",
+        "pick (x .minus) (9223372036854775808 + x .size) (x .size)",
+        "turnover",
+    ),
+    (
+        "a head's row",
+        "its turnovers would be swapped",
+        "gpc:StatementRows",
+        "    ∷ signedWord (h .debit)\n    ∷ signedWord (h .credit)\n",
+        "    ∷ signedWord (h .credit)\n    ∷ signedWord (h .debit)\n",
+        "gpcback",
+    ),
+    (
+        "a movement's row, tested",
+        "an amount might have thirteen digits",
+        "gpc:StatementRows",
+        "(leb (m .amount) most12)",
+        "(leb (m .amount) 9999999999999)",
+        "gpcback",
+    ),
+    (
+        "the rows needed",
+        "16 would name one too many",
+        "gpc:Answers",
+        "(needs (rowCount ss)) (acceptedAs (rowCount ss))",
+        "(needs (suc (rowCount ss))) (acceptedAs (rowCount ss))",
+        "gpcwhole",
+    ),
+    (
+        "a refused row",
+        "it would be counted from 0",
+        "gpc:Answers",
+        "refusal n (suc k) off",
+        "refusal n k off",
+        "gpcwhole",
+    ),
 ]
 
 
@@ -346,27 +518,35 @@ class Fallen:
         return None if is_fact(words) else f"refused, but not because a fact fails: {at}: {words[:300]}", at
 
 
+def path_of(file):
+    """Where the file of an entry stands below crates/."""
+    crate, _, name = file.rpartition(":")
+    return f"{crate or 'paper'}/specs/{name}.antt"
+
+
 def main():
+    asked = sys.argv[1:]
+    tried = [w for w in WRONG if not asked or any(word in part for word in asked for part in (w[0], w[2], w[-1]))]
     passed = 0
     jobs = int(os.environ.get("RT_JOBS", os.cpu_count() or 1))
     with tempfile.TemporaryDirectory() as folder, concurrent.futures.ThreadPoolExecutor(jobs) as pool:
         work = pathlib.Path(folder).resolve()
-        names = sorted({name for *_, name in WRONG})
+        names = sorted({name for *_, name in tried})
         modules = work / "modules"
         Modules(work / "learnt").put({one for name in names for one in below(name.partition("/")[0])}, modules)
         fallen = dict(zip(names, pool.map(lambda name: Fallen(name, work, modules), names)))
 
         def one(number):
-            _, _, file, old, new, name = WRONG[number]
+            _, _, file, old, new, name = tried[number]
             began = time.time()
-            return *fallen[name].tried(str(number), f"paper/specs/{file}.antt", old, new), time.time() - began
+            return *fallen[name].tried(str(number), path_of(file), old, new), time.time() - began
 
-        for (title, idea, *_, name), (wrong, at, seconds) in zip(WRONG, pool.map(one, range(len(WRONG)))):
+        for (title, idea, *_, name), (wrong, at, seconds) in zip(tried, pool.map(one, range(len(tried)))):
             fell = f"{title}: {idea}: {name} is not proved any more, as it must be (first at {at}; {seconds:.1f} s)"
             print(f"failed: {title}: {idea}: {wrong}" if wrong else fell, flush=True)
             passed += wrong is None
-    print(f"{passed} passed, {len(WRONG) - passed} failed")
-    return 0 if passed == len(WRONG) else 1
+    print(f"{passed} passed, {len(tried) - passed} failed")
+    return 0 if tried and passed == len(tried) else 1
 
 
 if __name__ == "__main__":
