@@ -1,13 +1,16 @@
 #!/usr/bin/env python3
 """tools/crosscheck.py LIBPEER FOLDER SEED FILES BATCHES
 
-Writes FOLDER/Cases.antt: what the second program (LIBPEER) answers for random files and batches, as equations over the
-definitions of crates/paper. Prints how many equations there are. tools/crosscheck.sh has them checked."""
+Writes what the second program (LIBPEER) answers as equations: FOLDER/Cases.antt for random files and batches, over the definitions of
+crates/paper, and FOLDER/StatementCases.antt for statements and their rows (statement_inputs.py), over those of crates/gpc. Prints how many
+equations there are. tools/crosscheck.sh has them checked."""
 import ctypes
 import random
 import re
 import struct
 import sys
+
+import statement_inputs
 
 U64, SIZE, BYTES = ctypes.c_uint64, ctypes.c_size_t, ctypes.c_char_p
 ROW = 192
@@ -21,6 +24,10 @@ class Answer(ctypes.Structure):
     _fields_ = [(n, U64) for n in ("number", "line", "byte", "rows", "warnings", "needed")] + [("header", Header)]
 
 
+class StatementAnswer(ctypes.Structure):
+    _fields_ = [(n, U64) for n in ("number", "line", "byte", "rows", "needed")]
+
+
 class Written(ctypes.Structure):
     _fields_ = [(n, U64) for n in ("number", "row", "field", "bytes")]
 
@@ -31,6 +38,9 @@ def load(path):
     lib.peer_read.argtypes = [BYTES, SIZE, U64, U64, BYTES, SIZE]
     lib.peer_write.restype = Written
     lib.peer_write.argtypes = [BYTES, SIZE, BYTES, SIZE, U64, BYTES, SIZE, U64, U64, U64, U64, U64, BYTES, SIZE]
+    lib.peer_statement_read.restype = StatementAnswer
+    lib.peer_statement_write.restype = Written
+    lib.peer_statement_read.argtypes = lib.peer_statement_write.argtypes = [BYTES, SIZE, BYTES, SIZE]
     return lib
 
 
@@ -225,12 +235,100 @@ def batch_cases(lib, rnd, count):
             yield "%s ≡ drafted (%s)" % (asked, quoted(out.raw[:a.bytes]))
 
 
-def definitions():
-    """the modules to import, and every definition that the prover has to see through"""
-    paths = [("Rattle.base.specs.Pick", "crates/base/specs/Pick.antt"), ("Rattle.base.specs.Seek", "crates/base/specs/Seek.antt"),
-             ("Rattle.sheet.specs.Sheets", "crates/sheet/specs/Sheets.antt")]
-    for m in re.findall(r"^pub mod (\w+)", open("crates/paper/specs/Lib.antt").read(), re.M):
-        paths.append(("Rattle.paper.specs." + m, "crates/paper/specs/%s.antt" % m))
+# ---- equations of statements
+
+OLD = b"U"  # what is lent to be filled is full of these
+KEPT = {74: slice(64, 113), 75: slice(64, 134)}
+
+
+def lend(call, data, room):
+    """the answer for `data`, and what the call left of `room` bytes"""
+    lent = ctypes.create_string_buffer(OLD * room, room)
+    return call(data, len(data), lent, room), lent.raw
+
+
+def lent_bytes(room):
+    return "(%s)" % quoted(OLD * room)
+
+
+def numbers(answer):
+    return "record { %s }" % "; ".join("%s = %d" % (name, getattr(answer, name)) for name, _ in answer._fields_)
+
+
+def reading(lib, text, room):
+    """the answer, what is left of the lent bytes, and the equation of the answer"""
+    a, lent = lend(lib.peer_statement_read, text, room)
+    return a, lent, "statementAnswer (%s) %s ≡ %s" % (quoted(text), lent_bytes(room), numbers(a))
+
+
+def writing(lib, rows, room):
+    a, lent = lend(lib.peer_statement_write, rows, room)
+    return a, lent, "writtenIn %d (statementDraft (%s)) ≡ %s" % (room, quoted(rows), numbers(a))
+
+
+def rooms(lib, rnd, case, data, plenty):
+    """plenty of room, one byte too few, and sometimes none; for what is refused in any, one of some sizes"""
+    if case(lib, data, plenty)[0].number != 0:
+        return [rnd.choice([0, 3, 200])]
+    return [plenty + 3, plenty - 1, 0][:rnd.choice([2, 2, 3])]
+
+
+def statement_file_cases(lib, rnd, text):
+    """what is lent is looked at where it may change, and now and then where it may not"""
+    plenty = statement_inputs.ROW * (len(text) // statement_inputs.RECORD)
+    for room in rooms(lib, rnd, reading, text, plenty):
+        a, lent, equation = reading(lib, text, room)
+        yield equation
+        if a.number == 0 or rnd.random() < 0.1:
+            yield "statementRows (%s) %s ≡ (%s)" % (quoted(text), lent_bytes(room), quoted(lent))
+        if a.number == 0 and rnd.random() < 0.4:
+            rows = [lent[i:i + statement_inputs.ROW] for i in range(0, plenty, statement_inputs.ROW)]
+            yield "plain (%s) ≡ (%s)" % (quoted(text), quoted(writing(lib, lent[:plenty], len(text))[1]))
+            yield "kept (%s) ≡ %s" % (quoted(text), "".join("(%s) ∷ " % quoted(r[KEPT[r[0]]]) for r in rows) + "[]")
+
+
+def statement_rows_cases(lib, rnd, rows):
+    """writing, in the same way"""
+    plenty = statement_inputs.RECORD * (len(rows) // statement_inputs.ROW)
+    for room in rooms(lib, rnd, writing, rows, plenty):
+        a, lent, equation = writing(lib, rows, room)
+        yield equation
+        if a.number == 0 or rnd.random() < 0.1:
+            yield "outputAfter %s (statementDraft (%s)) ≡ (%s)" % (lent_bytes(room), quoted(rows), quoted(lent))
+
+
+def statement_cases(lib, rnd):
+    make = statement_inputs.Inputs(rnd)
+    for text in make.files():
+        yield from statement_file_cases(lib, rnd, text)
+    for rows in make.rows():
+        yield from statement_rows_cases(lib, rnd, rows)
+    # these are long, and so have no room: 16 says that the sums agree
+    debit, credit, over = make.at_the_most()
+    for things in (debit, over):
+        yield reading(lib, statement_inputs.file_of(things), 0)[2]
+    yield writing(lib, statement_inputs.rows_of(credit), 0)[2]
+
+
+# ---- modules
+
+BASE = [("Rattle.base.specs." + m, "crates/base/specs/%s.antt" % m) for m in ("Pick", "Seek", "Put")]
+SHEET = [("Rattle.sheet.specs.Sheets", "crates/sheet/specs/Sheets.antt")]
+
+
+def specs(crate):
+    found = re.findall(r"^pub mod (\w+)", open("crates/%s/specs/Lib.antt" % crate).read(), re.M)
+    return [("Rattle.%s.specs.%s" % (crate, m), "crates/%s/specs/%s.antt" % (crate, m)) for m in found]
+
+
+def below(crate, paths):
+    """of these modules, those that the definitions of a crate name"""
+    said = "".join(open(path).read() for _, path in specs(crate))
+    return [(module, path) for module, path in paths if "use %s." % module in said]
+
+
+def definitions(paths):
+    """the modules to import, and every definition that the prover has to see through; of two with one name, the first is brought in"""
     uses, names = [], []
     for module, path in paths:
         found = [n for n in re.findall(r"^\s*unfoldable pub (\S+) :", open(path).read(), re.M) if n not in names]
@@ -240,19 +338,25 @@ def definitions():
     return uses, names
 
 
+def write_module(path, paths, also, cases):
+    uses, names = definitions(paths)
+    with open(path, "w") as f:
+        f.write("use Prim.Native.Nat.{ℕ, suc}\nuse mathlib.Core.List.{List, [], _∷_}\nuse mathlib.Core.Path.{_≡_, refl}\n")
+        f.write("use Rattle.paper.specs.Bytes.{bytes}\n" + also + "\n".join(uses) + "\n")
+        for i, case in enumerate(cases):
+            f.write("\ncase%d : %s\nunfolding %s\ncase%d = refl\n" % (i, case, " ".join(names), i))
+
+
 def main():
     lib, folder = load(sys.argv[1]), sys.argv[2]
     rnd = random.Random(int(sys.argv[3]))
     cases = list(file_cases(lib, rnd, int(sys.argv[4]))) + list(batch_cases(lib, rnd, int(sys.argv[5])))
-    uses, names = definitions()
+    of_statements = list(statement_cases(lib, rnd))
     with open(folder + "/Lib.antt", "w") as f:
-        f.write("pub mod Cases\n")
-    with open(folder + "/Cases.antt", "w") as f:
-        f.write("use Prim.Native.Nat.{ℕ, suc}\nuse mathlib.Core.List.{List, [], _∷_}\nuse mathlib.Core.Path.{_≡_, refl}\n")
-        f.write("use Rattle.paper.specs.Bytes.{bytes}\nuse Rattle.paper.specs.Writing.{drafted}\n" + "\n".join(uses) + "\n")
-        for i, case in enumerate(cases):
-            f.write("\ncase%d : %s\nunfolding %s\ncase%d = refl\n" % (i, case, " ".join(names), i))
-    print(len(cases))
+        f.write("pub mod Cases\npub mod StatementCases\n")
+    write_module(folder + "/Cases.antt", BASE + SHEET + specs("paper"), "use Rattle.paper.specs.Writing.{drafted}\n", cases)
+    write_module(folder + "/StatementCases.antt", BASE + specs("gpc") + below("gpc", specs("paper")), "", of_statements)
+    print(len(cases) + len(of_statements))
 
 
 main()
