@@ -220,7 +220,7 @@ def the_rules():
     said = set(re.findall(r"(?<![\w/])([A-Z]\w*\.(?!(?:antt|md)\b)[A-Za-z]\w*)", page))
     structs = re.findall(r"^pub struct (\w+) \{(.*?)^\}", (ROOT / "crates/sheet/src/lib.rt").read_text(), re.M | re.S)
     fields = {f"{struct}.{name}" for struct, body in structs for name in re.findall(r"^    pub (\w+):", body, re.M)}
-    rules, others = modules("paper", "sheet"), modules("base", "reader")
+    rules, others = modules("paper", "sheet"), {name: file for name, file in modules("base", "reader", "gpc").items() if name not in modules("paper", "sheet")}
     there = fields | {f"{module}.{name}" for module, file in {**rules, **others}.items() for name in (*file.says, *file.parts)}
     owed = fields | {f"{module}.{name}" for module, file in rules.items() for name in file.shown}
     check(len(fields) > 30 and len(owed) > 300, "tools/house.py does not find the definitions of the rules")
