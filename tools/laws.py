@@ -39,6 +39,7 @@ STANDING = {
     # worked examples of a statement's fields
     "internal/proofs/Examples": "*",
     "turnover/proofs/Edges": "*",
+    "gpcwhole/proofs/Examples": "*",
     # contracts that are no equations leave one answer all the same
     "reader/proofs/Determined": ("finds-one",),
     "rewriting/proofs/Front": ("determined",),

@@ -7,3 +7,4 @@ pub mod Writing
 -- one after the other
 pub mod Again
 pub mod Back
+pub mod Examples
