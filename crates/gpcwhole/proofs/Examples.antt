@@ -61,6 +61,13 @@ unread = record-of "0749010000000000019POND FIRM           01012600000000100000+
 abbrev less : List ℕ
 less = record-of "0749010000000000019POND FIRM           01012600000000100000+00000000097500+000000000025000000000000000000001310126              "
 
+-- two faults in one record: a sign and a turnover; the other account and a code of document 001
+abbrev twice : List ℕ
+twice = record-of "0749010000000000019POND FIRM           01012600000000100000x00000000097500+x00000000035000000000000010000001310126              "
+
+abbrev twice-moved : List ℕ
+twice-moved = record-of "0759010000000000019x70000000000000000000000000010000000035003000000004200000005580000000000310126ICE                 00203310126"
+
 -- room for six rows
 abbrev room : List ℕ
 room = blanks 816
@@ -90,6 +97,11 @@ pub order : (statementAnswer (new-off ++ (debit ++ (credit ++ unread))) room ≡
     × (statementAnswer [] room ≡ refusedAt 50 0 0)
 unfolding or51 piecesOn pieces taken internal edited accountOf readInternal spellInternal signed isDifference above below side readDigits readMinus onSigned spellSigned negative signedWord wordSigned isCode part total isDebit isCredit balanced readCode readHead readMovement readRecord readRecords recordsIn spellHead spellMovement spell spells movementThings things movesOf closed onSaid with judgeOn judge canon headIn movementIn thingIn thingsOn thingsIn test accountTest signedTest headTested movementTested tested testeds headRow movementRow answered judgeFile statementAnswer draftOf judgeRows statementDraft wordOf wordBytes wordsBytes blanks digits digitsOn fixed fixedOn given onField isDigit null starts pick
 order = (refl, refl, refl, refl, refl, refl)
+
+-- of two faults in a record the left one is told
+pub leftmost : (statementAnswer twice room ≡ refusedAt 51 0 59) × (statementAnswer (good ++ twice-moved) room ≡ refusedAt 51 1 19)
+unfolding or51 piecesOn pieces taken internal edited accountOf readInternal spellInternal signed isDifference above below side readDigits readMinus onSigned spellSigned negative signedWord wordSigned isCode part total isDebit isCredit balanced readCode readHead readMovement readRecord readRecords recordsIn spellHead spellMovement spell spells movementThings things movesOf closed onSaid with judgeOn judge canon headIn movementIn thingIn thingsOn thingsIn test accountTest signedTest headTested movementTested tested testeds headRow movementRow answered judgeFile statementAnswer draftOf judgeRows statementDraft wordOf wordBytes wordsBytes blanks digits digitsOn fixed fixedOn given onField isDigit null starts pick
+leftmost = (refl, refl)
 
 -- ---- rows
 
