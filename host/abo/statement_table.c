@@ -6,6 +6,7 @@
 #include <string.h>
 
 #include <abo_say.h>
+#include "../common/account.h"
 #include "../common/balance.h"
 #include "../common/letters.h"
 #include "../common/sums.h"
@@ -22,16 +23,6 @@ struct cells {
 };
 
 /* ---- cells ---- */
-
-static void spell_account(char *cell, struct abo_account a)
-{
-    if (a.prefix != 0)
-        snprintf(cell, CELL, "%" PRIu64 "-%" PRIu64, a.prefix, a.base);
-    else if (a.base != 0)
-        snprintf(cell, CELL, "%" PRIu64, a.base);
-    else
-        cell[0] = '\0';
-}
 
 static bool are_digits(const uint8_t *bytes, size_t len)
 {
@@ -68,7 +59,7 @@ static void spell_symbol(char *cell, const uint8_t *digits, size_t len)
 static void spell_other(char *cell, const struct abo_statement_movement *m)
 {
     size_t len;
-    spell_account(cell, m->other);
+    spell_account(cell, CELL, m->other);
     len = strlen(cell);
     if (len > 0 && are_digits(m->constant, sizeof m->constant))
         snprintf(cell + len, CELL - len, "/%.4s", (const char *)m->constant + 2);
@@ -150,7 +141,7 @@ static void print_head(FILE *to, const struct abo_statement_head *h)
     spell_day(cell, h->posted_day);
     if (cell[0] != '\0')
         fprintf(to, " of %s", cell);
-    spell_account(cell, h->account);
+    spell_account(cell, CELL, h->account);
     fprintf(to, ", account %s, name ", cell[0] != '\0' ? cell : "0");
     print_text(to, h->name, sizeof h->name);
     fputc('\n', to);
@@ -238,7 +229,7 @@ void print_statement_csv(FILE *to, const struct statement *s)
             head = &s->rows[i].head;
             continue;
         }
-        spell_account(account, m->account);
+        spell_account(account, CELL, m->account);
         spell_movement(&c, m, balance);
         fprintf(to, "%s,", account);
         put_csv_text(to, head->number, sizeof head->number);

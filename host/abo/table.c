@@ -5,6 +5,7 @@
 #include <inttypes.h>
 #include <string.h>
 
+#include "../common/account.h"
 #include "../common/letters.h"
 #include "../common/sums.h"
 
@@ -18,16 +19,6 @@ static const char *const titles[COLUMNS] = {
 struct cells {
     char of[COLUMNS][CELL];
 };
-
-static void spell_account(char *cell, struct abo_account a)
-{
-    if (a.prefix != 0)
-        snprintf(cell, CELL, "%" PRIu64 "-%" PRIu64, a.prefix, a.base);
-    else if (a.base != 0)
-        snprintf(cell, CELL, "%" PRIu64, a.base);
-    else
-        cell[0] = '\0';
-}
 
 static void spell_crowns(char *cell, uint64_t haler)
 {
@@ -44,8 +35,8 @@ static void spell_day(char *cell, uint64_t day)
 
 static void spell_item(struct cells *c, const struct abo_item_row *item)
 {
-    spell_account(c->of[PAYER], item->payer);
-    spell_account(c->of[PAYEE], item->payee);
+    spell_account(c->of[PAYER], CELL, item->payer);
+    spell_account(c->of[PAYEE], CELL, item->payee);
     snprintf(c->of[BANK], CELL, "%04" PRIu64, item->bank);
     spell_crowns(c->of[CROWNS], item->amount);
     snprintf(c->of[VARIABLE], CELL, "%" PRIu64, item->variable);
@@ -132,7 +123,7 @@ static void print_group(FILE *to, const union abo_row *rows, size_t count)
     for (; items + 1 < count && rows[items + 1].word[ABO_FIELD_ROW] == ABO_ROW_ITEM; items++)
         total += rows[items + 1].item.amount;
     spell_day(due, rows->group.due);
-    spell_account(payer, rows->group.payer);
+    spell_account(payer, CELL, rows->group.payer);
     spell_crowns(sum, total);
     fprintf(to, "  group due %s, %s%s, sum %s, items %zu\n", due,
             payer[0] != '\0' ? "payer " : "a payer for each item", payer, sum,
