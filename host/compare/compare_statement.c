@@ -10,15 +10,13 @@
 #include <stdio.h>
 #include <string.h>
 
-#include "../call/call_abo.h"
-#include "../call/call_peer.h"
 #include "../call/show.h"
 #include "../generate/dice.h"
 #include "../generate/record.h"
 #include "../generate/seeds.h"
 #include "../generate/statements.h"
 #include "ask_statement.h"
-#include "endless.h"
+#include "endless_sums.h"
 
 enum { ENOUGH = 20000, RECORD = ABO_RECORD_BYTES, ROW = ABO_STATEMENT_ROW_BYTES };
 
@@ -114,51 +112,14 @@ static void compare_corners(void)
     text_free(&file);
 }
 
-/* ---- a sum that passes 2^64 ---- */
-
-/* So many movements of the greatest amount add up to 2^64 and what the head says
-   as its debit turnover: a sum in one word is taken for that. */
-#define TURNS UINT64_C(18446745)
-#define GREATEST UINT64_C(999999999999)
-
-static void make_turns(union abo_statement_row *rows)
-{
-    memset(rows, 0, 2 * sizeof *rows);
-    rows[0].word[0] = ABO_STATEMENT_HEAD;
-    rows[0].head.debit = (int64_t)(TURNS * GREATEST);
-    rows[0].head.new_balance = -rows[0].head.debit;
-    rows[1].word[0] = ABO_STATEMENT_MOVEMENT;
-    rows[1].movement.code = ABO_CODE_DEBIT;
-    rows[1].movement.amount = GREATEST;
-}
-
-static void compare_turns(enum which which, const uint8_t *pieces, size_t size)
-{
-    struct endless e;
-    make_endless(&e, pieces, pieces + size, size, TURNS);
-    struct call c = {.which = which, .file = {e.bytes, e.len}};
-    in_hand("a sum that passes 2^64", 0, NULL, 0);
-    struct outcome a = call_abo(&c, NULL, 0), p = call_peer(&c, NULL, 0);
-    check(a.number == ABO_BAD_TURNOVER && same_outcome(&a, &p),
-          "a sum that passes 2^64 is taken for what is left of it");
-    free_endless(&e);
-}
-
 /* Only where it takes seconds. */
-static void compare_endless(struct seeds seeds)
+static void compare_long(struct seeds seeds)
 {
-    union abo_statement_row rows[2];
-    struct text file = {0};
     if (seeds.step > 1 || seeds.count < ENOUGH) {
-        printf("a sum that passes 2^64 is not tested\n");
+        printf("sums that pass 2^64 are not tested\n");
         return;
     }
-    make_turns(rows);
-    put_record(&file, &rows[0], false);
-    put_record(&file, &rows[1], false);
-    compare_turns(READS_STATEMENT, file.data, RECORD);
-    compare_turns(WRITES_STATEMENT, (const uint8_t *)rows, ROW);
-    text_free(&file);
+    compare_endless();
 }
 
 /* ---- the round trip, by the library alone ---- */
@@ -303,7 +264,7 @@ int main(int argc, char **argv)
     compare_generated(seeds);
     compare_frame();
     compare_corners();
-    compare_endless(seeds);
+    compare_long(seeds);
     round_trips(seeds);
     report(seeds);
     return last_line();

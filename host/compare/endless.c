@@ -11,6 +11,7 @@
 /* A chunk is so many pieces that it ends with a page, whatever a piece's size;
    it has some pages more, so that there are not too many mappings. */
 enum { PAGE = 4096, PIECES = PAGE / 2 };
+_Static_assert(ENDLESS_RUN % PIECES == 0, "a run is whole chunks");
 
 static int chunk_of(const uint8_t *piece, size_t size)
 {
@@ -33,21 +34,28 @@ static void map_chunk(uint8_t *at, size_t len, int file, bool own)
         give_up("pieces");
 }
 
-void make_endless(struct endless *e, const uint8_t *first,
-                  const uint8_t *again, size_t size, size_t count)
+/* A run of one piece. */
+static void map_run(uint8_t *at, const uint8_t *piece, size_t size, bool first)
 {
-    size_t chunk = PIECES * size, chunks = count / PIECES + 1;
-    int file = chunk_of(again, size);
-    e->all = chunks * chunk;
-    e->len = (count + 1) * size;
+    size_t chunk = PIECES * size;
+    int file = chunk_of(piece, size);
+    for (size_t i = 0; i < ENDLESS_RUN / PIECES; i++)
+        map_chunk(at + i * chunk, chunk, file, first && i == 0);
+    close(file);
+}
+
+void make_endless(struct endless *e, const uint8_t *pieces, size_t size,
+                  unsigned runs)
+{
+    size_t run = ENDLESS_RUN * size;
+    e->len = e->all = runs * run;
     e->bytes = mmap(NULL, e->all, PROT_NONE,
                     MAP_PRIVATE | MAP_ANONYMOUS | MAP_NORESERVE, -1, 0);
     if (e->bytes == MAP_FAILED)
         give_up("pieces");
-    for (size_t i = 0; i < chunks; i++)
-        map_chunk(e->bytes + i * chunk, chunk, file, i == 0);
-    memcpy(e->bytes, first, size);
-    close(file);
+    for (size_t i = 0; i < runs; i++)
+        map_run(e->bytes + i * run, pieces + (i + 1) * size, size, i == 0);
+    memcpy(e->bytes, pieces, size);
 }
 
 void free_endless(struct endless *e)
