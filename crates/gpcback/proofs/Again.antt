@@ -20,7 +20,8 @@ use Rattle.gpc.specs.Records.{Head, Movement, Thing, aHead, aMovement, strange,
 use Rattle.gpc.specs.Canonical.{plainSign, plainRecord, keptIn}
 use Rattle.gpcback.specs.Proper.{ProperHead, ProperMovement, Proper}
 use Rattle.gpcback.proofs.Segments.{joined, slices-joined}
-use Rattle.gpcback.proofs.Fields.{signed-length, digits-slice, sign-slice}
+use Rattle.turnover.proofs.Laws.{signed-length}
+use Rattle.gpcback.proofs.Fields.{digits-slice, sign-slice}
 use Rattle.gpcback.proofs.Heads.{headSizes, headWith, oldOf, newOf, debitOf, creditOf, headParts, head-joined, head-starts, sized-with, head-part}
 use Rattle.gpcback.proofs.Movements.{movementSizes, movementParts, movement-joined, movement-no-head, movement-part}
 use Rattle.gpcback.proofs.ReadFields.{slice-length, SignedSaid}

@@ -1,40 +1,26 @@
--- Fields of a record as they are spelled: how long they are, and they are read back. Assumes nothing.
+-- Fields of a record as they are spelled: they are read back. Assumes nothing.
 use mathlib.Core.Path.{_≡_, sym, ap, _∙_}
 use mathlib.Core.Bool.{true}
-use mathlib.Core.List.{List, [], _∷_, _++_}
+use mathlib.Core.List.{List, [], _∷_}
 use Prim.Native.Nat.{ℕ, _+_, _-_, _%_, _^_, _≤_, _<_}
 use native.Mathlib.Omega.{arith}
-use lib.ListN.{length, take, drop, length-append}
+use lib.ListN.{take, drop}
 use lib.Seq.{take-at, drop-at, take-take, drop-drop}
 use borrow.Author.Tests.{ne-eqb}
 use Rattle.base.specs.Pick.{pick}
 use Rattle.base.proofs.Cases.{by-eq}
 use Rattle.base.proofs.Lists.{drop-take}
 use Rattle.base.proofs.Seek.{never}
-use Rattle.paper.specs.Read.{Field, value}
+use Rattle.paper.specs.Read.{value}
 use Rattle.paper.specs.Numerals.{fixedOn, fixed}
-use Rattle.paper.specs.Accounts.{Account}
-use Rattle.paper.specs.Entries.{Said, onField}
+use Rattle.paper.specs.Entries.{Said}
 use Rattle.numeral.proofs.Fixed.{fixed-length}
 use Rattle.numeral.proofs.Back.{fixed-back}
-use Rattle.internal.proofs.Places.{taken-length}
 use Rattle.turnover.proofs.Laws.{field-back}
 use Rattle.gpc.specs.Parts.{slice, or51}
-use Rattle.gpc.specs.Internal.{inside, internal, spellInternal}
 use Rattle.gpc.specs.Signed.{Signed, Fourteen, readDigits, onSigned, spellSigned}
 use Rattle.gpc.specs.Turnovers.{isCode}
 use Rattle.gpc.specs.Records.{readCode}
-
--- a field whose value is known
-pub on-back : {A B : Type 0} (at : ℕ) (x : Field A) (v : A) (k : A → Said B) → x ≡ value v → onField at x k ≡ k v
-unfolding onField
-on-back at x v k e = rw e
-
--- ---- an account
-
-pub account-length : (a : Account) → length (spellInternal a) ≡ 16
-unfolding spellInternal internal
-account-length a = taken-length inside (fixed 6 (a .prefix) ++ fixed 10 (a .base))
 
 -- ---- a number
 
@@ -62,10 +48,6 @@ code-back c h =
     rw (e, h)
 
 -- ---- a number with a sign
-
-pub signed-length : (plus : ℕ) (x : Signed) → length (spellSigned plus x) ≡ 15
-unfolding spellSigned
-signed-length plus x = length-append (fixed 14 (x .size)) (pick (x .minus) 45 plus ∷ []) ∙ omega (arith, fixed-length 14 (x .size))
 
 module _ (at : ℕ) (s : List ℕ) where
   -- the digits and the sign of fifteen bytes

@@ -9,14 +9,16 @@ use Rattle.base.specs.Seek.{starts}
 use Rattle.base.proofs.Seek.{starts-self}
 use Rattle.paper.specs.Bytes.{bytes}
 use Rattle.paper.specs.Entries.{got}
-use Rattle.internal.proofs.Laws.{back}
+use Rattle.paper.proofs.Fields.{on-back}
+use Rattle.internal.proofs.Laws.{account-length, back}
+use Rattle.turnover.proofs.Laws.{signed-length}
 use Rattle.gpc.specs.Parts.{slice}
 use Rattle.gpc.specs.Internal.{readInternal, spellInternal}
 use Rattle.gpc.specs.Signed.{balancePlus, turnoverPlus, spellSigned}
 use Rattle.gpc.specs.Records.{Head, readHead, crlf, spellHead}
 use Rattle.gpcback.specs.Proper.{ProperHead}
 use Rattle.gpcback.proofs.Segments.{joined, Sized, startOf, segment, joined-rest, joined-length}
-use Rattle.gpcback.proofs.Fields.{on-back, account-length, signed-length, signed-back}
+use Rattle.gpcback.proofs.Fields.{signed-back}
 
 -- its segments: type, account, what is kept, two balances, two turnovers, what is kept
 abbrev pub headSizes : List ℕ

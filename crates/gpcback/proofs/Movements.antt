@@ -12,14 +12,15 @@ use Rattle.paper.specs.Bytes.{bytes}
 use Rattle.paper.specs.Numerals.{fixed}
 use Rattle.paper.specs.Entries.{got}
 use Rattle.numeral.proofs.Fixed.{fixed-length}
-use Rattle.internal.proofs.Laws.{back}
+use Rattle.paper.proofs.Fields.{on-back}
+use Rattle.internal.proofs.Laws.{account-length, back}
 use Rattle.gpc.specs.Parts.{slice}
 use Rattle.gpc.specs.Internal.{readInternal, spellInternal}
 use Rattle.gpc.specs.Signed.{readDigits}
 use Rattle.gpc.specs.Records.{Movement, readCode, readMovement, crlf, spellMovement}
 use Rattle.gpcback.specs.Proper.{ProperMovement}
 use Rattle.gpcback.proofs.Segments.{joined, Sized, startOf, segment, joined-rest, joined-length}
-use Rattle.gpcback.proofs.Fields.{on-back, account-length, digits-back, code-back}
+use Rattle.gpcback.proofs.Fields.{digits-back, code-back}
 
 -- its segments: type, both accounts, what is kept, amount, code, variable symbol, what is kept
 abbrev pub movementSizes : List ℕ

@@ -12,9 +12,10 @@ use Rattle.paper.specs.Accounts.{Account}
 use Rattle.paper.specs.Entries.{Said, got, no, onField}
 use Rattle.numeral.proofs.Sound.{digits-sound}
 use Rattle.numeral.proofs.given.Given.{value-fault, passed}
+use Rattle.internal.proofs.Parts.{accepted-by}
 use Rattle.internal.proofs.Laws.{sound}
 use Rattle.turnover.proofs.Laws.{read-fourteen}
-use Rattle.gpc.specs.Parts.{slice, or51}
+use Rattle.gpc.specs.Parts.{slice}
 use Rattle.gpc.specs.Internal.{readInternal}
 use Rattle.gpc.specs.Signed.{Signed, signed, Fourteen, readDigits, readMinus, onSigned}
 use Rattle.gpc.specs.Turnovers.{isCode}
@@ -49,14 +50,9 @@ account-proper s a e = let p = sound s a e in record { prefix = p .0; base = p .
 
 -- ---- a number
 
-or51-value : (x : Field ℕ) (v : ℕ) → or51 x ≡ value v → x ≡ value v
-unfolding or51
-or51-value (value u) v e = e
-or51-value (fault n) v e = value-fault v 51 (sym e)
-
 pub digits-value : (k : ℕ) (s : List ℕ) (v : ℕ) → readDigits k s ≡ value v → digits k k s ≡ value v
 unfolding readDigits
-digits-value k s v e = or51-value (digits k k s) v e
+digits-value k s v e = accepted-by (digits k k s) v e
 
 -- ---- a posting code
 

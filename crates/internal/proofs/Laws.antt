@@ -82,7 +82,11 @@ module _ (s : List ℕ) where
         let long : length s ≡ 16 = omega (arith, digits-least 16 16 s (said .0) (said .1), digits-most 16 16 s (said .0) (said .1)) in
         ap internal (parts-spelled (edited s) a (said .2)) ∙ out-in s long
 
--- ---- what is spelled is read back
+-- ---- what is spelled has sixteen bytes, and is read back
+
+pub account-length : (a : Account) → length (spellInternal a) ≡ 16
+unfolding spellInternal internal
+account-length a = taken-length inside (fixed 6 (a .prefix) ++ fixed 10 (a .base))
 
 pub back : (a : Account) → a .prefix < 1000000 → a .base < 10000000000 → readInternal (spellInternal a) ≡ value a
 unfolding spellInternal internal

@@ -76,7 +76,7 @@ unfolding or51 given
 refused-by (value v) y n e = rw e
 refused-by (fault m) y n e = refl
 
-pub accepted-by : (x : Field Account) (a : Account) → or51 x ≡ value a → x ≡ value a
+pub accepted-by : {A : Type 0} (x : Field A) (a : A) → or51 x ≡ value a → x ≡ value a
 unfolding or51
 accepted-by (value b) a e = e
 accepted-by (fault n) a e = value-fault a 51 (sym e)

@@ -1,3 +1,4 @@
+pub mod Fields
 pub mod LineSays
 pub mod Lists
 pub mod Passing

@@ -5,7 +5,7 @@ use mathlib.Core.List.{List, [], _∷_, _++_}
 use Prim.Native.Nat.{ℕ, _+_, _*_, _<_, _≤_}
 use native.Mathlib.Omega.{arith}
 use lib.Dec.{eqb, ltb}
-use lib.ListN.{length}
+use lib.ListN.{length, length-append}
 use borrow.Author.Tests.{eqb-true, eq-eqb, ne-eqb, lt-ltb, le-ltb}
 use Rattle.base.specs.Pick.{pick}
 use Rattle.base.proofs.Cases.{either, by-eq}
@@ -13,9 +13,10 @@ use Rattle.paper.specs.Batch.{most14}
 use Rattle.paper.specs.Read.{value}
 use Rattle.paper.specs.Numerals.{fixed}
 use Rattle.paper.specs.Entries.{Said, onField}
+use Rattle.numeral.proofs.Fixed.{fixed-length}
 use Rattle.numeral.proofs.Back.{fixed-back}
 use Rattle.gpc.specs.Parts.{slice, or51}
-use Rattle.gpc.specs.Signed.{Signed, signed, Fourteen, isDifference, above, below, side, readDigits, readMinus, onSigned, negative, signedWord, wordSigned}
+use Rattle.gpc.specs.Signed.{Signed, signed, Fourteen, isDifference, above, below, side, readDigits, readMinus, onSigned, spellSigned, negative, signedWord, wordSigned}
 use Rattle.gpc.specs.Turnovers.{Moved, moved, isCode, most12, part, total, balanced}
 use Rattle.turnover.specs.declared.Turn.{Turn}
 use Rattle.turnover.specs.declared.Turns.{Turns}
@@ -67,6 +68,10 @@ module _ {B : Type 0} (plus at : ℕ) (s : List ℕ) (k : Signed → Said B) whe
   field-back x h n d g =
       spelled (x .minus) (x .size) (pick (x .minus) 45 plus) (h .small) d g (sign-back (x .minus) n)
       ∙ ap k (signed-same (x .minus) (x .size) (h .some))
+
+pub signed-length : (plus : ℕ) (x : Signed) → length (spellSigned plus x) ≡ 15
+unfolding spellSigned
+signed-length plus x = omega (arith, length-append (fixed 14 (x .size)) (pick (x .minus) 45 plus ∷ []), fixed-length 14 (x .size))
 
 -- ---- words of a row
 

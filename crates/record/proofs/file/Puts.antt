@@ -12,20 +12,10 @@ use Rattle.out.proofs.put.Room.{wrote-length}
 use Rattle.paper.specs.Numerals.{fixed}
 use Rattle.paper.specs.Accounts.{Account, account}
 use Rattle.numeral.proofs.Fixed.{fixed-length}
-use Rattle.internal.proofs.Places.{taken-length}
-use Rattle.gpc.specs.Internal.{inside, internal, spellInternal}
+use Rattle.turnover.proofs.Laws.{signed-length}
+use Rattle.gpc.specs.Internal.{spellInternal}
 use Rattle.gpc.specs.Signed.{Signed as Number, spellSigned}
 use Rattle.gpc.specs.Records.{crlf}
-
--- ---- lengths
-
-pub account-length : (a : Account) → length (spellInternal a) ≡ 16
-unfolding spellInternal internal
-account-length a = taken-length inside (fixed 6 (a .prefix) ++ fixed 10 (a .base))
-
-pub signed-length : (plus : ℕ) (x : Number) → length (spellSigned plus x) ≡ 15
-unfolding spellSigned
-signed-length plus x = omega (arith, length-append (fixed 14 (x .size)) (pick (x .minus) 45 plus ∷ []), fixed-length 14 (x .size))
 
 -- what is left behind a text of k bytes
 pub behind : {o o1 x : List ℕ} {at p : ℕ} (k n : ℕ) → Wrote o at x o1 p → length x ≡ k → at + (k + n) ≤ length o → p + n ≤ length o1

@@ -10,7 +10,8 @@ use Rattle.paper.specs.Accounts.{Account, account}
 use Rattle.gpc.specs.Internal.{spellInternal}
 use Rattle.gpc.specs.Signed.{Signed as Number, spellSigned}
 use Rattle.gpc.specs.Records.{crlf, spellHead, spellMovement}
-use Rattle.record.proofs.file.Puts.{front, numbers, behind, account-length, pair-length, numbers-length}
+use Rattle.internal.proofs.Laws.{account-length}
+use Rattle.record.proofs.file.Puts.{front, numbers, behind, pair-length, numbers-length}
 
 abbrev two : ℕ → Number → Number → List ℕ
 two plus x y = spellSigned plus x ++ spellSigned plus y

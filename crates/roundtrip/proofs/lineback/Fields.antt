@@ -36,11 +36,6 @@ digits-field d h = digit-free 32 d h refl
 pub field-is : (d r : List ℕ) → Free space d → Stops r → fieldOf (d ++ r) ≡ d
 field-is d r h s = rw (seek-stops d r h s) (take-append-seam d r)
 
--- a field whose value is known
-pub on-back : {A Z : Type 0} (at : ℕ) (x : Field A) (v : A) (k : A → Said Z) → x ≡ value v → onField at x k ≡ k v
-unfolding onField
-on-back at x v k e = rw e
-
 module _ {A Z : Type 0} (read : List ℕ → Field A) (at : ℕ) (d : List ℕ) (v : A) (k : A → ℕ → List ℕ → Said Z) where
   -- a field, and what stops it
   pub field-back : (r : List ℕ) → Free space d → Stops r → read d ≡ value v → field read at (d ++ r) k ≡ k v (at + length d) r

@@ -22,7 +22,8 @@ use Rattle.paper.proofs.Verdicts.{check-only, Headed, headed}
 use Rattle.numeral.proofs.Fixed.{fixed-length}
 use Rattle.numeral.proofs.Back.{fixed-back}
 use Rattle.calendar.proofs.Back.{day-back, spell-day-length}
-use Rattle.roundtrip.proofs.lineback.Fields.{on-back, place-back}
+use Rattle.paper.proofs.Fields.{on-back}
+use Rattle.roundtrip.proofs.lineback.Fields.{place-back}
 
 ordered-in : (ordered : Bool) (h : Header) → headerCarried ordered h ≡ fine → pick ordered (ltb (h .to) (h .from)) false ≡ false
 unfolding headerCarried pick

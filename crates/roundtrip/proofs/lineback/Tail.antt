@@ -19,6 +19,7 @@ use Rattle.paper.specs.Numerals.{decimal}
 use Rattle.paper.specs.Texts.{Noted, readText, trim, spellText, noText}
 use Rattle.paper.specs.Entries.{Listed, gap}
 use Rattle.paper.specs.ItemLine.{noTexts, readSymbol, readSymbolOrNone, isValue, fixedTail, afterSymbol, openTail, tail, partBytes, spellTail}
+use Rattle.paper.proofs.Fields.{on-back}
 use Rattle.paper.proofs.Lists.{some-null}
 use Rattle.numeral.proofs.Back.{decimal-back}
 use Rattle.numeral.proofs.Plain.{decimal-plain}
@@ -27,7 +28,7 @@ use Rattle.text.specs.wording.Wording.{Sendable, Back}
 use Rattle.text.proofs.wording.Parts.{fill, fill-trim}
 use Rattle.text.proofs.wording.Fit.{null-is}
 use Rattle.text.proofs.wording.Laws.{text-back}
-use Rattle.roundtrip.proofs.lineback.Fields.{Stops, at-end, at-space, digits-field, field-is, on-back, field-back}
+use Rattle.roundtrip.proofs.lineback.Fields.{Stops, at-end, at-space, digits-field, field-is, field-back}
 
 -- ---- the symbol
 
