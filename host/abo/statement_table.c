@@ -10,6 +10,7 @@
 #include "../common/balance.h"
 #include "../common/letters.h"
 #include "../common/sums.h"
+#include "columns.h"
 
 enum column { DAY, OTHER, CROWNS, BALANCE, POSTING, VARIABLE, SPECIFIC, CONSTANT, COLUMNS };
 enum { CELL = BALANCE_ROOM };
@@ -99,12 +100,9 @@ static void measure(int width[COLUMNS], const struct statement *s)
             continue;
         spell_movement(&c, &s->rows[i].movement, balance);
         for (int k = 0; k < COLUMNS; k++)
-            if ((int)strlen(c.of[k]) > width[k])
-                width[k] = (int)strlen(c.of[k]);
+            widen(&width[k], c.of[k]);
     }
-    for (int k = 0; k < COLUMNS; k++)
-        if (width[k] > 0 && (int)strlen(titles[k]) > width[k])
-            width[k] = (int)strlen(titles[k]);
+    widen_by_titles(width, titles, COLUMNS);
 }
 
 /* Days, accounts and words stand at the left of their columns, numbers at the right. */
@@ -124,9 +122,7 @@ static size_t without_blanks(const uint8_t *bytes, size_t len)
 
 static void print_text(FILE *to, const uint8_t *bytes, size_t len)
 {
-    fputc('"', to);
-    show_1250(to, bytes, without_blanks(bytes, len));
-    fputc('"', to);
+    print_quoted(to, bytes, without_blanks(bytes, len));
 }
 
 /* "statement 001 of 2001-12-27, account 19-19, name "Firma"": what a head says but for its numbers, as far as it says it. */

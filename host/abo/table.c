@@ -6,8 +6,8 @@
 #include <string.h>
 
 #include "../common/account.h"
-#include "../common/letters.h"
 #include "../common/sums.h"
+#include "columns.h"
 
 enum column { PAYER, PAYEE, BANK, CROWNS, VARIABLE, SPECIFIC, CONSTANT, PRIORITY, COLUMNS };
 enum { CELL = SUM_ROOM }; /* room for two numbers of 64 bits and what divides them */
@@ -55,12 +55,9 @@ static void measure(int width[COLUMNS], const union abo_row *rows, size_t count)
             continue;
         spell_item(&c, &rows[i].item);
         for (int k = 0; k < COLUMNS; k++)
-            if ((int)strlen(c.of[k]) > width[k])
-                width[k] = (int)strlen(c.of[k]);
+            widen(&width[k], c.of[k]);
     }
-    for (int k = 0; k < COLUMNS; k++)
-        if (width[k] > 0 && (int)strlen(titles[k]) > width[k])
-            width[k] = (int)strlen(titles[k]);
+    widen_by_titles(width, titles, COLUMNS);
 }
 
 /* Accounts stand at the left of their columns, numbers at the right. */
@@ -78,13 +75,6 @@ static void print_titles(FILE *to, const int width[COLUMNS])
     fputs("  message, name\n", to);
 }
 
-static void print_text(FILE *to, const uint8_t *bytes, uint64_t len)
-{
-    fputc('"', to);
-    show_1250(to, bytes, (size_t)len);
-    fputc('"', to);
-}
-
 /* Message parts up to the last one that is not empty, then the name, each in quotes so that spaces at its ends show. */
 static void print_texts(FILE *to, const struct input *file,
                         const struct abo_item_row *item)
@@ -94,11 +84,11 @@ static void print_texts(FILE *to, const struct input *file,
         used--;
     for (int i = 0; i < used; i++) {
         fputs(i == 0 ? "  " : " ", to);
-        print_text(to, file->bytes + item->part[i].place, item->part[i].length);
+        print_quoted(to, file->bytes + item->part[i].place, (size_t)item->part[i].length);
     }
     if (item->name.length > 0) {
         fputs("  name ", to);
-        print_text(to, file->bytes + item->name.place, item->name.length);
+        print_quoted(to, file->bytes + item->name.place, (size_t)item->name.length);
     }
 }
 
@@ -141,7 +131,7 @@ static void print_header(FILE *to, const struct abo_header *h)
         len--;
     spell_day(date, h->date);
     fprintf(to, "file of %s, name ", date);
-    print_text(to, h->name, len);
+    print_quoted(to, h->name, len);
     fprintf(to, ", client %010" PRIu64 ", interval %03" PRIu64 " to %03" PRIu64 "\n",
             h->client, h->from, h->to);
 }

@@ -9,27 +9,14 @@
  *
  *   say include/abo.h docs/ROWS.md
  */
-#include <abo_say.h>
-#include "page.h"
+#include "words.h"
 #include "small_batch.h"
-
-#include <ctype.h>
 
 enum { KINDS = ABO_ROW_ITEM + 1, SHEETS = ABO_SHEET_E, S_ITEMS = 1000 };
 enum { TODAY = 20180101, ROOM = 1024, LONG = 36 };
 
 /* What no number, row, field, kind or sheet is. */
 static const uint64_t odd[] = {22, 1000, 1505, UINT32_MAX, UINT64_MAX};
-
-/* A clause that goes into a sentence. */
-static int is_clause(const char *text)
-{
-    size_t len = text == NULL ? 0 : strlen(text);
-    return len > 0 && (islower((unsigned char)text[0]) ||
-                       isdigit((unsigned char)text[0])) &&
-           text[len - 1] != '.' && text[len - 1] != ' ' &&
-           strchr(text, '\n') == NULL;
-}
 
 /* ---- numbers ---- */
 
@@ -102,19 +89,6 @@ static void learn_page(const char *path)
                 cells[i][0] != '\0' && strstr(cells[i], "'s base") == NULL;
     }
     fclose(f);
-}
-
-static void check_field(uint64_t row, uint64_t field, int is_one)
-{
-    char what[64];
-    snprintf(what, sizeof what, "row %llu, field %llu",
-             (unsigned long long)row, (unsigned long long)field);
-    const char *noun = abo_say_field(row, field);
-    const char *allowed = abo_say_allowed(row, field);
-    check(is_one ? is_clause(noun) : noun == NULL, what,
-          "has a noun exactly if it is a field");
-    check(is_one ? is_clause(allowed) : allowed == NULL, what,
-          "says what is allowed exactly if it is a field");
 }
 
 static void check_fields(void)

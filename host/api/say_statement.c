@@ -8,11 +8,8 @@
  *
  *   say_statement docs/ROWS.md docs/RULES.md
  */
-#include <abo_say.h>
-#include "page.h"
+#include "words.h"
 #include "small_statement.h"
-
-#include <ctype.h>
 
 enum { KINDS = 2, TEXT_BYTES = ABO_RECORD_BYTES - 2 };
 
@@ -21,13 +18,6 @@ static const uint64_t kinds[KINDS] = {ABO_STATEMENT_HEAD,
 
 /* What no kind, field, code or place is. */
 static const uint64_t odd[] = {8, 73, 76, 130, 1000, UINT32_MAX, UINT64_MAX};
-
-static int is_clause(const char *text)
-{
-    size_t len = text == NULL ? 0 : strlen(text);
-    return len > 0 && !isupper((unsigned char)text[0]) &&
-           text[len - 1] != '.' && strchr(text, '\n') == NULL;
-}
 
 /* ---- rows ---- */
 
@@ -50,19 +40,11 @@ static void learn_rows(const char *path)
     fclose(f);
 }
 
-static void check_field(uint64_t row, uint64_t field, int is_one)
+static void check_word(uint64_t row, uint64_t field, int is_one)
 {
-    char what[64];
-    snprintf(what, sizeof what, "row %llu, field %llu",
-             (unsigned long long)row, (unsigned long long)field);
-    const char *noun = abo_say_field(row, field);
-    const char *allowed = abo_say_allowed(row, field);
-    check(is_one ? is_clause(noun) : noun == NULL, what,
-          "has a noun exactly if it is a field");
-    check(is_one ? is_clause(allowed) : allowed == NULL, what,
-          "says what is allowed exactly if it is a field");
+    check_field(row, field, is_one);
     for (uint64_t sheet = 0; sheet <= ABO_SHEET_E; sheet++)
-        check(abo_say_carried(sheet, row, field) == NULL, what,
+        check(abo_say_carried(sheet, row, field) == NULL, abo_say_row(row),
               "is the same on every sheet");
 }
 
@@ -87,17 +69,17 @@ static void check_rows(void)
 {
     unsigned fields = 0;
     for (int k = 0; k < KINDS; k++) {
-        check_field(kinds[k], 0, 0);
+        check_word(kinds[k], 0, 0);
         for (size_t word = 1; word < ABO_STATEMENT_WORDS; word++) {
-            check_field(kinds[k], word, in_page[k][word]);
+            check_word(kinds[k], word, in_page[k][word]);
             check_refused(k, word);
             fields += in_page[k][word] != 0;
         }
         for (size_t i = 0; i < COUNT_OF(odd); i++)
-            check_field(kinds[k], odd[i], 0);
+            check_word(kinds[k], odd[i], 0);
     }
     for (size_t i = 0; i < COUNT_OF(odd); i++)
-        check_field(odd[i], 1, 0);
+        check_word(odd[i], 1, 0);
     check(fields == 6 + 7, "the page", "has as many fields of both rows");
     check(strcmp(abo_say_row(kinds[0]), "head of a statement") == 0 &&
               strcmp(abo_say_row(kinds[1]), "movement") == 0 &&
