@@ -154,6 +154,14 @@ WRONG = [
         "cases/Items",
     ),
     (
+        "the bytes of a part, read",
+        "`~` would be taken where it must not stand",
+        "Bytes",
+        "pick (eqb x 35) false (not (eqb x 126))",
+        "not (eqb x 35)",
+        "scan",
+    ),
+    (
         "a warning's place, listed",
         "a text that is cut would be warned of at the line's first byte",
         "Texts",
@@ -251,6 +259,14 @@ WRONG = [
         "cases/Writing",
     ),
     # ---- rows, and what a sheet carries
+    (
+        "the bytes of a part, carried",
+        "those that the sheet does not take would be carried",
+        "Texts",
+        "pick (pick (y .names) (lacks mark p) true) (taken y p) false",
+        "pick (y .names) (lacks mark p) true",
+        "text",
+    ),
     (
         "an item's row",
         "its amount would stand in the place of its bank",

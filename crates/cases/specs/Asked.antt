@@ -10,13 +10,13 @@ use Rattle.sheet.specs.declared.Sheet.{Sheet}
 use Rattle.sheet.specs.Sheets.{sheetOf, sheetBy, kindAllowed, bankAllowed}
 use Rattle.paper.specs.Read.{given}
 use Rattle.paper.specs.Warnings.{Notice, notices}
-use Rattle.paper.specs.Bytes.{bytes, isText, isDigit, null}
+use Rattle.paper.specs.Bytes.{bytes, isText, isClean, isDigit, null}
 use Rattle.paper.specs.Numerals.{digitsOn, digits, decOn, decimal, fixedOn, fixed}
 use Rattle.paper.specs.Days.{leap, monthDays, realDay, yearsDays, monthsDays, dayNumber, real, shortDay, longDay, readDay, spellDay, past, dueAllowed, dueWarnings, readDue}
 use Rattle.paper.specs.Accounts.{weighted, nonZero, accountOk, ruled, twoParts, onePart, readAccount, accountProper, spellAccount, isNobody, zeros, onlyZeros, readPayer}
 use Rattle.paper.specs.Amounts.{withComma, readAmount, readTotal, amountProper, readItemAmount}
 use Rattle.paper.specs.BankField.{ninth, readBank, bankProper, priorityProper, priorityCarried, spellBank}
-use Rattle.paper.specs.Texts.{others, cut, over, overs, pad, opens, finish, messageEnd, message, marked, readText, lacks, nameProper, partProper, partCarried, nameCarried, keep, trim, joinOn, joined, spellName, spellMarked, spellText, noText}
+use Rattle.paper.specs.Texts.{others, cut, over, overs, pad, opens, taken, partsTaken, fitted, finish, messageEnd, message, marked, readText, lacks, nameProper, partProper, wordsCarried, partCarried, nameCarried, keep, trim, joinOn, joined, spellName, spellMarked, spellText, noText}
 use Rattle.paper.specs.Batch.{Header, Thing, sum, itemThings, groupThings, things, heapOf, batchOf}
 use Rattle.paper.specs.Proper.{check, headerProper, fileDue, groupDue, itemDue, mayStop, kindProper, payerProper, itemPayerProper, partsFrom, itemProper, rowsProper, batchProper}
 use Rattle.paper.specs.Lines.{linesOf}
@@ -43,7 +43,7 @@ today = 20180101
 
 -- a file, judged on a sheet
 unfoldable pub judged : Sheet → List ℕ → Answer
-unfolding pick all starts seek kindAllowed bankAllowed given isText isDigit null digitsOn digits fixedOn fixed leap monthDays realDay yearsDays monthsDays dayNumber real shortDay longDay readDay past dueAllowed dueWarnings readDue weighted nonZero accountOk ruled twoParts onePart readAccount isNobody zeros onlyZeros readPayer withComma readAmount readTotal amountProper readItemAmount ninth readBank others cut over overs pad opens finish messageEnd message marked readText sum linesOf kindOf onField field place gap lineEnd textField readTo restLength readRest readFirst member numberFault numberAllowed readKind readNumber readCode readFile spaceCount hasPayer totalAndDate readGroup readSymbolOrNone isValue fixedTail afterSymbol openTail tail fromPayee readItem plusAt readClose numberTest readAs readLine differs groupItems fileItems seen contextOf isDue isFull totalBroken closed counted notices onEntry onHead onFile onGroup onItem meet onSaid read step endOf run judge
+unfolding pick all starts seek kindAllowed bankAllowed given isText isClean isDigit null digitsOn digits fixedOn fixed leap monthDays realDay yearsDays monthsDays dayNumber real shortDay longDay readDay past dueAllowed dueWarnings readDue weighted nonZero accountOk ruled twoParts onePart readAccount isNobody zeros onlyZeros readPayer withComma readAmount readTotal amountProper readItemAmount ninth readBank others cut over overs pad opens taken partsTaken fitted finish messageEnd message marked readText sum linesOf kindOf onField field place gap lineEnd textField readTo restLength readRest readFirst member numberFault numberAllowed readKind readNumber readCode readFile spaceCount hasPayer totalAndDate readGroup readSymbolOrNone isValue fixedTail afterSymbol openTail tail fromPayee readItem plusAt readClose numberTest readAs readLine differs groupItems fileItems seen contextOf isDue isFull totalBroken closed counted notices onEntry onHead onFile onGroup onItem meet onSaid read step endOf run judge
 judged sh f = judge sh today f
 
 -- what a line of a kind warns of, in a group that is single or not
@@ -57,7 +57,7 @@ warnedOf sh single kind s = listed (readAs sh today (accepted single) kind (byte
 
 -- what stands in a batch, written with a header on a sheet
 unfoldable pub written : Sheet → Header → List Thing → Draft
-unfolding judged decOn decimal spellDay accountProper spellAccount bankProper priorityProper priorityCarried spellBank lacks nameProper partProper partCarried nameCarried keep trim joinOn joined spellName spellMarked spellText noText itemThings groupThings things heapOf batchOf check headerProper fileDue groupDue itemDue mayStop kindProper payerProper itemPayerProper partsFrom itemProper rowsProper batchProper spellFirst spellFile spellPayer spellGroup spellTail spellItem itemDues groupDues fileDues dues headerCarried partsCarriedFrom itemCarried rowsCarried batchCarried spell textOf canon onVerdict draftOf
+unfolding judged decOn decimal spellDay accountProper spellAccount bankProper priorityProper priorityCarried spellBank lacks nameProper partProper wordsCarried partCarried nameCarried keep trim joinOn joined spellName spellMarked spellText noText itemThings groupThings things heapOf batchOf check headerProper fileDue groupDue itemDue mayStop kindProper payerProper itemPayerProper partsFrom itemProper rowsProper batchProper spellFirst spellFile spellPayer spellGroup spellTail spellItem itemDues groupDues fileDues dues headerCarried partsCarriedFrom itemCarried rowsCarried batchCarried spell textOf canon onVerdict draftOf
 written sh h ts = draftOf sh today h ts
 
 -- an input, as the rewriting program rewrites it

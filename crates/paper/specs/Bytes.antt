@@ -2,7 +2,7 @@
 use Prim.Native.Nat.{ℕ}
 use Prim.Native.Char.{code}
 use Prim.Native.String.{String, [] as ε, _∷_ as _·_}
-use mathlib.Core.Bool.{Bool, true, false}
+use mathlib.Core.Bool.{Bool, true, false, not}
 use mathlib.Core.List.{List, [], _∷_}
 use lib.Dec.{eqb, ltb, leb}
 use lib.ListN.{drop}
@@ -17,6 +17,10 @@ bytes (c · s) = code c ∷ bytes s
 -- "The batch": a text byte is 32 to 255 except 127
 unfoldable pub isText : ℕ → Bool
 isText x = pick (ltb x 32) false (pick (eqb x 127) false (leb x 255))
+
+-- neither `#` nor `~`
+unfoldable pub isClean : ℕ → Bool
+isClean x = pick (eqb x 35) false (not (eqb x 126))
 
 -- an ASCII digit
 unfoldable pub isDigit : ℕ → Bool

@@ -9,7 +9,7 @@ use Rattle.base.specs.Seek.{all, starts, seek, before}
 use Rattle.sheet.specs.declared.Style.{Style}
 use Rattle.paper.specs.Read.{Field, value, fault}
 use Rattle.paper.specs.Warnings.{Warning, longPart, longName, Notice, notice}
-use Rattle.paper.specs.Bytes.{isText, bar, av, np, mark, null}
+use Rattle.paper.specs.Bytes.{isText, isClean, bar, av, np, mark, null}
 
 -- What the style of a sheet asks of a text:
 --   flag     K    S    C    E    what it asks
@@ -17,6 +17,7 @@ use Rattle.paper.specs.Bytes.{isText, bar, av, np, mark, null}
 --   may      no   no   yes  no   .. but `AV:` may be missing
 --   names    no   no   yes  no   a name may follow the message
 --   cuts     no   no   yes  no   what is longer than 35 bytes is cut, with a warning; else it is refused
+--   clean    no   no   no   no   no part holds `#` or `~`
 --   most     4    1    4    4    so many parts at most
 
 -- a piece of a line: where it begins, and its bytes
@@ -78,13 +79,26 @@ opens [] = false
 opens (x ∷ t) = not (eqb x 32)
 
 module _ (y : Style) where
+  -- the sheet takes the bytes of a part
+  unfoldable pub taken : List ℕ → Bool
+  taken p = pick (y .clean) (all isClean p) true
+
+  -- .. of each of several parts
+  unfoldable pub partsTaken : List Piece → Bool
+  partsTaken [] = true
+  partsTaken (p ∷ ps) = pick (taken (p .bytes)) (partsTaken ps) false
+
   -- Parts and name as found: 14 for more parts than the sheet takes, and for one too long where it is not cut.
-  unfoldable pub finish : List Piece → Piece → Field Noted
-  finish ps n =
+  unfoldable pub fitted : List Piece → Piece → Field Noted
+  fitted ps n =
       pick (ltb (y .most) (length ps)) (fault 14)
       (pick (pick (y .cuts) true (null (cuts ps n)))
       (value (record { parts = pad 4 (map cut ps); name = cut n; warnings = cuts ps n }))
       (fault 14))
+
+  -- .. and 14 for a part with a byte that the sheet does not take
+  unfoldable pub finish : List Piece → Piece → Field Noted
+  finish ps n = pick (partsTaken ps) (fitted ps n) (fault 14)
 
   -- where the message ends: before its first ` NP:`, where names are
   unfoldable pub messageEnd : List ℕ → ℕ
@@ -122,9 +136,13 @@ nameProper n = pick (ltb 35 (length n)) false (all isText n)
 unfoldable pub partProper : List ℕ → Bool
 partProper p = pick (nameProper p) (lacks bar p) false
 
--- part i, from 0 on: empty where the sheet takes fewer parts; without ` NP:` where names are, for it would come back as a name
+-- no ` NP:` where names are, for it would come back as a name, and no byte that the sheet does not take
+unfoldable pub wordsCarried : Style → List ℕ → Bool
+wordsCarried y p = pick (pick (y .names) (lacks mark p) true) (taken y p) false
+
+-- part i, from 0 on: empty where the sheet takes fewer parts
 unfoldable pub partCarried : Style → ℕ → List ℕ → Bool
-partCarried y i p = pick (pick (ltb i (y .most)) true (null p)) (pick (y .names) (lacks mark p) true) false
+partCarried y i p = pick (pick (ltb i (y .most)) true (null p)) (wordsCarried y p) false
 
 -- a name only where names are
 unfoldable pub nameCarried : Style → List ℕ → Bool

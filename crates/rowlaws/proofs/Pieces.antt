@@ -9,7 +9,7 @@ use Rattle.base.proofs.Cases.{either}
 use Rattle.sheet.specs.declared.Style.{Style}
 use Rattle.paper.specs.Read.{Field, value, fault}
 use Rattle.paper.specs.Bytes.{bar, null}
-use Rattle.paper.specs.Texts.{Piece, piece, Noted, others, divide, cut, pad, finish, messageEnd, message, marked, readText}
+use Rattle.paper.specs.Texts.{Piece, piece, Noted, others, divide, cut, pad, fitted, finish, messageEnd, message, marked, readText}
 use Rattle.rowlaws.specs.Places.{Here, Lies, Lie, Placed}
 use Rattle.rowlaws.proofs.Here.{here-take, here-drop}
 
@@ -55,13 +55,17 @@ module _ (w : List ℕ) where
   lie-divide at s h = (here-take w at s h (seek bar s), lie-others at s h)
 
   module _ (y : Style) where
-    finished : (ps : List Piece) (n : Piece) → Lie w ps → Lies w n → Outcome w (finish y ps n)
-    unfolding finish
-    finished ps n h i =
+    fits : (ps : List Piece) (n : Piece) → Lie w ps → Lies w n → Outcome w (fitted y ps n)
+    unfolding fitted
+    fits ps n h i =
         either (Outcome w) _ (λ _. of-fault)
         (λ _. either (Outcome w) _
         (λ _. of-value (record { four = pad-length 4 (map cut ps); parts = lie-pad 4 (map cut ps) (lie-cut ps h); name = lies-cut n i }))
         (λ _. of-fault))
+
+    finished : (ps : List Piece) (n : Piece) → Lie w ps → Lies w n → Outcome w (finish y ps n)
+    unfolding finish
+    finished ps n h i = either (Outcome w) _ (λ _. fits ps n h i) (λ _. of-fault)
 
     messaged : (at : ℕ) (m : List ℕ) → Here w at m → Outcome w (message y at m)
     unfolding message

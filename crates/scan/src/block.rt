@@ -5,7 +5,7 @@ ghost use mathlib.Core.Bool.{true};
 ghost use Prim.Native.Nat.{_+_, _≤_, _<_};
 ghost use lib.ListN.{length, take, drop};
 ghost use Rattle.base.specs.Seek.{all};
-ghost use Rattle.paper.specs.Bytes.{isText};
+ghost use Rattle.paper.specs.Bytes.{isText, isClean};
 ghost use Rattle.scan.specs.block.Blocks.{isHigh, isOther, isFar, Skips};
 
 // Where a block begins that holds the byte at i and those behind it, up to sixteen.
@@ -132,6 +132,47 @@ pub fn skip_text(s: &[u8], at: usize) -> usize
     while i < n {
         let p = block_at(i, n);
         if text_block(s, p) {
+            i = p + 16;
+        } else {
+            return i;
+        }
+    }
+    i
+}
+
+// Are the sixteen bytes at `at` all other than `#` and `~`?
+fn clean_block(s: &[u8], at: usize) -> bool
+    requires { ⌜ at + 16 ≤ length (now s) ⌝ }
+    ensures { λ r. ⌜ (r ≡ true → all isClean (take 16 (drop at (now (s .entry)))) ≡ true) ⌝ }
+{
+    let mut clean = true;
+    let mut j: usize = 0;
+    while j < 16 {
+        let b = s[at + j];
+        if b == 35 {
+            clean = false;
+        }
+        if b == 126 {
+            clean = false;
+        }
+        j += 1;
+    }
+    clean
+}
+
+// A place at or after `at` with neither `#` nor `~` before it.
+pub fn skip_clean(s: &[u8], at: usize) -> usize
+    requires { ⌜ at ≤ length (now s) ⌝ }
+    ensures { λ r. ⌜ Skips isClean (now (s .entry)) at r ⌝ }
+{
+    let n = s.len();
+    if n < 16 {
+        return at;
+    }
+    let mut i = at;
+    while i < n {
+        let p = block_at(i, n);
+        if clean_block(s, p) {
             i = p + 16;
         } else {
             return i;

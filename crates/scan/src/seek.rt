@@ -1,10 +1,11 @@
 // Looking for a pattern in a text, and telling text bytes from others.
+use crate::block::skip_clean;
 use crate::block::skip_text;
 ghost use mathlib.Core.Path.{_≡_};
 ghost use Prim.Native.Nat.{_+_, _≤_};
 ghost use lib.ListN.{length, drop};
 ghost use Rattle.base.specs.Seek.{all, starts, seek};
-ghost use Rattle.paper.specs.Bytes.{isText};
+ghost use Rattle.paper.specs.Bytes.{isText, isClean};
 ghost use Rattle.paper.specs.Texts.{lacks};
 
 // A text byte.
@@ -28,6 +29,35 @@ pub fn all_text(s: &[u8], from: usize) -> bool
     let mut i = skip_text(s, from);
     while i < s.len() {
         if is_text(s[i]) {
+            i += 1;
+        } else {
+            return false;
+        }
+    }
+    true
+}
+
+// Neither `#` nor `~`.
+fn is_clean(b: u8) -> bool
+    ensures { λ r. ⌜ r ≡ isClean b ⌝ }
+{
+    if b == 35 {
+        return false;
+    }
+    if b == 126 {
+        return false;
+    }
+    true
+}
+
+// Neither `#` nor `~` stands in s from `from` on.
+pub fn all_clean(s: &[u8], from: usize) -> bool
+    requires { ⌜ from ≤ length (now s) ⌝ }
+    ensures { λ r. ⌜ r ≡ all isClean (drop from (now (s .entry))) ⌝ }
+{
+    let mut i = skip_clean(s, from);
+    while i < s.len() {
+        if is_clean(s[i]) {
             i += 1;
         } else {
             return false;

@@ -15,15 +15,15 @@ use Rattle.sheet.specs.declared.Known.the-variants as known
 
 -- "Tail": on K and E a text begins `AV:`, has up to four parts and no name, and nothing in it is cut
 abbrev pub styleKE : Style
-styleKE = record { av = true; may = false; names = false; cuts = false; most = 4 }
+styleKE = record { av = true; may = false; names = false; cuts = false; clean = false; most = 4 }
 
 -- on S it is one part as it stands
 abbrev pub styleS : Style
-styleS = record { av = false; may = false; names = false; cuts = false; most = 1 }
+styleS = record { av = false; may = false; names = false; cuts = false; clean = false; most = 1 }
 
 -- on C `AV:` may be missing, a name may follow, and what is too long is cut
 abbrev pub styleC : Style
-styleC = record { av = true; may = true; names = true; cuts = true; most = 4 }
+styleC = record { av = true; may = true; names = true; cuts = true; clean = false; most = 4 }
 
 -- as many days as 2000 to 2099 have, so that no day is too far ahead ("Due date": S and E)
 abbrev pub anyDay : ℕ

@@ -12,6 +12,8 @@ pub struct Style {
     pub names: bool,
     // what is too long is cut, with a warning; without this it is refused
     pub cuts: bool,
+    // no part holds `#` or `~`
+    pub clean: bool,
     // how many parts a message may have
     pub most: usize,
 }
@@ -108,6 +110,7 @@ impl Sheet {
             may: false,
             names: false,
             cuts: false,
+            clean: false,
             most: 4,
         },
         strict: true,
@@ -143,6 +146,7 @@ impl Sheet {
             may: false,
             names: false,
             cuts: false,
+            clean: false,
             most: 1,
         },
         strict: true,
@@ -178,6 +182,7 @@ impl Sheet {
             may: true,
             names: true,
             cuts: true,
+            clean: false,
             most: 4,
         },
         strict: false,
@@ -213,6 +218,7 @@ impl Sheet {
             may: false,
             names: false,
             cuts: false,
+            clean: false,
             most: 4,
         },
         strict: false,

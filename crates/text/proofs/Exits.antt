@@ -16,20 +16,20 @@ use Rattle.base.proofs.Lists.{drop-take}
 use Rattle.sheet.specs.declared.Style.{Style}
 use Rattle.paper.specs.Read.{Field, fault}
 use Rattle.paper.specs.Bytes.{isText, av, np, mark, null}
-use Rattle.paper.specs.Texts.{Piece, piece, Noted, others, divide, cut, over, opens, finish, messageEnd, message, marked, readText}
+use Rattle.paper.specs.Texts.{Piece, piece, Noted, others, divide, cut, over, opens, fitted, finish, messageEnd, message, marked, readText}
 use Rattle.text.specs.Told.{countText, told, Inside, Tells}
 use Rattle.text.specs.Begun.{ofText, meant, Begins}
-use Rattle.text.specs.Finish.{finishOne, finishAt, nameAt}
+use Rattle.text.specs.Finish.{fittedOne, finishAt, nameAt}
 use Rattle.text.specs.declared.Begun.{Begun}
 use Rattle.text.specs.declared.Begun.the-variants as begun
 use Rattle.text.specs.declared.TextRead.{TextRead}
 use Rattle.text.specs.declared.span.Span.{Span}
-use Rattle.text.proofs.Right.{tells-same, finish-right}
+use Rattle.text.proofs.Right.{tells-same, nothing-taken, finish-right}
 use Rattle.text.proofs.Turns.{finish-alone}
 
 -- an absent name may have any place
 finish-empty : (y : Style) (ps : List Piece) (a b : ℕ) → finish y ps (piece a []) ≡ finish y ps (piece b [])
-unfolding finish cut over null pick
+unfolding finish fitted cut over null pick
 finish-empty y ps a b = refl
 
 -- a message from `from` to `from + k`
@@ -157,7 +157,7 @@ module _ (y : Style) (s : List ℕ) (from : ℕ) (h : from ≤ length s) (b : Bo
       pub name-long : 3 ≤ length s - from
       name-long = omega (arith, name-within)
 
-      name-tells : y .most ≤ 4 → (r : TextRead) → r ≡ finishOne y from 0 (from + 3) (length s - from - 3) → Tells s r (readText y from (drop from s))
+      name-tells : y .most ≤ 4 → (r : TextRead) → r ≡ fittedOne y from 0 (from + 3) (length s - from - 3) → Tells s r (readText y from (drop from s))
       unfolding others seek
       name-tells small r w =
           let z : from - from ≡ 0 = omega arith in
@@ -165,14 +165,14 @@ module _ (y : Style) (s : List ℕ) (from : ℕ) (h : from ≤ length s) (b : Bo
           let l : length (take from s) ≡ from = omega (arith, length-take from s) in
           let n : length (drop (from + 3) s) ≤ length s - from - 3 = omega (arith, length-drop (from + 3) s) in
           let x = finish-alone y (take from s) from (from + 3) (length s - from - 3) from (rw m (omega arith)) (omega arith) (omega arith) r (rw z w) in
-          tells-same x
+          tells-same (x ∙ nothing-taken y (take from s) from (from + 3) (length s - from - 3) m)
           (rw (m, take-all (length s - from - 3) (drop (from + 3) s) n) (rw k at begun-read))
           (finish-right y small s (take from s) from refl from (omega arith) (from + 3) (length s - from - 3) (omega (arith, name-within)))
 
-      pub read-name : y .most ≤ 4 → (r : TextRead) → r ≡ finishOne y from 0 (from + 3) (length s - from - 3) → told s r ≡ countText (readText y from (drop from s))
+      pub read-name : y .most ≤ 4 → (r : TextRead) → r ≡ fittedOne y from 0 (from + 3) (length s - from - 3) → told s r ≡ countText (readText y from (drop from s))
       read-name small r w = name-tells small r w .says
 
-      pub inside-name : y .most ≤ 4 → (r : TextRead) → r ≡ finishOne y from 0 (from + 3) (length s - from - 3) → Inside s r
+      pub inside-name : y .most ≤ 4 → (r : TextRead) → r ≡ fittedOne y from 0 (from + 3) (length s - from - 3) → Inside s r
       inside-name small r w = name-tells small r w .inside
 
 pub tells-inside : (s : List ℕ) (r : TextRead) (x : Field Noted) → Tells s r x → Inside s r

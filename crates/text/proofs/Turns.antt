@@ -17,47 +17,47 @@ use Rattle.text.specs.declared.span.Part.{Part}
 use Rattle.text.specs.declared.span.Spans.{Spans}
 use Rattle.text.proofs.span.Turns.{part-bar, part-next, part-upto, part-near, bars-none, four-found, one-found}
 use Rattle.text.proofs.span.Bars.{count-least, count-few}
-use Rattle.text.specs.Finish.{judged, finishOne, finishAt, nameAt}
+use Rattle.text.specs.Finish.{judged, fittedOne, fittedAt, nameAt}
 use Rattle.text.specs.declared.TextRead.{TextRead}
 use Rattle.text.specs.declared.TextRead.the-variants as answer
 
--- finish_one
+-- fit_one
 module _ (y : Style) (from size at len : ℕ) where
-  pub one-none : y .most ≡ 0 → answer.Refused 14 ≡ finishOne y from size at len
-  unfolding finishOne
+  pub one-none : y .most ≡ 0 → answer.Refused 14 ≡ fittedOne y from size at len
+  unfolding fittedOne
   one-none z = sym (pick-true _ _ (eq-eqb (y .most) 0 z))
 
-  pub one-judged : (y .most ≡ 0 → ⊥) → (f : Spans) (r : TextRead) → f ≡ oneAt from size at len → r ≡ judged y f → r ≡ finishOne y from size at len
-  unfolding finishOne
+  pub one-judged : (y .most ≡ 0 → ⊥) → (f : Spans) (r : TextRead) → f ≡ oneAt from size at len → r ≡ judged y f → r ≡ fittedOne y from size at len
+  unfolding fittedOne
   one-judged z f r ef er = er ∙ (ap (judged y) ef ∙ sym (pick-false _ _ (ne-eqb (y .most) 0 z)))
 
 pub ruleset ones = (one-none, one-judged)
 
--- finish_parts: i, j, k and l are what barred answered
+-- fit_parts: i, j, k and l are what barred answered
 module _ (y : Style) (m : List ℕ) (from at len : ℕ) (h : from ≤ length m) (a b c d : Part) (ea : a ≡ partAt m from) (eb : b ≡ partAt m (a .next))
     (ec : c ≡ partAt m (b .next)) (ed : d ≡ partAt m (c .next)) (i j k l : ℕ) (ei : i ≡ ended a) (ej : j ≡ ended b) (ek : k ≡ ended c) (el : l ≡ ended d) where
   sum : i + j + k + l ≡ ended a + ended b + ended c + ended d
   sum = rw (ei, ej, ek, el)
 
-  pub finish-many : y .most ≤ i + j + k + l → answer.Refused 14 ≡ finishAt y m from at len
-  unfolding finishAt
+  pub finish-many : y .most ≤ i + j + k + l → answer.Refused 14 ≡ fittedAt y m from at len
+  unfolding fittedAt
   finish-many t =
       let n = count-least m from a b c d h ea eb ec ed (i + j + k + l) sum in
       sym (pick-true _ _ (le-leb (y .most) (length (others from (drop from m))) (omega arith)))
 
-  pub finished : i + j + k + l < y .most → y .most ≤ 4 → (f : Spans) (r : TextRead) → f ≡ foundAt a b c d at len → r ≡ judged y f → r ≡ finishAt y m from at len
-  unfolding finishAt
+  pub finished : i + j + k + l < y .most → y .most ≤ 4 → (f : Spans) (r : TextRead) → f ≡ foundAt a b c d at len → r ≡ judged y f → r ≡ fittedAt y m from at len
+  unfolding fittedAt
   finished t u f r ef er =
       let n = count-few m from a b c d h ea eb ec ed (i + j + k + l) sum (omega arith) in
       er ∙ (ap (judged y) (four-found m from at len f a b c d ea eb ec ed ef) ∙ sym (pick-false _ _ (lt-leb (y .most) (length (others from (drop from m))) (omega arith))))
 
--- finish_at: e is what find_byte answered
+-- fit_at: e is what find_byte answered
 module _ (y : Style) (m : List ℕ) (from at len e : ℕ) (g : e ≡ from + seek bar (drop from m)) (h : from ≤ length m) where
   none : length m ≤ e → length (others from (drop from m)) ≡ 0
   none l = sym (bars-none m from 0 from e (omega arith) g h l)
 
-  pub finish-alone : length m ≤ e → (r : TextRead) → r ≡ finishOne y from (e - from) at len → r ≡ finishAt y m from at len
-  unfolding finishAt finishOne
+  pub finish-alone : length m ≤ e → (r : TextRead) → r ≡ fittedOne y from (e - from) at len → r ≡ fittedAt y m from at len
+  unfolding fittedAt fittedOne
   finish-alone l r k =
       by-eq (y .most) 0
       (λ z. k ∙ (pick-true _ _ (eq-eqb (y .most) 0 z) ∙ sym (pick-true _ _ (le-leb (y .most) (length (others from (drop from m))) (omega arith)))))

@@ -4,7 +4,7 @@ ghost use mathlib.Core.Bool.{true};
 ghost use lib.Dec.{ltb};
 ghost use Rattle.base.specs.Pick.{pick};
 ghost use Rattle.paper.specs.Bytes.{null, bar, mark};
-ghost use Rattle.paper.specs.Texts.{lacks, nameProper, partProper, partCarried, nameCarried};
+ghost use Rattle.paper.specs.Texts.{lacks, nameProper, partProper, wordsCarried, partCarried, nameCarried};
 use sheet::Style;
 
 // A name, or a part but for its bars: 0 to 35 text bytes.
@@ -55,16 +55,37 @@ fn has_place(y: Style, i: usize, p: &[u8]) -> bool
     p.len() == 0
 }
 
-// The sheet can carry p as part i, from 0 on. Where names are, ` NP:` in a part would come back as a name.
+// p holds no ` NP:` where names are: it would come back as a name.
+fn unmarked(y: Style, p: &[u8]) -> bool
+    ensures { λ r. ⌜ r ≡ pick (y .names) (lacks mark (now (p .entry))) true ⌝ }
+{
+    let names = y.names;
+    if names {
+        return no_mark(p);
+    }
+    true
+}
+
+// The sheet can carry the words of p.
+fn words_carried(y: Style, p: &[u8]) -> bool
+    ensures { λ r. ⌜ r ≡ wordsCarried y (now (p .entry)) ⌝ }
+{
+    if unmarked(y, p) {
+        let clean = y.clean;
+        if clean {
+            return scan::seek::all_clean(p, 0);
+        }
+        return true;
+    }
+    false
+}
+
+// The sheet can carry p as part i, from 0 on.
 pub fn part_carried(y: Style, i: usize, p: &[u8]) -> bool
     ensures { λ r. ⌜ r ≡ partCarried y i (now (p .entry)) ⌝ }
 {
     if has_place(y, i, p) {
-        let names = y.names;
-        if names {
-            return no_mark(p);
-        }
-        return true;
+        return words_carried(y, p);
     }
     false
 }

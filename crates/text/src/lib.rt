@@ -15,6 +15,7 @@ use crate::span::gather;
 use crate::span::one_part;
 use crate::span::part_at;
 use scan::find::find_byte;
+use scan::seek::all_clean;
 use scan::seek::all_text;
 use scan::seek::starts_at;
 use sheet::Style;
@@ -25,11 +26,11 @@ ghost use lib.ListN.{length, drop};
 ghost use Rattle.base.specs.Pick.{pick};
 ghost use Rattle.base.specs.Seek.{starts, seek};
 ghost use Rattle.paper.specs.Bytes.{np, mark};
-ghost use Rattle.paper.specs.Texts.{opens, messageEnd, message, marked, readText};
+ghost use Rattle.paper.specs.Texts.{taken, opens, messageEnd, message, marked, readText};
 ghost use Rattle.text.specs.span.Places.{partAt};
 ghost use Rattle.text.specs.Told.{countText, told, Inside, Tells};
 ghost use Rattle.text.specs.Begun.{ofText, Begins};
-ghost use Rattle.text.specs.Finish.{judged, finishOne, finishAt, nameAt};
+ghost use Rattle.text.specs.Finish.{judged, fittedOne, fittedAt, finishAt, nameAt};
 
 pub enum TextRead {
     Texts(Spans),
@@ -53,8 +54,8 @@ fn judge(y: Style, f: Spans) -> TextRead
 }
 
 // One part and no other, and a name at its place.
-fn finish_one(y: Style, from: usize, size: usize, at: usize, len: usize) -> TextRead
-    ensures { λ r. ⌜ r ≡ finishOne y from size at len ⌝ }
+fn fit_one(y: Style, from: usize, size: usize, at: usize, len: usize) -> TextRead
+    ensures { λ r. ⌜ r ≡ fittedOne y from size at len ⌝ }
 {
     let most = y.most;
     if most == 0 {
@@ -64,11 +65,11 @@ fn finish_one(y: Style, from: usize, size: usize, at: usize, len: usize) -> Text
 }
 
 // The parts of m from `from` on, of which the first is a, and a name at its place.
-fn finish_parts(y: Style, m: &[u8], from: usize, a: Part, at: usize, len: usize) -> TextRead
+fn fit_parts(y: Style, m: &[u8], from: usize, a: Part, at: usize, len: usize) -> TextRead
     requires { ⌜ y .most ≤ 4 ⌝ }
     requires { ⌜ from ≤ length (now m) ⌝ }
     requires { ⌜ a ≡ partAt (now m) from ⌝ }
-    ensures { λ r. ⌜ r ≡ finishAt y (now (m .entry)) from at len ⌝ }
+    ensures { λ r. ⌜ r ≡ fittedAt y (now (m .entry)) from at len ⌝ }
 {
     let b = part_at(m, a.next);
     let c = part_at(m, b.next);
@@ -82,10 +83,10 @@ fn finish_parts(y: Style, m: &[u8], from: usize, a: Part, at: usize, len: usize)
 
 // The parts of m from `from` on, and a name at its place: m is the line up to the message's end, so that places are the line's.
 // Most texts have one part.
-fn finish_at(y: Style, m: &[u8], from: usize, at: usize, len: usize) -> TextRead
+fn fit_at(y: Style, m: &[u8], from: usize, at: usize, len: usize) -> TextRead
     requires { ⌜ y .most ≤ 4 ⌝ }
     requires { ⌜ from ≤ length (now m) ⌝ }
-    ensures { λ r. ⌜ r ≡ finishAt y (now (m .entry)) from at len ⌝ }
+    ensures { λ r. ⌜ r ≡ fittedAt y (now (m .entry)) from at len ⌝ }
 {
     let end = find_byte(m, from, 124);
     if end < m.len() {
@@ -94,9 +95,33 @@ fn finish_at(y: Style, m: &[u8], from: usize, at: usize, len: usize) -> TextRead
             len: end - from,
             next: end + 1,
         };
-        return finish_parts(y, m, from, a, at, len);
+        return fit_parts(y, m, from, a, at, len);
     }
-    finish_one(y, from, end - from, at, len)
+    fit_one(y, from, end - from, at, len)
+}
+
+// The sheet takes the bytes of m from `from` on.
+fn bytes_taken(y: Style, m: &[u8], from: usize) -> bool
+    requires { ⌜ from ≤ length (now m) ⌝ }
+    ensures { λ r. ⌜ r ≡ taken y (drop from (now (m .entry))) ⌝ }
+{
+    let clean = y.clean;
+    if clean {
+        return all_clean(m, from);
+    }
+    true
+}
+
+// The same, where the sheet takes the message's bytes. A `|` is such a byte, so that they are looked at once, and not part by part.
+fn finish_at(y: Style, m: &[u8], from: usize, at: usize, len: usize) -> TextRead
+    requires { ⌜ y .most ≤ 4 ⌝ }
+    requires { ⌜ from ≤ length (now m) ⌝ }
+    ensures { λ r. ⌜ r ≡ finishAt y (now (m .entry)) from at len ⌝ }
+{
+    if bytes_taken(y, m, from) {
+        return fit_at(y, m, from, at, len);
+    }
+    TextRead::Refused(14)
 }
 
 // The first ` NP:` of s at or after `from`, or s's length where there is none. It is looked for by its last byte, which is rare in a text.
@@ -232,7 +257,7 @@ pub fn read_text(y: Style, s: &[u8], from: usize) -> TextRead
     if all_text(s, from) {
         return match begin_text(y, s, from) {
             Begun::Refused(n) => TextRead::Refused(n),
-            Begun::Name => finish_one(y, from, 0, from + 3, s.len() - from - 3),
+            Begun::Name => fit_one(y, from, 0, from + 3, s.len() - from - 3),
             Begun::Message(at) => read_message(y, s, at),
         };
     }

@@ -82,14 +82,14 @@ module _ (sh : Sheet) where
   silent-wider : Wider Silent (λ h. h) sh (severe sh)
   silent-wider =
       restyled-wider Silent sh (sh .text) (uncutting (sh .text)) (sh .strict) true
-      (record { av = refl; may = λ e. e; names = named-alike refl; most = omega arith; cuts = λ t on _ _. null-none (t .warnings) (sym (empty-null (t .warnings)) ∙ eq-eqb (length (t .warnings)) 0 (omega (arith, on .only, on .warnings))) })
+      (record { av = refl; may = λ e. e; names = named-alike refl; most = omega arith; cuts = λ t on _ _. null-none (t .warnings) (sym (empty-null (t .warnings)) ∙ eq-eqb (length (t .warnings)) 0 (omega (arith, on .only, on .warnings))); clean = λ e. e })
       (λ payer total sum date v o. (omega arith, λ _ _. same-total total sum (omega arith)))
 
   -- and all that is read there is read here
   any-wider : Wider Any (λ h. h) (severe sh) sh
   any-wider =
       restyled-wider Any sh (uncutting (sh .text)) (sh .text) true (sh .strict)
-      (record { av = refl; may = λ e. e; names = named-alike refl; most = omega arith; cuts = λ t on c _. never (sym c) })
+      (record { av = refl; may = λ e. e; names = named-alike refl; most = omega arith; cuts = λ t on c _. never (sym c); clean = λ e. e })
       (λ payer total sum date v o. (tt, λ same _. same refl))
 
   module _ (today : ℕ) where

@@ -10,13 +10,13 @@ use lib.Seq.{take-length}
 use borrow.Author.Tests.{eqb-true, ne-eqb, ltb-false, le-ltb}
 use Rattle.base.specs.Pick.{pick}
 use Rattle.base.specs.Seek.{starts, seek, Free}
-use Rattle.base.proofs.Cases.{by-test, either-way, pick-same, pick-true, pick-false}
+use Rattle.base.proofs.Cases.{by-test, either-way, pick-same, pick-true, pick-false, pick-both, both-pick}
 use Rattle.base.proofs.Seek.{never}
 use Rattle.sheet.specs.declared.Style.{Style}
 use Rattle.paper.specs.Read.{Field, value, fault}
 use Rattle.paper.specs.Warnings.{longName, Notice}
 use Rattle.paper.specs.Bytes.{mark, np, av, null}
-use Rattle.paper.specs.Texts.{Piece, piece, Noted, divide, cut, over, overs, cuts, pad, finish, messageEnd, message, marked, readText}
+use Rattle.paper.specs.Texts.{Piece, piece, Noted, divide, cut, over, overs, cuts, pad, taken, partsTaken, fitted, finish, messageEnd, message, marked, readText}
 use Rattle.paper.specs.ItemLine.{partBytes}
 use Rattle.paper.proofs.Lists.{null-none}
 use Rattle.uncut.specs.Wider.{Unmarked, Names, named-alike, named-more, WiderStyle}
@@ -32,24 +32,27 @@ made ps n = record { parts = pad 4 (map cut ps); name = cut n; warnings = cuts p
 
 -- a style takes them, as these texts
 record Finished (y : Style) (ps : List Piece) (n : Piece) (t : Noted) : Type 0 where
+  bytes : partsTaken y ps ≡ true
   few : length ps ≤ y .most
   fits : pick (y .cuts) true (null (cuts ps n)) ≡ true
   is : made ps n ≡ t
 
 module _ (y : Style) (ps : List Piece) (n : Piece) (t : Noted) where
   finish-only : finish y ps n ≡ value t → Finished y ps n t
-  unfolding finish pick
+  unfolding finish fitted pick
   finish-only e =
-      by-test (ltb (y .most) (length ps))
-      (λ many. absurd (let q : fault 14 ≡ value t = rw many at e in let z : _≡_ {A = ℕ} 0 1 = cc in omega arith))
+      by-test (partsTaken y ps)
+      (λ bytes. by-test (ltb (y .most) (length ps))
+      (λ many. absurd (let q : fault 14 ≡ value t = rw (bytes, many) at e in let z : _≡_ {A = ℕ} 0 1 = cc in omega arith))
       (λ few. by-test (pick (y .cuts) true (null (cuts ps n)))
-      (λ fits. let q : value (made ps n) ≡ value t = rw (few, fits) at e in record { few = ltb-false (y .most) (length ps) few; fits = fits; is = cc })
-      (λ long. absurd (let q : fault 14 ≡ value t = rw (few, long) at e in let z : _≡_ {A = ℕ} 0 1 = cc in omega arith)))
+      (λ fits. let q : value (made ps n) ≡ value t = rw (bytes, few, fits) at e in record { bytes = bytes; few = ltb-false (y .most) (length ps) few; fits = fits; is = cc })
+      (λ long. absurd (let q : fault 14 ≡ value t = rw (bytes, few, long) at e in let z : _≡_ {A = ℕ} 0 1 = cc in omega arith))))
+      (λ other. absurd (let q : fault 14 ≡ value t = rw other at e in let z : _≡_ {A = ℕ} 0 1 = cc in omega arith))
 
   finish-also : Finished y ps n t → finish y ps n ≡ value t
-  unfolding finish
+  unfolding finish fitted
   finish-also f =
-      pick-false _ _ (le-ltb (y .most) (length ps) (f .few)) ∙ pick-true _ _ (f .fits) ∙ ap (λ (x : Noted). value x) (f .is)
+      pick-true _ _ (f .bytes) ∙ pick-false _ _ (le-ltb (y .most) (length ps) (f .few)) ∙ pick-true _ _ (f .fits) ∙ ap (λ (x : Noted). value x) (f .is)
 
 -- a text that is too long is taken where it is cut, or where it is not too long
 fits-too : (may may′ : Bool) (l : List Notice) → (may ≡ true → may′ ≡ false → l ≡ []) → pick may true (null l) ≡ true → pick may′ true (null l) ≡ true
@@ -57,6 +60,19 @@ unfolding pick null
 fits-too may true l h e = refl
 fits-too true false l h e = rw (h refl refl)
 fits-too false false l h e = e
+
+-- the wider style takes the bytes that the narrower one takes
+module _ (y z : Style) (h : z .clean ≡ true → y .clean ≡ true) where
+  part-too : (p : List ℕ) → taken y p ≡ true → taken z p ≡ true
+  unfolding taken
+  part-too p t = by-test (z .clean) (λ c. pick-true _ _ c ∙ sym (pick-true _ _ (h c)) ∙ t) (λ c. pick-false _ _ c)
+
+  bytes-too : (ps : List Piece) → partsTaken y ps ≡ true → partsTaken z ps ≡ true
+  unfolding partsTaken
+  bytes-too [] e = refl
+  bytes-too (p ∷ ps) e =
+      let b = pick-both (taken y (p .bytes)) (partsTaken y ps) e in
+      both-pick (taken z (p .bytes)) (partsTaken z ps) (part-too (p .bytes) (b .0)) (bytes-too ps (b .1))
 
 -- a name alone is no message
 np-not-av : (t : List ℕ) → starts np t ≡ true → starts av t ≡ false
@@ -86,6 +102,7 @@ module _ (On : Noted → Type 0) where
               let f = finish-only y ps n t e in
               finish-also z ps n t
               (record {
+                bytes = bytes-too y z (wider .clean) ps (f .bytes);
                 few = omega (arith, f .few, wider .most);
                 fits = fits-too (y .cuts) (z .cuts) _ (λ c d. ap (λ (x : Noted). x .warnings) (f .is) ∙ wider .cuts t on c d) (f .fits);
                 is = f .is;

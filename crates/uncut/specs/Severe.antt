@@ -5,7 +5,7 @@ use Rattle.sheet.specs.declared.Style.{Style}
 
 -- a part or a name of more than 35 bytes is refused with 14; all else is as the style has it
 abbrev pub uncutting : Style → Style
-uncutting y = record { av = y .av; may = y .may; names = y .names; cuts = false; most = y .most }
+uncutting y = record { av = y .av; may = y .may; names = y .names; cuts = false; clean = y .clean; most = y .most }
 
 -- a sheet with another style of texts and another answer to totals that differ; all else is as the sheet has it
 abbrev pub restyled : Sheet → Style → Bool → Sheet

@@ -39,6 +39,7 @@ pub record WiderStyle (On : Noted → Type 0) (y z : Style) : Type 0 where
   pub names : Names On y z
   pub most : y .most ≤ z .most
   pub cuts : (t : Noted) → On t → y .cuts ≡ true → z .cuts ≡ false → t .warnings ≡ []
+  pub clean : z .clean ≡ true → y .clean ≡ true
 
 -- these are the texts of an item that is let through with the warnings of its line, some of them for its texts
 pub record TextsOf (Only : Entry → ℕ → Type 0) (t : Noted) : Type 0 where

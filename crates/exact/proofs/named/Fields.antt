@@ -16,7 +16,7 @@ use Rattle.paper.specs.Days.{real, shortDay, longDay, readDay, readDue}
 use Rattle.paper.specs.Accounts.{ruled, twoParts, onePart, readAccount, readPayer}
 use Rattle.paper.specs.Amounts.{withComma, readAmount, readTotal, readItemAmount}
 use Rattle.paper.specs.BankField.{ninth, readBank}
-use Rattle.paper.specs.Texts.{Piece, finish, message, marked, readText}
+use Rattle.paper.specs.Texts.{Piece, fitted, finish, message, marked, readText}
 use Rattle.paper.specs.Batch.{Header}
 use Rattle.paper.specs.FirstLine.{textField, readTo, readRest}
 use Rattle.paper.specs.FileLine.{member, series, numberFault, readKind, readNumber, readCode}
@@ -229,8 +229,8 @@ bank-named ranked s =
 
 module _ (y : Style) where
   finish-named : (ps : List Piece) (n : Piece) → Numbered (finish y ps n)
-  unfolding finish
-  finish-named ps n = either Numbered _ (λ _. is-fault own14) (λ _. tested _ _ 14 own14)
+  unfolding finish fitted
+  finish-named ps n = either Numbered _ (λ _. either Numbered _ (λ _. is-fault own14) (λ _. tested _ _ 14 own14)) (λ _. is-fault own14)
 
   message-named : (at : ℕ) (m : List ℕ) → Numbered (message y at m)
   unfolding message

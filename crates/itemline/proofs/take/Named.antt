@@ -17,7 +17,7 @@ use Rattle.base.proofs.Seek.{never, seek-within}
 use Rattle.sheet.specs.declared.Style.{Style}
 use Rattle.paper.specs.Read.{Field, value, fault}
 use Rattle.paper.specs.Bytes.{isText, bar, mark}
-use Rattle.paper.specs.Texts.{Noted, others, messageEnd, message, readText}
+use Rattle.paper.specs.Texts.{Noted, others, taken, messageEnd, message, readText}
 use Rattle.paper.specs.ItemLine.{isValue}
 use Rattle.text.specs.declared.span.Part.{Part}
 use Rattle.text.specs.declared.span.Span.{Span}
@@ -32,7 +32,7 @@ use Rattle.text.specs.declared.Begun.{Begun}
 use Rattle.text.specs.declared.Begun.the-variants as begun
 use Rattle.text.specs.Told.{countText, told, Tells}
 use Rattle.text.specs.Begun.{ofText, Begins}
-use Rattle.text.specs.Finish.{judged, finishOne, finishAt, nameAt}
+use Rattle.text.specs.Finish.{judged, fittedOne, fittedAt, finishAt, nameAt}
 use Rattle.text.proofs.Exits.{message-read, read-name, inside-name}
 use Rattle.text.specs.division.Unnamed.{unnamed}
 use Rattle.text.proofs.division.Marks.{unnamed-long}
@@ -194,20 +194,26 @@ pub ruleset named-parts = (third-within, third-part, fourth-within, others-named
 
 -- ---- what was judged: a value is the texts at their places
 
-value-one : (s : List ℕ) (y : Style) (from size at len : ℕ) → isValue (told s (finishOne y from size at len)) ≡ true → finishOne y from size at len ≡ answer.Texts (oneAt from size at len)
-unfolding finishOne judged pick isValue
+value-one : (s : List ℕ) (y : Style) (from size at len : ℕ) → isValue (told s (fittedOne y from size at len)) ≡ true → fittedOne y from size at len ≡ answer.Texts (oneAt from size at len)
+unfolding fittedOne judged pick isValue
 value-one s y from size at len h =
     by-test (eqb (y .most) 0) (λ e. never (sym (simp e at h)))
     (λ e. by-test (y .cuts) (λ f. simp (e, f))
     (λ f. by-test (eqb (oneAt from size at len .warnings) 0) (λ g. simp (e, f, g)) (λ g. never (sym (simp (e, f, g) at h)))))
 
-value-four : (s : List ℕ) (y : Style) (m : List ℕ) (from at len : ℕ) → isValue (told s (finishAt y m from at len)) ≡ true
-    → (finishAt y m from at len ≡ answer.Texts (fourFrom m from at len)) × (leb (y .most) (length (others from (drop from m))) ≡ false)
-unfolding finishAt judged pick isValue
-value-four s y m from at len h =
+value-fitted : (s : List ℕ) (y : Style) (m : List ℕ) (from at len : ℕ) → isValue (told s (fittedAt y m from at len)) ≡ true
+    → (fittedAt y m from at len ≡ answer.Texts (fourFrom m from at len)) × (leb (y .most) (length (others from (drop from m))) ≡ false)
+unfolding fittedAt judged pick isValue
+value-fitted s y m from at len h =
     by-test (leb (y .most) (length (others from (drop from m)))) (λ e. never (sym (simp e at h)))
     (λ e. by-test (y .cuts) (λ f. (simp (e, f), e))
     (λ f. by-test (eqb (fourFrom m from at len .warnings) 0) (λ g. (simp (e, f, g), e)) (λ g. never (sym (simp (e, f, g) at h)))))
+
+value-four : (s : List ℕ) (y : Style) (m : List ℕ) (from at len : ℕ) → isValue (told s (finishAt y m from at len)) ≡ true
+    → (finishAt y m from at len ≡ answer.Texts (fourFrom m from at len)) × (leb (y .most) (length (others from (drop from m))) ≡ false)
+unfolding finishAt pick isValue
+value-four s y m from at len h =
+    by-test (taken y (drop from m)) (λ e. let v = value-fitted s y m from at len (rw e at h) in (rw e (v .0), v .1)) (λ e. never (sym (simp e at h)))
 
 -- texts that are read are so with their warnings counted
 value-counted : (x : Field Noted) → isValue x ≡ true → isValue (countText x) ≡ true
@@ -291,7 +297,7 @@ module _ (y : Style) (s : List ℕ) (from : ℕ) (l : from ≤ length s) (h : is
     name-long = omega (arith, name-room)
 
     module _ (small : y .most ≤ 4) where
-      name-tells : Tells s (finishOne y from 0 (from + 3) (length s - from - 3)) (readText y from (drop from s))
+      name-tells : Tells s (fittedOne y from 0 (from + 3) (length s - from - 3)) (readText y from (drop from s))
       name-tells =
           record {
             says = read-name y s from l (all isText (drop from s)) refl (of-text .0) q t e small _ refl;

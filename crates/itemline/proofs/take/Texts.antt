@@ -17,7 +17,7 @@ use Rattle.base.proofs.Seek.{never, starts-long}
 use Rattle.sheet.specs.declared.Style.{Style}
 use Rattle.paper.specs.Read.{Field, value, fault}
 use Rattle.paper.specs.Bytes.{isText, av, np, mark, null}
-use Rattle.paper.specs.Texts.{Piece, piece, Noted, divide, cut, over, cuts, pad, opens, finish, messageEnd, message, marked, readText}
+use Rattle.paper.specs.Texts.{Piece, piece, Noted, divide, cut, over, cuts, pad, opens, partsTaken, fitted, finish, messageEnd, message, marked, readText}
 use Rattle.paper.specs.ItemLine.{isValue}
 use Rattle.text.specs.declared.span.Spans.{Spans}
 use Rattle.text.specs.span.Held.{textsAt, Held}
@@ -48,15 +48,22 @@ module _ (y : Style) (ps : List Piece) (n : Piece) (h : isValue (finish y ps n) 
   inner : Field Noted
   inner = pick (pick (y .cuts) true (null (cuts ps n))) (value (done ps n)) (fault 14)
 
+  to-fitted : finish y ps n ≡ fitted y ps n
+  unfolding finish
+  to-fitted = past-yes (partsTaken y ps) 14 (fitted y ps n) h .1
+
+  fits : isValue (fitted y ps n) ≡ true
+  fits = value-as _ _ h to-fitted
+
   few : length ps ≤ y .most
-  unfolding finish inner
-  few = ltb-false (y .most) (length ps) (past-not (ltb (y .most) (length ps)) 14 inner h .0)
+  unfolding fitted inner
+  few = ltb-false (y .most) (length ps) (past-not (ltb (y .most) (length ps)) 14 inner fits .0)
 
   finished : finish y ps n ≡ value (done ps n)
-  unfolding finish inner
+  unfolding fitted inner
   finished =
-      let e = past-not (ltb (y .most) (length ps)) 14 inner h .1 in
-      e ∙ past-yes (pick (y .cuts) true (null (cuts ps n))) 14 (value (done ps n)) (value-as _ _ h e) .1
+      let e = past-not (ltb (y .most) (length ps)) 14 inner fits .1 in
+      to-fitted ∙ e ∙ past-yes (pick (y .cuts) true (null (cuts ps n))) 14 (value (done ps n)) (value-as _ _ fits e) .1
 
 -- a message with no name behind it
 module _ (y : Style) (small : y .most ≤ 4) (nameless : y .names ≡ false) (s : List ℕ) (from : ℕ) (l : from ≤ length s)

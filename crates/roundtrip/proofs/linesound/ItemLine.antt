@@ -17,7 +17,7 @@ use Rattle.paper.specs.Bytes.{null}
 use Rattle.paper.specs.Accounts.{Account, nobody, accountProper, isNobody, readAccount}
 use Rattle.paper.specs.Amounts.{readItemAmount}
 use Rattle.paper.specs.BankField.{Bank, readBank}
-use Rattle.paper.specs.Texts.{Noted, lacks as without, nameProper, partProper, partCarried, nameCarried, partsProper, partsCarried}
+use Rattle.paper.specs.Texts.{Noted, lacks as without, nameProper, partProper, taken, wordsCarried, partCarried, nameCarried, partsProper, partsCarried}
 use Rattle.paper.specs.Batch.{most14}
 use Rattle.paper.specs.Proper.{itemPayerProper}
 use Rattle.paper.specs.ItemLine.{readSymbol, partBytes, itemOf}
@@ -40,8 +40,8 @@ any true = refl
 any false = refl
 
 no-part : (y : Style) (i : ℕ) → partCarried y i [] ≡ true
-unfolding partCarried without null seek
-no-part y i = pick-true _ _ (any (ltb i (y .most))) ∙ any (y .names)
+unfolding partCarried wordsCarried taken without null seek all
+no-part y i = pick-true _ _ (any (ltb i (y .most))) ∙ pick-true _ _ (any (y .names)) ∙ any (y .clean)
 
 abbrev none4 : List (List ℕ)
 none4 = [] ∷ [] ∷ [] ∷ [] ∷ []

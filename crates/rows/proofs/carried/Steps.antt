@@ -1,21 +1,21 @@
 -- The sheet's limits, the numbers that are seen, and a text where it stands, as the code finds them. Assumes nothing.
-use mathlib.Core.Path.{_≡_, refl, sym, ap, _∙_}
+use mathlib.Core.Path.{_≡_, sym, ap, _∙_}
 use mathlib.Core.Bool.{Bool, true, false}
 use mathlib.Core.List.{List, []}
 use Prim.Native.Nat.{ℕ, _+_, _-_}
 use lib.Dec.{ltb}
 use lib.ListN.{take, drop}
 use borrow.Author.Tests.{eq-eqb, ne-eqb}
-use Rattle.base.specs.Pick.{pick}
-use Rattle.base.specs.Seek.{seek}
+use Rattle.base.specs.Seek.{all, seek}
+use Rattle.base.proofs.Cases.{pick-true, pick-same}
 use Rattle.sheet.specs.declared.Style.{Style}
 use Rattle.sheet.specs.declared.Sheet.{Sheet}
 use Rattle.sheet.specs.declared.Limits.{Limits}
 use Rattle.sheet.specs.Sheets.{LimitsOf}
-use Rattle.paper.specs.Bytes.{null, mark}
+use Rattle.paper.specs.Bytes.{null}
 use Rattle.paper.specs.Days.{dueAllowed}
 use Rattle.paper.specs.Amounts.{amountProper}
-use Rattle.paper.specs.Texts.{lacks, partCarried, nameCarried}
+use Rattle.paper.specs.Texts.{lacks, taken, wordsCarried, partCarried, nameCarried}
 use Rattle.paper.specs.Batch.{Header}
 use Rattle.paper.specs.FileLine.{numberFault, numberAllowed}
 use Rattle.paper.specs.Proper.{Verdict, wrong, check}
@@ -58,16 +58,9 @@ module _ (interval : Bool) (from to : ℕ) (words : List ℕ) (n r : ℕ) (e : r
     number-fails z q = without k 2 v rest _ (number-taken z) q
 
 -- an empty part is carried
-empty : (a b : Bool) → true ≡ pick (pick a true (null {A = ℕ} [])) (pick b (lacks mark []) true) false
-unfolding lacks seek null pick
-empty true true = refl
-empty true false = refl
-empty false true = refl
-empty false false = refl
-
 blank-carried : (y : Style) (i : ℕ) → true ≡ partCarried y i []
-unfolding partCarried
-blank-carried y i = empty (ltb i (y .most)) (y .names)
+unfolding partCarried wordsCarried taken lacks all seek null
+blank-carried y i = sym (pick-true _ _ (pick-same (ltb i (y .most)) true) ∙ pick-true _ _ (pick-same (y .names) true) ∙ pick-same (y .clean) true)
 
 -- the part of the lent bytes that a test was given is the text
 module _ (y : Style) (t : List ℕ) (p : Span) (w : Within t p) where

@@ -1,6 +1,6 @@
 -- The turns of the loops over a block and over blocks. Assumes nothing.
 use mathlib.Core.Path.{_≡_, refl, sym, ap, _∙_}
-use mathlib.Core.Bool.{Bool, true, false}
+use mathlib.Core.Bool.{Bool, true, false, not}
 use mathlib.Core.List.{List, [], _∷_}
 use Prim.Native.Nat.{ℕ, zero, suc, _+_, _-_, _≤_, _<_}
 use native.Mathlib.Nat.{sub-zero, suc-sub-suc, zero-sub}
@@ -13,8 +13,9 @@ use lib.Dec.{ltb}
 use borrow.Author.Tests.{lt-ltb, ltb-true, ne-eqb, le-leb, le-ltb}
 use Rattle.base.specs.Pick.{pick}
 use Rattle.base.specs.Seek.{all}
+use Rattle.base.proofs.Cases.{pick-false}
 use Rattle.base.proofs.Seek.{never, all-head, all-tail, all-cons, all-append, all-weaker}
-use Rattle.paper.specs.Bytes.{isText}
+use Rattle.paper.specs.Bytes.{isText, isClean}
 use Rattle.scan.specs.block.Blocks.{isHigh, isOther, isFar, Skips}
 
 -- ---- one byte
@@ -25,6 +26,10 @@ is-high x h = le-leb 14 x h
 pub is-text : (x : ℕ) → 32 ≤ x → (x ≡ 127 → ⊥) → x < 256 → isText x ≡ true
 unfolding isText pick
 is-text x l n h = rw (le-ltb x 32 l, ne-eqb x 127 n, le-leb x 255 (omega arith))
+
+pub is-clean : (x : ℕ) → (x ≡ 35 → ⊥) → (x ≡ 126 → ⊥) → isClean x ≡ true
+unfolding isClean
+is-clean x h t = pick-false _ _ (ne-eqb x 35 h) ∙ ap not (ne-eqb x 126 t)
 
 pub is-other : (b x : ℕ) → (x ≡ b → ⊥) → isOther b x ≡ true
 is-other b x n = simp (ne-eqb x b n)

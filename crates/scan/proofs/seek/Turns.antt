@@ -12,8 +12,9 @@ use borrow.Author.Tests.{eq-eqb, ne-eqb, le-leb, lt-ltb, le-ltb}
 use Rattle.base.specs.Pick.{pick}
 use Rattle.base.specs.Seek.{all, starts, seek}
 use Rattle.base.proofs.Seek.{seek-here, seek-next, seek-end}
-use Rattle.paper.specs.Bytes.{isText}
+use Rattle.paper.specs.Bytes.{isText, isClean}
 use Rattle.paper.specs.Texts.{lacks}
+use Rattle.scan.proofs.block.Turns.{is-clean}
 
 -- is_text
 module _ (b : ℕ) where
@@ -31,18 +32,33 @@ module _ (b : ℕ) where
 
 pub ruleset texts = (text-low, text-del, text-yes)
 
--- all_text: t is what is_text answered
-module _ (s : List ℕ) (from i : ℕ) (inv : all isText (drop from s) ≡ all isText (drop i s)) where
-  module _ (h : i < length s) (t : Bool) (g : t ≡ isText (getD s i 0)) where
-    pub all-on : t ≡ true → all isText (drop from s) ≡ all isText (drop (i + 1) s)
+-- is_clean
+module _ (b : ℕ) where
+  pub clean-hash : b ≡ 35 → false ≡ isClean b
+  unfolding isClean pick
+  clean-hash h = rw h
+
+  pub clean-tilde : b ≡ 126 → false ≡ isClean b
+  unfolding isClean pick
+  clean-tilde h = rw h
+
+  pub clean-yes : (b ≡ 35 → ⊥) → (b ≡ 126 → ⊥) → true ≡ isClean b
+  clean-yes h t = sym (is-clean b h t)
+
+pub ruleset cleans = (clean-hash, clean-tilde, clean-yes)
+
+-- all_text and all_clean: t is what the test p of one byte answered
+module _ (p : ℕ → Bool) (s : List ℕ) (from i : ℕ) (inv : all p (drop from s) ≡ all p (drop i s)) where
+  module _ (h : i < length s) (t : Bool) (g : t ≡ p (getD s i 0)) where
+    pub all-on : t ≡ true → all p (drop from s) ≡ all p (drop (i + 1) s)
     unfolding all pick
     all-on e = inv ∙ rw (drop-cons s i 0 h, ← g, e, add-one)
 
-    pub all-out : t ≡ false → false ≡ all isText (drop from s)
+    pub all-out : t ≡ false → false ≡ all p (drop from s)
     unfolding all pick
     all-out e = sym (inv ∙ rw (drop-cons s i 0 h, ← g, e))
 
-  pub all-past : length s ≤ i → true ≡ all isText (drop from s)
+  pub all-past : length s ≤ i → true ≡ all p (drop from s)
   unfolding all
   all-past h = sym (inv ∙ rw (drop-of-length-le s h))
 

@@ -16,17 +16,17 @@ enum-known-n c = search needs
 enum-told : tie.Need-enum-told
 enum-told c = search needs
 
-add-finish-one : tie.Need-add-finish-one
-add-finish-one c = search needs
+add-fit-one : tie.Need-add-fit-one
+add-fit-one c = search needs
 
-sub-finish-one : tie.Need-sub-finish-one
-sub-finish-one c = search needs
+sub-fit-one : tie.Need-sub-fit-one
+sub-fit-one c = search needs
 
-sub-finish-one-2 : tie.Need-sub-finish-one-2
-sub-finish-one-2 c = search (outs, needs)
+sub-fit-one-2 : tie.Need-sub-fit-one-2
+sub-fit-one-2 c = search (outs, needs)
 
-finish-one-requires : tie.Need-finish-one-requires
-finish-one-requires c κs = search needs
+fit-one-requires : tie.Need-fit-one-requires
+fit-one-requires c κs = search needs
 
 enum-known-at : tie.Need-enum-known-at
 enum-known-at c = search needs
@@ -54,10 +54,10 @@ read-text-spec =
     begin-text-requires
     enum-known-n
     enum-told
-    add-finish-one
-    sub-finish-one
-    sub-finish-one-2
-    finish-one-requires
+    add-fit-one
+    sub-fit-one
+    sub-fit-one-2
+    fit-one-requires
     enum-known-at
     read-message-requires
     returns

@@ -9,13 +9,13 @@ use lib.Seq.{take-all, take-append-seam, drop-append-add}
 use borrow.Author.Tests.{le-ltb}
 use Rattle.base.specs.Pick.{pick}
 use Rattle.base.specs.Seek.{all, starts, seek, Free}
-use Rattle.base.proofs.Cases.{by-test, pick-true, pick-false, pick-same}
+use Rattle.base.proofs.Cases.{by-test, pick-true, pick-false, pick-same, both-pick}
 use Rattle.base.proofs.Seek.{never, all-append, all-cons, free-join, starts-self, seek-join}
 use Rattle.sheet.specs.declared.Style.{Style}
 use Rattle.paper.specs.Read.{Field}
 use Rattle.paper.specs.Warnings.{Warning, longPart, longName}
 use Rattle.paper.specs.Bytes.{isText, av, np, bar, mark, null}
-use Rattle.paper.specs.Texts.{Piece, piece, Noted, others, divide, cut, over, overs, cuts, pad, opens, finish, messageEnd, message, marked, readText, trim, joinOn, joined, spellName, spellMarked, spellText, noText}
+use Rattle.paper.specs.Texts.{Piece, piece, Noted, others, divide, cut, over, overs, cuts, pad, opens, taken, partsTaken, fitted, finish, messageEnd, message, marked, readText, trim, joinOn, joined, spellName, spellMarked, spellText, noText}
 use Rattle.text.specs.wording.Wording.{bytesOf, Sendable, Back}
 use Rattle.text.proofs.wording.Parts.{Every, none, more, fill, bytes-pad, bytes-cut, bytes-cuts, every-trim, fill-trim, divide-join}
 use Rattle.text.proofs.wording.Fit.{Fit, name-proper, name-carried, parts-fit, few-parts}
@@ -40,6 +40,11 @@ module _ (y : Style) where
   unfolding overs
   overs-none [] h = refl
   overs-none (p ∷ ps) (more h t) = rw (over-short longPart p (h .short)) (overs-none ps t)
+
+  parts-taken : (ps : List Piece) → Every (Fit y) (bytesOf ps) → partsTaken y ps ≡ true
+  unfolding partsTaken
+  parts-taken [] h = refl
+  parts-taken (p ∷ ps) (more h t) = both-pick (taken y (p .bytes)) (partsTaken y ps) (h .bytes) (parts-taken ps t)
 
   -- the joined message is text, and free of ` NP:`
   pub text-join : (p : List ℕ) {qs : List (List ℕ)} → Fit y p → Every (Fit y) qs → all isText (joinOn p qs) ≡ true
@@ -92,11 +97,11 @@ every-bars y (more h t) = more (h .bars) (every-bars y t)
 module _ (y : Style) (n : List ℕ) (short : length n ≤ 35) (some : 0 < y .most) (named : y .names ≡ false → n ≡ []) where
   finish-back : (ps : List Piece) (q : Piece) {bs : List (List ℕ)} → bytesOf ps ≡ bs → q .bytes ≡ n → Every (Fit y) bs → length bs ≤ y .most
       → Back (finish y ps q) (fill 4 bs) n
-  unfolding finish null
+  unfolding finish fitted null
   finish-back ps q {bs = bs} e f h l =
       record {
         texts = record { parts = pad 4 (map cut ps); name = cut q; warnings = cuts ps q };
-        reads = pick-false _ _ (le-ltb (y .most) (length ps) many) ∙ pick-true _ _ (rw none-cut (pick-same (y .cuts) true));
+        reads = pick-true _ _ (parts-taken y ps (rw e h)) ∙ pick-false _ _ (le-ltb (y .most) (length ps) many) ∙ pick-true _ _ (rw none-cut (pick-same (y .cuts) true));
         parts-back = bytes-pad 4 (map cut ps) ∙ ap (fill 4) (bytes-cuts ps ∙ (ap (map (take 35)) e ∙ cut-all y h));
         name-back = bytes-cut (q .place) (q .bytes) ∙ (ap (take 35) f ∙ take-all 35 n short);
         no-warning = none-cut;

@@ -1,6 +1,6 @@
 -- Cases of document 01, "Cases at the edges" and "Lines", tail; and where ` NP:` is looked for. Assumes nothing.
 use mathlib.Core.Path.{_≡_, refl, sym, ap, _∙_}
-use mathlib.Core.Bool.{true}
+use mathlib.Core.Bool.{true, false}
 use mathlib.Core.List.{List, [], _∷_, _++_}
 use Prim.Native.Nat.{ℕ, _+_}
 use native.Mathlib.Omega.{arith}
@@ -11,11 +11,12 @@ use Rattle.base.specs.Pick.{pick}
 use Rattle.base.specs.Seek.{all, starts, seek}
 use Rattle.base.proofs.Cases.{by-test}
 use Rattle.base.proofs.Seek.{never}
+use Rattle.sheet.specs.declared.Style.{Style}
 use Rattle.sheet.specs.Sheets.{styleKE, styleS, styleC}
 use Rattle.paper.specs.Read.{Field, value, fault}
 use Rattle.paper.specs.Warnings.{longPart, longName, Notice, notice}
-use Rattle.paper.specs.Bytes.{isText, av, mark, null}
-use Rattle.paper.specs.Texts.{Piece, piece, Noted, others, cut, over, overs, pad, opens, finish, messageEnd, message, marked, readText, keep, trim, joinOn, joined, spellName, spellMarked, spellText}
+use Rattle.paper.specs.Bytes.{isText, isClean, av, mark, null}
+use Rattle.paper.specs.Texts.{Piece, piece, Noted, others, cut, over, overs, pad, opens, taken, partsTaken, fitted, finish, messageEnd, message, marked, readText, lacks, wordsCarried, partCarried, keep, trim, joinOn, joined, spellName, spellMarked, spellText}
 
 abbrev empty : Piece
 empty = piece 0 []
@@ -45,8 +46,27 @@ cases :
     × (readText styleS 20 [] ≡ read (empty ∷ empty ∷ empty ∷ empty ∷ []) empty [])
     × (spellText styleC ((108 ∷ []) ∷ [] ∷ (100 ∷ []) ∷ [] ∷ []) (74 ∷ []) ≡ 65 ∷ 86 ∷ 58 ∷ 108 ∷ 124 ∷ 124 ∷ 100 ∷ 32 ∷ 78 ∷ 80 ∷ 58 ∷ 74 ∷ [])
     × (spellText styleC ([] ∷ [] ∷ [] ∷ [] ∷ []) (74 ∷ []) ≡ 78 ∷ 80 ∷ 58 ∷ 74 ∷ [])
-unfolding readText spellText spellMarked spellName joined joinOn trim keep opens marked message messageEnd finish pad cut over overs others all starts seek pick isText null
+unfolding readText spellText spellMarked spellName joined joinOn trim keep opens marked message messageEnd taken partsTaken fitted finish pad cut over overs others all starts seek pick isText null
 cases = (refl, refl, refl, refl, refl, refl, refl, refl, refl, refl, refl, refl, refl, refl, refl, refl, refl, refl)
+
+-- a style that asks for parts without `#` and `~`, and is K's else
+abbrev careful : Style
+careful = record { av = true; may = false; names = false; cuts = false; clean = true; most = 4 }
+
+-- `AV:#`, `AV:a|b~`, `AV:a|b`, `AV:a NP:b` and `AV:#` with a byte 31 behind it; the same texts in K's style, which takes both; and what is carried
+cleaned :
+    (readText careful 20 (65 ∷ 86 ∷ 58 ∷ 35 ∷ []) ≡ fault 14)
+    × (readText careful 20 (65 ∷ 86 ∷ 58 ∷ 97 ∷ 124 ∷ 98 ∷ 126 ∷ []) ≡ fault 14)
+    × (readText careful 20 (65 ∷ 86 ∷ 58 ∷ 97 ∷ 124 ∷ 98 ∷ []) ≡ read (piece 23 (97 ∷ []) ∷ piece 25 (98 ∷ []) ∷ empty ∷ empty ∷ []) empty [])
+    × (readText careful 20 (65 ∷ 86 ∷ 58 ∷ 97 ∷ 32 ∷ 78 ∷ 80 ∷ 58 ∷ 98 ∷ []) ≡ read (piece 23 (97 ∷ 32 ∷ 78 ∷ 80 ∷ 58 ∷ 98 ∷ []) ∷ empty ∷ empty ∷ empty ∷ []) empty [])
+    × (readText careful 20 (65 ∷ 86 ∷ 58 ∷ 35 ∷ 31 ∷ []) ≡ fault 4)
+    × (readText styleKE 20 (65 ∷ 86 ∷ 58 ∷ 35 ∷ 124 ∷ 126 ∷ []) ≡ read (piece 23 (35 ∷ []) ∷ piece 25 (126 ∷ []) ∷ empty ∷ empty ∷ []) empty [])
+    × (partCarried careful 3 (97 ∷ 35 ∷ []) ≡ false)
+    × (partCarried careful 3 (97 ∷ 126 ∷ []) ≡ false)
+    × (partCarried careful 3 (97 ∷ 36 ∷ []) ≡ true)
+    × (partCarried styleKE 3 (35 ∷ 126 ∷ []) ≡ true)
+unfolding readText opens marked message messageEnd taken partsTaken fitted finish wordsCarried partCarried lacks pad cut over overs others all starts seek pick isText isClean null
+cleaned = (refl, refl, refl, refl, refl, refl, refl, refl, refl, refl)
 
 -- a text that begins with a pattern is the pattern and a rest
 starts-split : (ps s : List ℕ) → starts ps s ≡ true → s ≡ ps ++ drop (length ps) s

@@ -13,15 +13,16 @@ use Rattle.base.proofs.Cases.{by-test, by-lt, pick-true, pick-false, pick-both,
 use Rattle.base.proofs.Seek.{never}
 use Rattle.sheet.specs.declared.Style.{Style}
 use Rattle.paper.specs.Bytes.{isText, bar, mark, null}
-use Rattle.paper.specs.Texts.{lacks, nameProper, partProper, partCarried, nameCarried, partsProper, partsCarried, keep, trim}
+use Rattle.paper.specs.Texts.{lacks, taken, nameProper, partProper, wordsCarried, partCarried, nameCarried, partsProper, partsCarried, keep, trim}
 use Rattle.text.proofs.wording.Parts.{Every, none, more, fill, keep-le, keep-none}
 
--- a part that is proper, and without ` NP:` where names are
+-- a part that is proper, without ` NP:` where names are, and of bytes that the sheet takes
 pub record Fit (y : Style) (p : List ℕ) : Type 0 where
   pub short : length p ≤ 35
   pub text : all isText p ≡ true
   pub bars : Free bar p
   pub marks : y .names ≡ true → Free mark p
+  pub bytes : taken y p ≡ true
 
 lacks-free : (ps s : List ℕ) → lacks ps s ≡ true → Free ps s
 unfolding lacks
@@ -67,15 +68,19 @@ module _ (y : Style) where
   fits-proper none = refl
   fits-proper (more {p = p} {ps = ps} h t) = both-pick (partProper p) (partsProper ps) (fit-proper p h) (fits-proper t)
 
-  marks-carried : (p : List ℕ) → Fit y p → pick (y .names) (lacks mark p) true ≡ true
-  marks-carried p f = by-test (y .names) (λ e. pick-true _ _ e ∙ free-lacks mark p (f .marks e)) (λ e. pick-false _ _ e)
+  words-carried : (p : List ℕ) → Fit y p → wordsCarried y p ≡ true
+  unfolding wordsCarried
+  words-carried p f =
+      both-pick (pick (y .names) (lacks mark p) true) (taken y p)
+      (by-test (y .names) (λ e. pick-true _ _ e ∙ free-lacks mark p (f .marks e)) (λ e. pick-false _ _ e))
+      (f .bytes)
 
   empty-carried : (i : ℕ) → Fit y [] → partCarried y i [] ≡ true
   unfolding partCarried null
   empty-carried i f =
-      both-pick (pick (ltb i (y .most)) true true) (pick (y .names) (lacks mark []) true)
+      both-pick (pick (ltb i (y .most)) true true) (wordsCarried y [])
       (by-test (ltb i (y .most)) (λ e. pick-true _ _ e) (λ e. pick-false _ _ e))
-      (marks-carried [] f)
+      (words-carried [] f)
 
   fill-none : (n i : ℕ) → Fit y [] → partsCarried y i (fill n []) ≡ true
   unfolding fill partsCarried
@@ -89,25 +94,26 @@ module _ (y : Style) where
   fits-carried f (suc n) i l none = fill-none (suc n) i f
   fits-carried f (suc n) i l (more {p = p} {ps = ps} h t) =
       both-pick (partCarried y i p) (partsCarried y (suc i) (fill n ps))
-      (both-pick (pick (ltb i (y .most)) true (null p)) (pick (y .names) (lacks mark p) true)
-      (pick-true _ _ (lt-ltb i (y .most) (omega arith))) (marks-carried p h))
+      (both-pick (pick (ltb i (y .most)) true (null p)) (wordsCarried y p) (pick-true _ _ (lt-ltb i (y .most) (omega arith))) (words-carried p h))
       (fits-carried f n (suc i) (omega arith) t)
 
   -- and back
-  carried-both : (i : ℕ) (p : List ℕ) → partCarried y i p ≡ true → (pick (ltb i (y .most)) true (null p) ≡ true) × (pick (y .names) (lacks mark p) true ≡ true)
+  carried-both : (i : ℕ) (p : List ℕ) → partCarried y i p ≡ true → (pick (ltb i (y .most)) true (null p) ≡ true) × (wordsCarried y p ≡ true)
   unfolding partCarried
-  carried-both i p = pick-both (pick (ltb i (y .most)) true (null p)) (pick (y .names) (lacks mark p) true)
+  carried-both i p = pick-both (pick (ltb i (y .most)) true (null p)) (wordsCarried y p)
 
   part-fit : (i : ℕ) (p : List ℕ) → partProper p ≡ true → partCarried y i p ≡ true → Fit y p
-  unfolding partProper
+  unfolding partProper wordsCarried
   part-fit i p h c =
       let b = pick-both (nameProper p) (lacks bar p) h in
       let n = name-proper p (b .0) in
+      let w = pick-both (pick (y .names) (lacks mark p) true) (taken y p) ((carried-both i p c) .1) in
       record {
         short = n .0;
         text = n .1;
         bars = lacks-free bar p (b .1);
-        marks = λ e. lacks-free mark p (sym (pick-true _ _ e) ∙ (carried-both i p c) .1);
+        marks = λ e. lacks-free mark p (sym (pick-true _ _ e) ∙ w .0);
+        bytes = w .1;
       }
 
   pub parts-fit : (i : ℕ) (ps : List (List ℕ)) → partsProper ps ≡ true → partsCarried y i ps ≡ true → Every (Fit y) ps

@@ -10,16 +10,17 @@ use lib.ListN.{length, take, drop, length-take, length-map, drop-of-length-le}
 use borrow.Author.Tests.{ltb-false}
 use Rattle.base.specs.Pick.{pick}
 use Rattle.base.specs.Seek.{all, starts, seek, before, Free}
-use Rattle.base.proofs.Cases.{either, pick-both, pick-false}
+use Rattle.base.proofs.Cases.{either, by-test, pick-both, pick-true, pick-false}
 use Rattle.base.proofs.Seek.{never, all-take, all-tail, all-drop, free-take, free-tail, free-before}
 use Rattle.sheet.specs.declared.Style.{Style}
 use Rattle.paper.specs.Read.{Field, value, fault}
 use Rattle.paper.specs.Warnings.{Notice}
-use Rattle.paper.specs.Bytes.{isText, av, np, bar, mark, null}
-use Rattle.paper.specs.Texts.{Piece, piece, Noted, divide, cut, cuts, pad, opens, finish, messageEnd, message, marked, readText}
+use Rattle.paper.specs.Bytes.{isText, isClean, av, np, bar, mark, null}
+use Rattle.paper.specs.Texts.{Piece, piece, Noted, divide, cut, cuts, pad, opens, taken, partsTaken, fitted, finish, messageEnd, message, marked, readText}
 use Rattle.paper.proofs.Lists.{null-none}
 use Rattle.text.specs.wording.Wording.{bytesOf, Sound}
 use Rattle.text.proofs.wording.Parts.{Every, none, more, fill, bytes-pad, bytes-cut, bytes-cuts, every-map, every-fill, every-divide, length-fill}
+use Rattle.text.proofs.Right.{none-taken}
 use Rattle.text.proofs.wording.Fit.{Fit, proper-name, carried-name, fits-proper, fits-carried}
 
 -- an accepted text is sound, a refused one has the number 4 or 14
@@ -34,18 +35,28 @@ module _ (y : Style) where
     bars : Free bar p
     marks : y .names ≡ true → Free mark p
 
-  raw-cut : (p : List ℕ) → Raw p → Fit y (take 35 p)
-  raw-cut p r =
+  -- .. of bytes that the sheet takes
+  Good : List ℕ → Type 0
+  Good p = Raw p × (taken y p ≡ true)
+
+  taken-cut : (k : ℕ) (p : List ℕ) → taken y p ≡ true → taken y (take k p) ≡ true
+  unfolding taken
+  taken-cut k p h = by-test (y .clean) (λ e. pick-true _ _ e ∙ all-take isClean k p (sym (pick-true _ _ e) ∙ h)) (λ e. pick-false _ _ e)
+
+  raw-cut : (p : List ℕ) → Good p → Fit y (take 35 p)
+  unfolding Good
+  raw-cut p (r, t) =
       record {
         short = omega (arith, length-take 35 p);
         text = all-take isText 35 p (r .text);
         bars = free-take bar 35 p (r .bars);
         marks = λ e. free-take mark 35 p (r .marks e);
+        bytes = taken-cut 35 p t;
       }
 
   pub empty-fit : Fit y []
   unfolding all seek
-  empty-fit = record { short = omega arith; text = refl; bars = refl; marks = λ e. refl }
+  empty-fit = record { short = omega arith; text = refl; bars = refl; marks = λ e. refl; bytes = none-taken y }
 
   cut-parts : (ps : List Piece) → bytesOf (pad 4 (map cut ps)) ≡ fill 4 (map (take 35) (bytesOf ps))
   cut-parts ps = bytes-pad 4 (map cut ps) ∙ ap (fill 4) (bytes-cuts ps)
@@ -53,9 +64,15 @@ module _ (y : Style) where
   cuts-only : (l : List Notice) → pick (y .cuts) true (null l) ≡ true → y .cuts ≡ false → l ≡ []
   cuts-only l h e = null-none l (sym (pick-false _ _ e) ∙ h)
 
-  finish-sound : (ps : List Piece) (n : Piece) → Every Raw (bytesOf ps) → all isText (n .bytes) ≡ true → (y .names ≡ false → n .bytes ≡ []) → Outcome y (finish y ps n)
-  unfolding finish
-  finish-sound ps n h t m =
+  -- each part that was found is taken
+  all-good : (ps : List Piece) → Every Raw (bytesOf ps) → partsTaken y ps ≡ true → Every Good (bytesOf ps)
+  unfolding partsTaken Good
+  all-good [] none k = none
+  all-good (p ∷ ps) (more h t) k = let b = pick-both (taken y (p .bytes)) (partsTaken y ps) k in more (h, b .0) (all-good ps t (b .1))
+
+  fitted-sound : (ps : List Piece) (n : Piece) → Every Good (bytesOf ps) → all isText (n .bytes) ≡ true → (y .names ≡ false → n .bytes ≡ []) → Outcome y (fitted y ps n)
+  unfolding fitted
+  fitted-sound ps n h t m =
       either (Outcome y) (ltb (y .most) (length ps)) (λ e. inr refl) (λ e.
       either (Outcome y) (pick (y .cuts) true (null (cuts ps n))) (λ f.
       record {
@@ -71,11 +88,15 @@ module _ (y : Style) where
       }) (λ f. inr refl))
     where
       fit : Every (Fit y) (map (take 35) (bytesOf ps))
-      fit = every-map Raw (Fit y) (take 35) raw-cut h
+      fit = every-map Good (Fit y) (take 35) raw-cut h
 
       few : ltb (y .most) (length ps) ≡ false → 0 + length (map (take 35) (bytesOf ps)) ≤ y .most
       few e =
           omega (arith, ltb-false (y .most) (length ps) e, length-map (bytesOf ps) (take 35), length-map ps (λ (p : Piece). p .bytes))
+
+  finish-sound : (ps : List Piece) (n : Piece) → Every Raw (bytesOf ps) → all isText (n .bytes) ≡ true → (y .names ≡ false → n .bytes ≡ []) → Outcome y (finish y ps n)
+  unfolding finish
+  finish-sound ps n h t m = either (Outcome y) (partsTaken y ps) (λ k. fitted-sound ps n (all-good ps h k) t m) (λ k. inr refl)
 
   empty-raw : Raw []
   unfolding all seek

@@ -10,7 +10,7 @@ use Rattle.base.proofs.Cases.{either}
 use Rattle.sheet.specs.declared.Style.{Style}
 use Rattle.paper.specs.Read.{Field, value, fault}
 use Rattle.paper.specs.Warnings.{Warning, longPart, longName, Notice}
-use Rattle.paper.specs.Texts.{Piece, Noted, over, overs, finish, message, marked, readText}
+use Rattle.paper.specs.Texts.{Piece, Noted, over, overs, fitted, finish, message, marked, readText}
 
 over-one : (w : Warning) (p : Piece) → length (over w p) ≤ 1
 unfolding over
@@ -27,11 +27,15 @@ Few (value x) = length (x .warnings) ≤ 5
 Few (fault n) = Unit {0}
 
 module _ (y : Style) (l : y .most ≤ 4) where
-  finish-few : (ps : List Piece) (n : Piece) → Few (finish y ps n)
-  unfolding finish
-  finish-few ps n =
+  fitted-few : (ps : List Piece) (n : Piece) → Few (fitted y ps n)
+  unfolding fitted
+  fitted-few ps n =
       either Few (ltb (y .most) (length ps)) (λ _. tt)
       (λ e. either Few _ (λ _. omega (arith, ltb-false (y .most) (length ps) e, length-append (overs ps) (over longName n), overs-few ps, over-one longName n)) (λ _. tt))
+
+  finish-few : (ps : List Piece) (n : Piece) → Few (finish y ps n)
+  unfolding finish
+  finish-few ps n = either Few _ (λ _. fitted-few ps n) (λ _. tt)
 
   message-few : (at : ℕ) (m : List ℕ) → Few (message y at m)
   unfolding message

@@ -8,20 +8,17 @@ use Rattle.text.proofs.fits.part_carried.Tie as tie
 has-place-requires : tie.Need-has-place-requires
 has-place-requires c κs = search needs
 
-no-mark-requires : tie.Need-no-mark-requires
-no-mark-requires c κs = search needs
+words-carried-requires : tie.Need-words-carried-requires
+words-carried-requires c κs = search needs
 
 returns : tie.Need-returns
 unfolding partCarried
-returns c = search (picks) depth 8
+returns c = search (picks)
 
 returns-2 : tie.Need-returns-2
 unfolding partCarried
-returns-2 c = search (picks) depth 8
-
-returns-3 : tie.Need-returns-3
-unfolding partCarried
-returns-3 c = search (picks) depth 8
+returns-2 c = search (picks)
 
 pub part-carried-spec : {M : Type 1} → statement M
-part-carried-spec = tie.close (tie.spec has-place-requires no-mark-requires returns returns-2 returns-3)
+part-carried-spec =
+    tie.close (tie.spec has-place-requires words-carried-requires returns returns-2)

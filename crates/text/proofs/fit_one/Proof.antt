@@ -1,8 +1,8 @@
--- `text::finish_one` meets its contract. Assumes nothing.
+-- `text::fit_one` meets its contract. Assumes nothing.
 use borrow.Author.Needs.{needs}
 use Rattle.text.proofs.Turns.{ones}
-use Rattle.text.proofs.finish_one.Statement.{statement}
-use Rattle.text.proofs.finish_one.Tie as tie
+use Rattle.text.proofs.fit_one.Statement.{statement}
+use Rattle.text.proofs.fit_one.Tie as tie
 
 returns : tie.Need-returns
 returns c = search ones
@@ -16,5 +16,5 @@ judge-requires c κs = search needs
 returns-2 : tie.Need-returns-2
 returns-2 c = search ones
 
-pub finish-one-spec : {M : Type 1} → statement M
-finish-one-spec = tie.close (tie.spec returns one-part-requires judge-requires returns-2)
+pub fit-one-spec : {M : Type 1} → statement M
+fit-one-spec = tie.close (tie.spec returns one-part-requires judge-requires returns-2)

@@ -1,8 +1,8 @@
--- `text::finish_parts` meets its contract. Assumes nothing.
+-- `text::fit_parts` meets its contract. Assumes nothing.
 use borrow.Author.Needs.{needs}
 use Rattle.text.proofs.Turns.{finishes, finished}
-use Rattle.text.proofs.finish_parts.Statement.{statement}
-use Rattle.text.proofs.finish_parts.Tie as tie
+use Rattle.text.proofs.fit_parts.Statement.{statement}
+use Rattle.text.proofs.fit_parts.Tie as tie
 
 part-at-requires : tie.Need-part-at-requires
 part-at-requires c κs = search (finishes, needs)
@@ -53,8 +53,8 @@ returns-2 c =
     (tests .before .before .barred3 .ensures .0) (tests .before .barred4 .ensures .0)
     (tests .if1 .left) (known .0) _ _ (c .before .gather .ensures) (c .judge .ensures)
 
-pub finish-parts-spec : {M : Type 1} → statement M
-finish-parts-spec =
+pub fit-parts-spec : {M : Type 1} → statement M
+fit-parts-spec =
     tie.close
     (tie.spec
     part-at-requires
