@@ -28,6 +28,8 @@ STANDING = {
     "calendar/proofs/Examples": "*",
     "explain/proofs/Examples": "*",
     "text/proofs/wording/Examples": "*",
+    # W-201 will stand on it: sheet C accepts what the one before it accepts, as some batch
+    "uncut/proofs/LooseWalk": ("also-accepted",),
     # what docs/PROOFS.md says of days and sheets: a definition that computes is what the document names
     "calendar/proofs/Next": ("next-number", "next-real"),
     "calendar/proofs/Order": ("order", "one-day"),

@@ -7,3 +7,6 @@ pub mod Kept
 pub mod Lines
 pub mod Walk
 pub mod Main
+pub mod LooseTexts
+pub mod Loose
+pub mod LooseWalk

@@ -27,18 +27,18 @@ use Rattle.uncut.proofs.Unmarked.{pieces-free}
 -- ---- parts and name as found
 
 -- the texts that they make
-abbrev made : List Piece → Piece → Noted
+abbrev pub made : List Piece → Piece → Noted
 made ps n = record { parts = pad 4 (map cut ps); name = cut n; warnings = cuts ps n }
 
 -- a style takes them, as these texts
-record Finished (y : Style) (ps : List Piece) (n : Piece) (t : Noted) : Type 0 where
-  bytes : partsTaken y ps ≡ true
-  few : length ps ≤ y .most
-  fits : pick (y .cuts) true (null (cuts ps n)) ≡ true
-  is : made ps n ≡ t
+pub record Finished (y : Style) (ps : List Piece) (n : Piece) (t : Noted) : Type 0 where
+  pub bytes : partsTaken y ps ≡ true
+  pub few : length ps ≤ y .most
+  pub fits : pick (y .cuts) true (null (cuts ps n)) ≡ true
+  pub is : made ps n ≡ t
 
 module _ (y : Style) (ps : List Piece) (n : Piece) (t : Noted) where
-  finish-only : finish y ps n ≡ value t → Finished y ps n t
+  pub finish-only : finish y ps n ≡ value t → Finished y ps n t
   unfolding finish fitted pick
   finish-only e =
       by-test (partsTaken y ps)
@@ -49,7 +49,7 @@ module _ (y : Style) (ps : List Piece) (n : Piece) (t : Noted) where
       (λ long. absurd (let q : fault 14 ≡ value t = rw (bytes, few, long) at e in let z : _≡_ {A = ℕ} 0 1 = cc in omega arith))))
       (λ other. absurd (let q : fault 14 ≡ value t = rw other at e in let z : _≡_ {A = ℕ} 0 1 = cc in omega arith))
 
-  finish-also : Finished y ps n t → finish y ps n ≡ value t
+  pub finish-also : Finished y ps n t → finish y ps n ≡ value t
   unfolding finish fitted
   finish-also f =
       pick-true _ _ (f .bytes) ∙ pick-false _ _ (le-ltb (y .most) (length ps) (f .few)) ∙ pick-true _ _ (f .fits) ∙ ap (λ (x : Noted). value x) (f .is)

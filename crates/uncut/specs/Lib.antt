@@ -1,2 +1,3 @@
 pub mod Wider
 pub mod Severe
+pub mod Looser
