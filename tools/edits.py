@@ -13,10 +13,12 @@ what `rt must-fail` takes, which proves the whole crate for each edit. The last 
 
 A refusal is worth what its reason is. So an edit passes only if
   - the crate as it is, in the same place and over the same proved modules, is proved;
-  - what the edit takes out stands in its file exactly once;
+  - what the edit takes out stands in its file exactly once, or is the first behind a text that does (`behind:`);
   - the edited program reaches the prover, which says that it is not proved (not that it could not tell);
   - the first that the prover says of the edited function is that a fact fails, and not that a name is missing, that a text cannot be
     read or that the proof does not fit the program.
+A line `more:` goes on with what stands in the place of the text, on a line of its own: where the wrong program has another call or way out, the
+edit gives the proof that too, so that nothing but a fact is missing.
 Edits are tried together only if each changes the body of one function, no two of one proof. A function's proof knows the others by their
 contracts alone, so such edits do not meet; and it is looked at: where the prover complains of any other proof than theirs, or not of all
 of these, each edit is tried alone.
@@ -83,29 +85,41 @@ def function_of(place, crate):
     return name
 
 
+def found_at(text, behind, old):
+    """Where what an edit takes out stands: the one place in the text, or the first behind the one place of another text."""
+    if behind and text.count(behind) != 1:
+        return -1
+    start = text.index(behind) + len(behind) if behind else 0
+    return text.find(old, start) if old and (behind or text.count(old) == 1) else -1
+
+
 class Edit:
     """An edit: its replacements, and the function whose body alone it changes, if so."""
 
     def __init__(self, path):
         self.path, self.crate, self.label = path, path.parent.parent.name, path.stem
         self.pairs, self.wrong, self.module, self.function, self.proof = [], None, "", None, None
-        file = old = None
+        file = behind = old = None
         for line in path.read_text(encoding="utf-8").splitlines():
             if line.startswith("file: "):
-                file = line[6:]
+                file, behind = line[6:], None
+            elif line.startswith("behind: "):
+                behind = line[8:]
             elif line.startswith("old: "):
                 old = line[5:]
             elif line.startswith("new:"):
-                self.pairs.append((file, old, line[4:].removeprefix(" ")))
+                self.pairs.append((file, behind, old, line[4:].removeprefix(" ")))
                 old = None
+            elif line.startswith("more:") and self.pairs:
+                self.pairs[-1] = (*self.pairs[-1][:3], self.pairs[-1][3] + "\n" + line[5:].removeprefix(" "))
         if not self.pairs:
             self.wrong = "it has no 'old:' and 'new:'"
-        functions = {self.place(file, old) for file, old, _ in self.pairs}
+        functions = {self.place(file, behind, old) for file, behind, old, _ in self.pairs}
         if len(functions) == 1:
             self.module, self.function = functions.pop()
             self.proof = self.function and proved_with(self.crate, self.module, self.function)
 
-    def place(self, file, old):
+    def place(self, file, behind, old):
         """The module and the function that a replacement is in; sets what is wrong with it."""
         path = ROOT / "crates" / self.crate / (file or "")
         parts = (file or "").split("/")
@@ -114,20 +128,21 @@ class Edit:
             return "", None
         module = module_of(self.crate, file)
         text = path.read_text(encoding="utf-8")
-        if not old or text.count(old) != 1:
+        at = found_at(text, behind, old)
+        if at < 0:
             self.wrong = f"what it takes out stands {text.count(old) if old else 0} times in {file}: {(old or '').strip()}"
             return module, None
         if parts[0] == "proofs":
             return module, parts[-2].split("+")[-1]
-        return module, function_at(text, text.index(old) + len(old) - len(old.lstrip())) if parts[0] == "src" else None
+        return module, function_at(text, at + len(old) - len(old.lstrip())) if parts[0] == "src" else None
 
 
 def apply(edits, crate):
     """Makes the edits' replacements in a copy of the crate, each where its text stands in the crate as it is."""
     pairs = [pair for edit in edits for pair in edit.pairs]
-    for file in {file for file, _, _ in pairs}:
+    for file in {file for file, _, _, _ in pairs}:
         text = (crate / file).read_text(encoding="utf-8")
-        for at, old, new in sorted(((text.index(old), old, new) for f, old, new in pairs if f == file), reverse=True):
+        for at, old, new in sorted(((found_at(text, behind, old), old, new) for f, behind, old, new in pairs if f == file), reverse=True):
             text = text[:at] + new + text[at + len(old) :]
         (crate / file).write_text(text, encoding="utf-8")
 

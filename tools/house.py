@@ -7,7 +7,7 @@
   - a function has at most 40 lines without its contract, and at most one loop
   - a file of definitions or proofs has at most 400 lines
   - each file of code, definitions or proofs is laid out as `rt fmt` lays it out
-  - what an edit of must-fail/ or more-edits/ takes out stands in its file exactly once
+  - what an edit of must-fail/ or more-edits/ takes out stands in its file exactly once, or behind a text that does (`behind:`, more-edits/ alone)
   - what a page links to is there, and so is each path that a page, script or C file names
   - each header, program and script of host/ and bench/ says in its first lines what it holds; a source beside its header need not
   - docs/TESTING.md names each folder of host/ and each test of host/run.sh, and what it says a test is made of is there
@@ -27,6 +27,7 @@ import subprocess
 import sys
 
 import laws
+from edits import found_at
 
 ROOT = pathlib.Path(__file__).resolve().parent.parent
 MOST_LINES = 40
@@ -136,13 +137,15 @@ def layout():
 def edits():
     folders = ("must-fail", "more-edits")
     for path in sorted(p for f in folders for p in (ROOT / "crates").glob(f"*/{f}/*.edit")):
-        crate, target = path.parent.parent, None
+        crate, target, behind = path.parent.parent, None, None
         for line in path.read_text().splitlines():
             if line.startswith("file: "):
-                target = (crate / line[6:]).read_text()
+                target, behind = (crate / line[6:]).read_text(), None
+            if line.startswith("behind: "):
+                behind = line[8:]
             if line.startswith("old: "):
-                count = target.count(line[5:])
-                check(count == 1, f"{path.relative_to(ROOT)}: what it takes out stands {count} times there: {line[5:].strip()}")
+                found = (not behind or path.parent.name == "more-edits") and found_at(target, behind, line[5:]) >= 0
+                check(found, f"{path.relative_to(ROOT)}: what it takes out stands {target.count(line[5:])} times there: {line[5:].strip()}")
 
 
 def pages():

@@ -168,7 +168,7 @@ fn part_fine(texts: &[u8], p: Span) -> bool
     if crate::read::lies(texts, p) {
         let from = p.at;
         let to = from + p.len;
-        return text::fits::part_proper(&texts[from..to]);
+        return text::fits::part_proper(&texts[0..to], from);
     }
     false
 }
@@ -183,7 +183,7 @@ fn name_fine(texts: &[u8], p: Span) -> bool
     if crate::read::lies(texts, p) {
         let from = p.at;
         let to = from + p.len;
-        return text::fits::name_proper(&texts[from..to]);
+        return text::fits::name_proper(&texts[0..to], from);
     }
     false
 }

@@ -8,18 +8,19 @@ ghost use Rattle.base.specs.Seek.{all};
 ghost use Rattle.paper.specs.Bytes.{isText, isClean};
 ghost use Rattle.scan.specs.block.Blocks.{isHigh, isOther, isFar, Skips};
 
-// Where a block begins that holds the byte at i and those behind it, up to sixteen.
-fn block_at(i: usize, n: usize) -> usize
-    requires { ⌜ 16 ≤ n ⌝ }
+// Where a block of so many bytes begins that holds the byte at i and those behind it, as many as fit.
+fn block_at(i: usize, n: usize, size: usize) -> usize
+    requires { ⌜ size ≤ n ⌝ }
+    requires { ⌜ 0 < size ⌝ }
     requires { ⌜ i < n ⌝ }
     ensures { λ r. ⌜ r ≤ i ⌝ }
-    ensures { λ r. ⌜ i < r + 16 ⌝ }
-    ensures { λ r. ⌜ r + 16 ≤ n ⌝ }
+    ensures { λ r. ⌜ i < r + size ⌝ }
+    ensures { λ r. ⌜ r + size ≤ n ⌝ }
 {
-    if i <= n - 16 {
+    if i <= n - size {
         return i;
     }
-    n - 16
+    n - size
 }
 
 // Are the sixteen bytes at `at` all above 13, so that none ends a line?
@@ -130,49 +131,8 @@ pub fn skip_text(s: &[u8], at: usize) -> usize
     }
     let mut i = at;
     while i < n {
-        let p = block_at(i, n);
+        let p = block_at(i, n, 16);
         if text_block(s, p) {
-            i = p + 16;
-        } else {
-            return i;
-        }
-    }
-    i
-}
-
-// Are the sixteen bytes at `at` all other than `#` and `~`?
-fn clean_block(s: &[u8], at: usize) -> bool
-    requires { ⌜ at + 16 ≤ length (now s) ⌝ }
-    ensures { λ r. ⌜ (r ≡ true → all isClean (take 16 (drop at (now (s .entry)))) ≡ true) ⌝ }
-{
-    let mut clean = true;
-    let mut j: usize = 0;
-    while j < 16 {
-        let b = s[at + j];
-        if b == 35 {
-            clean = false;
-        }
-        if b == 126 {
-            clean = false;
-        }
-        j += 1;
-    }
-    clean
-}
-
-// A place at or after `at` with neither `#` nor `~` before it.
-pub fn skip_clean(s: &[u8], at: usize) -> usize
-    requires { ⌜ at ≤ length (now s) ⌝ }
-    ensures { λ r. ⌜ Skips isClean (now (s .entry)) at r ⌝ }
-{
-    let n = s.len();
-    if n < 16 {
-        return at;
-    }
-    let mut i = at;
-    while i < n {
-        let p = block_at(i, n);
-        if clean_block(s, p) {
             i = p + 16;
         } else {
             return i;
@@ -195,6 +155,76 @@ pub fn all_other(s: &[u8], at: usize, size: usize, b: u8) -> bool
         j += 1;
     }
     other
+}
+
+// Are so many bytes at `at` all other than `#` and `~`? Each is looked for by itself: of two tests of one byte the compiler makes one that it cannot do for all
+// bytes of a block at once.
+fn clean_block(s: &[u8], at: usize, size: usize) -> bool
+    requires { ⌜ at + size ≤ length (now s) ⌝ }
+    ensures { λ r. ⌜ (r ≡ true → all isClean (take size (drop at (now (s .entry)))) ≡ true) ⌝ }
+{
+    if all_other(s, at, size, 35) {
+        return all_other(s, at, size, 126);
+    }
+    false
+}
+
+// One look at the last block of s: if it reaches back to `from`, neither `#` nor `~` stands from there on. Else this does not tell.
+pub fn ends_clean(s: &[u8], from: usize) -> bool
+    requires { ⌜ from ≤ length (now s) ⌝ }
+    ensures { λ r. ⌜ (r ≡ true → all isClean (drop from (now (s .entry))) ≡ true) ⌝ }
+{
+    let n = s.len();
+    if n < 64 {
+        return false;
+    }
+    let at = n - 64;
+    if from < at {
+        return false;
+    }
+    clean_block(s, at, 64)
+}
+
+// A place at or after `at` with neither `#` nor `~` before it: `at` itself in a short text. A message of usual length takes one block.
+fn pass_clean(s: &[u8], at: usize) -> usize
+    requires { ⌜ at ≤ length (now s) ⌝ }
+    ensures { λ r. ⌜ Skips isClean (now (s .entry)) at r ⌝ }
+{
+    let n = s.len();
+    if n < 64 {
+        return at;
+    }
+    let mut i = at;
+    while i < n {
+        let p = block_at(i, n, 64);
+        if clean_block(s, p, 64) {
+            i = p + 64;
+        } else {
+            return i;
+        }
+    }
+    i
+}
+
+// A place at or after `at` with neither `#` nor `~` before it.
+pub fn skip_clean(s: &[u8], at: usize) -> usize
+    requires { ⌜ at ≤ length (now s) ⌝ }
+    ensures { λ r. ⌜ Skips isClean (now (s .entry)) at r ⌝ }
+{
+    let n = s.len();
+    if n < 16 {
+        return at;
+    }
+    let mut i = pass_clean(s, at);
+    while i < n {
+        let p = block_at(i, n, 16);
+        if clean_block(s, p, 16) {
+            i = p + 16;
+        } else {
+            return i;
+        }
+    }
+    i
 }
 
 // A place at or after `at` with no b before it: `at` itself in a short text, where so wide a block costs more than it saves.
@@ -224,7 +254,7 @@ fn pass_other(s: &[u8], at: usize, b: u8) -> usize
     }
     let mut i = pass_long(s, at, b);
     while i < n {
-        let p = block_at(i, n);
+        let p = block_at(i, n, 16);
         if all_other(s, p, 16, b) {
             i = p + 16;
         } else {

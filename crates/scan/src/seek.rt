@@ -1,4 +1,5 @@
 // Looking for a pattern in a text, and telling text bytes from others.
+use crate::block::ends_clean;
 use crate::block::skip_clean;
 use crate::block::skip_text;
 ghost use mathlib.Core.Path.{_≡_};
@@ -50,11 +51,14 @@ fn is_clean(b: u8) -> bool
     true
 }
 
-// Neither `#` nor `~` stands in s from `from` on.
+// Neither `#` nor `~` stands in s from `from` on. Mostly one look tells.
 pub fn all_clean(s: &[u8], from: usize) -> bool
     requires { ⌜ from ≤ length (now s) ⌝ }
     ensures { λ r. ⌜ r ≡ all isClean (drop from (now (s .entry))) ⌝ }
 {
+    if ends_clean(s, from) {
+        return true;
+    }
     let mut i = skip_clean(s, from);
     while i < s.len() {
         if is_clean(s[i]) {

@@ -1,1 +1,2 @@
 pub mod Absent
+pub mod Carried

@@ -1,35 +1,41 @@
 // Tests of the parts of a message and of a name: what a batch may hold, and what a sheet can carry.
 ghost use mathlib.Core.Path.{_≡_};
 ghost use mathlib.Core.Bool.{true};
+ghost use Prim.Native.Nat.{_≤_};
 ghost use lib.Dec.{ltb};
+ghost use lib.ListN.{length, drop};
 ghost use Rattle.base.specs.Pick.{pick};
 ghost use Rattle.paper.specs.Bytes.{null, bar, mark};
-ghost use Rattle.paper.specs.Texts.{lacks, nameProper, partProper, wordsCarried, partCarried, nameCarried};
+ghost use Rattle.paper.specs.Texts.{lacks, taken, nameProper, partProper, partCarried, nameCarried};
 use sheet::Style;
 
-// A name, or a part but for its bars: 0 to 35 text bytes.
-pub fn name_proper(n: &[u8]) -> bool
-    ensures { λ r. ⌜ r ≡ nameProper (now (n .entry)) ⌝ }
+// A name, or a part but for its bars: 0 to 35 text bytes. It is what s has from `from` on; what stands before it is lent too, so that a short
+// text is passed in one block.
+pub fn name_proper(s: &[u8], from: usize) -> bool
+    requires { ⌜ from ≤ length (now s) ⌝ }
+    ensures { λ r. ⌜ r ≡ nameProper (drop from (now (s .entry))) ⌝ }
 {
-    if 35 < n.len() {
+    if 35 < s.len() - from {
         return false;
     }
-    scan::seek::all_text(n, 0)
+    scan::seek::all_text(s, from)
 }
 
-// p holds no `|`.
-fn no_bar(p: &[u8]) -> bool
-    ensures { λ r. ⌜ r ≡ lacks bar (now (p .entry)) ⌝ }
+// No `|` stands in s from `from` on.
+fn no_bar(s: &[u8], from: usize) -> bool
+    requires { ⌜ from ≤ length (now s) ⌝ }
+    ensures { λ r. ⌜ r ≡ lacks bar (drop from (now (s .entry))) ⌝ }
 {
-    scan::find::find_byte(p, 0, 124) == p.len()
+    scan::find::find_byte(s, from, 124) == s.len()
 }
 
 // A part: 0 to 35 text bytes, none of them `|`.
-pub fn part_proper(p: &[u8]) -> bool
-    ensures { λ r. ⌜ r ≡ partProper (now (p .entry)) ⌝ }
+pub fn part_proper(s: &[u8], from: usize) -> bool
+    requires { ⌜ from ≤ length (now s) ⌝ }
+    ensures { λ r. ⌜ r ≡ partProper (drop from (now (s .entry))) ⌝ }
 {
-    if name_proper(p) {
-        return no_bar(p);
+    if name_proper(s, from) {
+        return no_bar(s, from);
     }
     false
 }
@@ -66,26 +72,13 @@ fn unmarked(y: Style, p: &[u8]) -> bool
     true
 }
 
-// The sheet can carry the words of p.
-fn words_carried(y: Style, p: &[u8]) -> bool
-    ensures { λ r. ⌜ r ≡ wordsCarried y (now (p .entry)) ⌝ }
-{
-    if unmarked(y, p) {
-        let clean = y.clean;
-        if clean {
-            return scan::seek::all_clean(p, 0);
-        }
-        return true;
-    }
-    false
-}
-
-// The sheet can carry p as part i, from 0 on.
+// The sheet can carry p as part i, from 0 on, where it takes p's bytes.
 pub fn part_carried(y: Style, i: usize, p: &[u8]) -> bool
+    requires { ⌜ taken y (now p) ≡ true ⌝ }
     ensures { λ r. ⌜ r ≡ partCarried y i (now (p .entry)) ⌝ }
 {
     if has_place(y, i, p) {
-        return words_carried(y, p);
+        return unmarked(y, p);
     }
     false
 }

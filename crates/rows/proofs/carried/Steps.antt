@@ -1,18 +1,18 @@
 -- The sheet's limits, the numbers that are seen, and a text where it stands, as the code finds them. Assumes nothing.
-use mathlib.Core.Path.{_≡_, sym, ap, _∙_}
-use mathlib.Core.Bool.{Bool, true, false}
+use mathlib.Core.Path.{_≡_, refl, sym, ap, _∙_}
+use mathlib.Core.Bool.{Bool, true, false, not}
 use mathlib.Core.List.{List, []}
 use Prim.Native.Nat.{ℕ, _+_, _-_}
 use lib.Dec.{ltb}
 use lib.ListN.{take, drop}
 use borrow.Author.Tests.{eq-eqb, ne-eqb}
 use Rattle.base.specs.Seek.{all, seek}
-use Rattle.base.proofs.Cases.{pick-true, pick-same}
+use Rattle.base.proofs.Cases.{either, pick-true, pick-false, pick-same}
 use Rattle.sheet.specs.declared.Style.{Style}
 use Rattle.sheet.specs.declared.Sheet.{Sheet}
 use Rattle.sheet.specs.declared.Limits.{Limits}
 use Rattle.sheet.specs.Sheets.{LimitsOf}
-use Rattle.paper.specs.Bytes.{null}
+use Rattle.paper.specs.Bytes.{isClean, null}
 use Rattle.paper.specs.Days.{dueAllowed}
 use Rattle.paper.specs.Amounts.{amountProper}
 use Rattle.paper.specs.Texts.{lacks, taken, wordsCarried, partCarried, nameCarried}
@@ -23,10 +23,14 @@ use Rattle.fileline.specs.seen.Bits.{Holds}
 use Rattle.text.specs.declared.span.Span.{Span}
 use Rattle.fileline.specs.Fault.{faultIn}
 use Rattle.fileline.proofs.Set.{same-fault}
+use Rattle.text.proofs.fits.Carried.{untaken}
+use Rattle.rows.specs.declared.read.ItemRow.{ItemRow}
 use Rattle.rows.specs.read.Told.{textOfSpan}
+use Rattle.rows.specs.clean.Stretches.{CleanParts}
+use Rattle.rows.specs.carried.Words.{Taken}
 use Rattle.text.specs.span.Held.{Within}
 use Rattle.rows.proofs.read.Laws.{text-within, cut-is}
-use Rattle.rows.proofs.read.Fields.{holds, lacks as without, passes, fails}
+use Rattle.rows.proofs.read.Fields.{is-true, holds, lacks as without, passes, fails}
 
 -- a test by the limits that a sheet gave is a test by the sheet's
 module _ (sh : Sheet) (l : Limits) (of : LimitsOf sh l) (t : Bool) where
@@ -67,6 +71,9 @@ module _ (y : Style) (t : List ℕ) (p : Span) (w : Within t p) where
   pub part-here : (i : ℕ) (r : Bool) → r ≡ partCarried y i (take (p .at + p .len - p .at) (drop (p .at) t)) → r ≡ partCarried y i (textOfSpan t p)
   part-here i r e = e ∙ ap (partCarried y i) (cut-is t p w)
 
+  pub taken-here : taken y (textOfSpan t p) ≡ true → taken y (take (p .at + p .len - p .at) (drop (p .at) t)) ≡ true
+  taken-here e = ap (taken y) (cut-is t p w) ∙ e
+
   pub name-here : (r : Bool) → r ≡ nameCarried y (take (p .at + p .len - p .at) (drop (p .at) t)) → r ≡ nameCarried y (textOfSpan t p)
   name-here r e = e ∙ ap (nameCarried y) (cut-is t p w)
 
@@ -75,6 +82,39 @@ module _ (y : Style) (t : List ℕ) (p : Span) (w : Within t p) where
       let f : textOfSpan t p ≡ [] = text-within t p w ∙ ap (λ (n : ℕ). take n (drop (p .at) t)) e in
       blank-carried y i ∙ ap (partCarried y i) (sym f)
 
+-- on a sheet that takes neither `#` nor `~`
+module _ (y : Style) (clean : y .clean ≡ true) (p : List ℕ) (r : Bool) (e : r ≡ all isClean p) where
+  pub clean-taken : r ≡ true → taken y p ≡ true
+  unfolding taken
+  clean-taken q = pick-true _ _ clean ∙ sym e ∙ q
+
+  pub unclean-not : (i : ℕ) → r ≡ false → false ≡ partCarried y i p
+  unfolding taken
+  unclean-not i q = sym (untaken y i p (pick-true _ _ clean ∙ sym e ∙ q))
+
+pub ruleset cleans = (clean-taken, unclean-not)
+
+-- what a sheet takes of an item's parts: all, where it takes every byte or the parts are clean
+module _ (y : Style) (t : List ℕ) (x : ItemRow) where
+  pub every-taken : y .clean ≡ false → Taken y t x
+  unfolding taken
+  every-taken e = record { first = pick-false _ _ e; second = pick-false _ _ e; third = pick-false _ _ e; fourth = pick-false _ _ e }
+
+  pub parts-taken : CleanParts t x → Taken y t x
+  unfolding taken
+  parts-taken c =
+      record {
+        first = either (λ r. r ≡ true) (y .clean) (λ _. c .first) (λ _. refl);
+        second = either (λ r. r ≡ true) (y .clean) (λ _. c .second) (λ _. refl);
+        third = either (λ r. r ≡ true) (y .clean) (λ _. c .third) (λ _. refl);
+        fourth = either (λ r. r ≡ true) (y .clean) (λ _. c .fourth) (λ _. refl);
+      }
+
+  pub looked-taken : (r : Bool) → (r ≡ true → CleanParts t x) → not r ≡ false → Taken y t x
+  looked-taken r h e = parts-taken (h (is-true r e))
+
+pub ruleset takes = (every-taken, looked-taken)
+
 pub ruleset steps = (passes, fails, number-passes, number-fails)
 
-pub ruleset texts = (part-here, name-here, part-blank)
+pub ruleset texts = (part-here, taken-here, name-here, part-blank)

@@ -1,5 +1,5 @@
 -- The ways out of the tests of texts and of a whole item. Assumes nothing.
-use mathlib.Core.Path.{_≡_, refl, sym, _∙_}
+use mathlib.Core.Path.{_≡_, refl, sym, ap, _∙_}
 use mathlib.Core.Bool.{Bool, true, false}
 use mathlib.Core.List.{List, [], _∷_}
 use Prim.Native.Nat.{ℕ, _+_, _-_}
@@ -18,6 +18,7 @@ use Rattle.rows.specs.declared.read.Check.the-variants.{Fine, Wrong}
 use Rattle.rows.specs.declared.read.ItemRow.{ItemRow}
 use Rattle.rows.specs.read.Told.{textOfSpan, itemOf}
 use Rattle.rows.specs.read.After.{after}
+use Rattle.rows.proofs.read.Laws.{upto-is}
 use Rattle.rows.specs.proper.Stages.{moneyProper, symbolsProper, textsProper, ItemTested}
 
 -- ---- a text that lies inside what was lent, or does not
@@ -39,11 +40,14 @@ module _ (t : List ℕ) (p : Span) (l : Bool) (e : l ≡ leb (p .at + p .len) (l
   unfolding partProper pick
   part-out h = rw (← name-out h)
 
-  pub name-there : l ≡ true → (r : Bool) → r ≡ nameProper (take (p .at + p .len - p .at) (drop (p .at) t)) → r ≡ nameProper (textOfSpan t p)
-  name-there h r g = rw (within h) g
+  here : l ≡ true → drop (p .at) (take (p .at + p .len - 0) (drop 0 t)) ≡ textOfSpan t p
+  here h = upto-is t (p .at) (p .at + p .len) ∙ sym (within h)
 
-  pub part-there : l ≡ true → (r : Bool) → r ≡ partProper (take (p .at + p .len - p .at) (drop (p .at) t)) → r ≡ partProper (textOfSpan t p)
-  part-there h r g = rw (within h) g
+  pub name-there : l ≡ true → (r : Bool) → r ≡ nameProper (drop (p .at) (take (p .at + p .len - 0) (drop 0 t))) → r ≡ nameProper (textOfSpan t p)
+  name-there h r g = g ∙ ap nameProper (here h)
+
+  pub part-there : l ≡ true → (r : Bool) → r ≡ partProper (drop (p .at) (take (p .at + p .len - 0) (drop 0 t))) → r ≡ partProper (textOfSpan t p)
+  part-there h r g = g ∙ ap partProper (here h)
 
 -- an empty one lies where its place does
 module _ (t : List ℕ) (p : Span) (e : p .len ≡ 0) where

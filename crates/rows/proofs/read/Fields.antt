@@ -11,7 +11,7 @@ is-false : (t : Bool) → not t ≡ true → t ≡ false
 is-false true e = sym e
 is-false false e = refl
 
-is-true : (t : Bool) → not t ≡ false → t ≡ true
+pub is-true : (t : Bool) → not t ≡ false → t ≡ true
 is-true true e = refl
 is-true false e = sym e
 

@@ -8,9 +8,14 @@ use lib.Dec.{leb}
 use lib.ListN.{length, take, drop}
 use borrow.Author.Tests.{le-leb, lt-leb, leb-true}
 use Rattle.base.proofs.Cases.{pick-true, by-lt}
+use Rattle.base.proofs.Lists.{drop-take}
 use Rattle.text.specs.declared.span.Span.{Span}
 use Rattle.rows.specs.read.Told.{textOfSpan}
 use Rattle.text.specs.span.Held.{Within}
+
+-- the lent bytes up to a place, as the code cuts them, from another place on
+pub upto-is : (t : List ℕ) (from to : ℕ) → drop from (take (to - 0) (drop 0 t)) ≡ take (to - from) (drop from t)
+upto-is t from to = let e : to - 0 ≡ to = omega arith in rw (e, drop-take from to t)
 
 module _ (t : List ℕ) (p : Span) where
   pub text-in : leb (p .at + p .len) (length t) ≡ true → textOfSpan t p ≡ take (p .len) (drop (p .at) t)
@@ -23,6 +28,10 @@ module _ (t : List ℕ) (p : Span) where
   -- as the code cuts it
   pub cut-is : Within t p → take (p .at + p .len - p .at) (drop (p .at) t) ≡ textOfSpan t p
   cut-is h = let e : p .at + p .len - p .at ≡ p .len = omega arith in rw e (sym (text-within h))
+
+  -- .. with all that is lent before it
+  pub front-is : Within t p → drop (p .at) (take (p .at + p .len - 0) (drop 0 t)) ≡ textOfSpan t p
+  front-is h = upto-is t (p .at) (p .at + p .len) ∙ cut-is h
 
 -- the code's test, which adds nothing
 pub lies-apart : (at len n : ℕ) → len ≤ n → leb at (n - len) ≡ leb (at + len) n

@@ -7,14 +7,14 @@ use native.Mathlib.Nat.{sub-zero, suc-sub-suc, zero-sub}
 use native.Mathlib.Numerals.{add-one}
 use native.Mathlib.Omega.{arith}
 use lib.ListN.{length, getD, take, drop, length-drop}
-use lib.Seq.{drop-cons, drop-drop, getD-drop, take-nil, take-suc}
+use lib.Seq.{drop-cons, drop-drop, getD-drop, take-all, take-nil, take-suc}
 use lib.Bits.{bitXor, xor-zero-r, xor-self}
 use lib.Dec.{ltb}
-use borrow.Author.Tests.{lt-ltb, ltb-true, ne-eqb, le-leb, le-ltb}
+use borrow.Author.Tests.{lt-ltb, ltb-true, ne-eqb, le-leb, le-ltb, not-true}
 use Rattle.base.specs.Pick.{pick}
 use Rattle.base.specs.Seek.{all}
 use Rattle.base.proofs.Cases.{pick-false}
-use Rattle.base.proofs.Seek.{never, all-head, all-tail, all-cons, all-append, all-weaker}
+use Rattle.base.proofs.Seek.{never, all-head, all-tail, all-drop, all-cons, all-append, all-weaker}
 use Rattle.paper.specs.Bytes.{isText, isClean}
 use Rattle.scan.specs.block.Blocks.{isHigh, isOther, isFar, Skips}
 
@@ -58,6 +58,34 @@ module _ (p : ℕ → Bool) (s : List ℕ) (at : ℕ) where
   -- w is the block's width
   pub pass-end : (w j : ℕ) (t : Bool) → j ≤ w → w ≤ j → Passes p s at j t → Passes p s at w t
   pass-end w j t m n h = let e : j ≡ w = omega arith in rw e at h
+
+-- bytes that are neither `#` nor `~`
+both-clean : (s : List ℕ) → all (isOther 35) s ≡ true → all (isOther 126) s ≡ true → all isClean s ≡ true
+unfolding all isClean
+both-clean [] h t = refl
+both-clean (x ∷ s) h t =
+    all-cons isClean x s
+    (pick-false _ _ (not-true _ (all-head (isOther 35) x s h)) ∙ all-head (isOther 126) x s t)
+    (both-clean s (all-tail (isOther 35) x s h) (all-tail (isOther 126) x s t))
+
+-- .. by two answers, the second of which is asked for where the first is true
+pub clean-both : (s : List ℕ) (t u : Bool) → (t ≡ true → all (isOther 35) s ≡ true) → t ≡ true → (u ≡ true → all (isOther 126) s ≡ true)
+    → u ≡ true → all isClean s ≡ true
+clean-both s t u h e k f = both-clean s (h e) (k f)
+
+pub clean-not : (s : List ℕ) → false ≡ true → all isClean s ≡ true
+clean-not s e = never (sym e)
+
+-- the last bytes of a text, if they reach back to a place
+pub clean-end : (s : List ℕ) (from : ℕ) (t : Bool) → 64 ≤ length s → length s - 64 ≤ from
+    → (t ≡ true → all isClean (take 64 (drop (length s - 64) s)) ≡ true) → t ≡ true → all isClean (drop from s) ≡ true
+clean-end s from t l r h e =
+    let at = length s - 64 in
+    let k : at + (from - at) ≡ from = omega arith in
+    let c : all isClean (drop at s) ≡ true = rw (take-all 64 (drop at s) (omega (arith, length-drop at s))) at (h e) in
+    rw (drop-drop (from - at) at s, k) at (all-drop isClean (from - at) (drop at s) c)
+
+pub ruleset cleans = (clean-both, clean-not)
 
 -- ---- blocks
 

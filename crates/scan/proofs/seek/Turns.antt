@@ -47,6 +47,10 @@ module _ (b : ℕ) where
 
 pub ruleset cleans = (clean-hash, clean-tilde, clean-yes)
 
+-- all_clean: one look told
+pub told : (p : ℕ → Bool) (s : List ℕ) (t : Bool) → (t ≡ true → all p s ≡ true) → t ≡ true → true ≡ all p s
+told p s t h e = sym (h e)
+
 -- all_text and all_clean: t is what the test p of one byte answered
 module _ (p : ℕ → Bool) (s : List ℕ) (from i : ℕ) (inv : all p (drop from s) ≡ all p (drop i s)) where
   module _ (h : i < length s) (t : Bool) (g : t ≡ p (getD s i 0)) where

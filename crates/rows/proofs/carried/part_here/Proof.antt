@@ -20,7 +20,7 @@ part-part-carried-end : tie.Need-part-part-carried-end
 part-part-carried-end c = search needs
 
 part-carried-requires : tie.Need-part-carried-requires
-part-carried-requires c κs = search needs
+part-carried-requires c κs = search (texts, needs)
 
 returns-2 : tie.Need-returns-2
 returns-2 c = search texts

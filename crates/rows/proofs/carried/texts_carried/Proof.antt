@@ -1,61 +1,26 @@
--- `texts_carried` meets its contract: the tests in their order. Assumes nothing.
+-- `carried::texts_carried` meets its contract: all parts are taken, or each is looked at. Assumes nothing.
+use mathlib.Core.Logic.{⊎-elim}
 use borrow.Author.Needs.{needs}
-use Rattle.rows.proofs.carried.Steps.{steps}
-use Rattle.paper.specs.Carried.{partsCarriedFrom}
+use Rattle.rows.proofs.carried.Steps.{takes}
 use Rattle.rows.proofs.carried.texts_carried.Statement.{statement}
 use Rattle.rows.proofs.carried.texts_carried.Tie as tie
 
-part-here-requires : tie.Need-part-here-requires
-part-here-requires c κs = search needs
+parts-clean-requires : tie.Need-parts-clean-requires
+parts-clean-requires c κs = search needs
+
+each-carried-requires : tie.Need-each-carried-requires
+each-carried-requires c κs = search needs
 
 returns : tie.Need-returns
-unfolding partsCarriedFrom
-returns c = λ k rest. search steps depth 12
+returns c = search needs
 
-part-here-requires-2 : tie.Need-part-here-requires-2
-part-here-requires-2 c κs = search needs
+taken-carried-requires : tie.Need-taken-carried-requires
+taken-carried-requires c κs = (search needs, ⊎-elim (λ w. search takes) (λ w. search takes) (c .if1 .came))
 
 returns-2 : tie.Need-returns-2
-unfolding partsCarriedFrom
-returns-2 c = λ k rest. search steps depth 12
-
-part-here-requires-3 : tie.Need-part-here-requires-3
-part-here-requires-3 c κs = search needs
-
-returns-3 : tie.Need-returns-3
-unfolding partsCarriedFrom
-returns-3 c = λ k rest. search steps depth 12
-
-part-here-requires-4 : tie.Need-part-here-requires-4
-part-here-requires-4 c κs = search needs
-
-returns-4 : tie.Need-returns-4
-unfolding partsCarriedFrom
-returns-4 c = λ k rest. search steps depth 12
-
-name-here-requires : tie.Need-name-here-requires
-name-here-requires c κs = search needs
-
-returns-5 : tie.Need-returns-5
-unfolding partsCarriedFrom
-returns-5 c = λ k rest. search steps depth 12
-
-returns-6 : tie.Need-returns-6
-unfolding partsCarriedFrom
-returns-6 c = λ k rest. search steps depth 12
+returns-2 c = search needs
 
 pub texts-carried-spec : {M : Type 1} → statement M
 texts-carried-spec =
     tie.close
-    (tie.spec
-    part-here-requires
-    returns
-    part-here-requires-2
-    returns-2
-    part-here-requires-3
-    returns-3
-    part-here-requires-4
-    returns-4
-    name-here-requires
-    returns-5
-    returns-6)
+    (tie.spec parts-clean-requires each-carried-requires returns taken-carried-requires returns-2)

@@ -18,6 +18,9 @@ abbrev μ-loop : tie.MeasureT-loop
 returns : tie.Need-returns Inv-loop μ-loop
 returns c = search skips
 
+pass-clean-requires : tie.Need-pass-clean-requires Inv-loop μ-loop
+pass-clean-requires c κs = search needs
+
 loop-holds : tie.Need-loop-holds Inv-loop μ-loop
 loop-holds c = search (skips, needs)
 
@@ -49,6 +52,7 @@ skip-clean-spec =
     Inv-loop
     μ-loop
     returns
+    pass-clean-requires
     loop-holds
     block-at-requires
     clean-block-requires

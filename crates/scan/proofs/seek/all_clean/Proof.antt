@@ -4,7 +4,7 @@ use Prim.Native.Nat.{_-_, _≤_}
 use mathlib.Core.Path.{_≡_}
 use lib.ListN.{length, drop}
 use Rattle.scan.proofs.block.Passing.{all-skipped}
-use Rattle.scan.proofs.seek.Turns.{alls}
+use Rattle.scan.proofs.seek.Turns.{told, alls}
 use Rattle.base.specs.Seek.{all}
 use Rattle.paper.specs.Bytes.{isClean}
 use Rattle.scan.proofs.seek.all_clean.Statement.{statement}
@@ -15,6 +15,12 @@ Inv-loop s from i₀ i = (i ≤ length s) × (all isClean (drop from s) ≡ all 
 
 abbrev μ-loop : tie.MeasureT-loop
 μ-loop s from i₀ i = length s - i
+
+ends-clean-requires : tie.Need-ends-clean-requires Inv-loop μ-loop
+ends-clean-requires c κs = search needs
+
+returns : tie.Need-returns Inv-loop μ-loop
+returns c = search told
 
 skip-clean-requires : tie.Need-skip-clean-requires Inv-loop μ-loop
 skip-clean-requires c κs = search needs
@@ -37,11 +43,11 @@ loop-less c = search (alls, needs)
 loop-again : tie.Need-loop-again Inv-loop μ-loop
 loop-again c = search (alls, needs)
 
-returns : tie.Need-returns Inv-loop μ-loop
-returns c = search (alls)
-
 returns-2 : tie.Need-returns-2 Inv-loop μ-loop
 returns-2 c = search (alls)
+
+returns-3 : tie.Need-returns-3 Inv-loop μ-loop
+returns-3 c = search (alls)
 
 pub all-clean-spec : {M : Type 1} → statement M
 all-clean-spec =
@@ -49,6 +55,8 @@ all-clean-spec =
     (tie.spec
     Inv-loop
     μ-loop
+    ends-clean-requires
+    returns
     skip-clean-requires
     loop-holds
     shared-slice-read-is-clean
@@ -56,5 +64,5 @@ all-clean-spec =
     add-i
     loop-less
     loop-again
-    returns
-    returns-2)
+    returns-2
+    returns-3)

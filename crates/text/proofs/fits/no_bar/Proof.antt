@@ -8,7 +8,7 @@ find-byte-requires : tie.Need-find-byte-requires
 find-byte-requires c κs = search needs
 
 returns : tie.Need-returns
-returns c = search absent
+returns c = search (absent, needs)
 
 pub no-bar-spec : {M : Type 1} → statement M
 no-bar-spec = tie.close (tie.spec find-byte-requires returns)
