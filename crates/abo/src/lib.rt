@@ -17,7 +17,7 @@ ghost use Rattle.explain.specs.Told.{told as toldText, textAnswer};
 ghost use Rattle.reader.specs.Named.{told as toldLine, lineAnswer};
 ghost use Rattle.statement.specs.reading.Told.{told as toldStatement};
 
-// Reads a file on a sheet (1 K, 2 S, 3 C, 4 E) with today's date, YYYYMMDD, into lent rows. A refusal leaves the rows as they were.
+// Reads a file on a sheet (1 K, 2 S, 3 C, 4 E, 5 P) with today's date, YYYYMMDD, into lent rows. A refusal leaves the rows as they were.
 #[no_mangle]
 pub extern "C" fn abo_read(file: &[u8], sheet: u64, today: u64, rows: &mut [u8]) -> AboAnswer
     ensures { λ r. ⌜ toldRead r ≡ readAnswer sheet today (now (file .entry)) (now (rows .entry)) ⌝ }

@@ -7,3 +7,4 @@ pub mod Order
 pub mod Warned
 pub mod WholeRun
 pub mod Writing
+pub mod Previous

@@ -17,15 +17,15 @@ use Rattle.cases.specs.Asked.{today, written, rewrites}
 use Rattle.cases.specs.Frame.{headed, header, paid, parts, plainItem, plain, dueOn, ranked, texts, alone}
 
 -- the frame's rows: an account file with this kind and number, a group with this day and payer, an item
-abbrev rows : ℕ → ℕ → ℕ → Account → Item → List Thing
+abbrev pub rows : ℕ → ℕ → ℕ → Account → Item → List Thing
 rows kind number date payer x = aFile kind number ∷ aGroup date payer ∷ anItem x ∷ []
 
 -- .. with this item
-abbrev row3 : Item → List Thing
+abbrev pub row3 : Item → List Thing
 row3 x = rows 1501 0 20180102 (account 19 19) x
 
 -- the frame's item with these parts and this name
-abbrev told : List String → String → Item
+abbrev pub told : List String → String → Item
 told ps name = paid nobody 300 5001 0 5 (parts 4 ps) (bytes name)
 
 -- .. with another payee, variable and constant symbol
@@ -170,7 +170,7 @@ pub lent-rows :
     × (draft 3 today noHeader (lent 4 0 []) (bytes "led") ≡ refusal 20 3 11)
     × (draft 3 today noHeader (lent 1 3 []) (bytes "led") ≡ refusal 20 3 11)
     × (draft 3 today noHeader (lent 0 3 (0 ∷ [])) (bytes "led") ≡ refusal 20 4 0)
-    × (draft 5 20180229 noHeader (lent 0 3 []) (bytes "led") ≡ refusal 1 0 0)
+    × (draft 6 20180229 noHeader (lent 0 3 []) (bytes "led") ≡ refusal 1 0 0)
     × (draft 3 20180229 noHeader (lent 0 3 []) (bytes "led") ≡ refusal 2 0 0)
 unfolding rewrites
 lent-rows = (refl, refl, refl, refl, refl, refl, refl)

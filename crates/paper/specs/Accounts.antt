@@ -52,7 +52,7 @@ twoParts least p b = given (digits 1 6 p) λ prefix. given (digits least 10 b) �
 unfoldable pub onePart : ℕ → List ℕ → Field Account
 onePart least b = given (digits least 10 b) λ base. ruled 0 base
 
--- A prefix, a dash and a base; or a base alone, of two digits or more on K (`least`). Where a sheet takes it (`joined`, C), also 11 to
+-- A prefix, a dash and a base; or a base alone, of two digits or more on K (`least`). Where a sheet takes it (`joined`: C, P), also 11 to
 -- 16 digits with no dash, the last ten being the base.
 unfoldable pub readAccount : Bool → ℕ → List ℕ → Field Account
 readAccount joined least s =

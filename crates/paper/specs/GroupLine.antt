@@ -18,7 +18,7 @@ unfoldable pub spaceCount : List ℕ → ℕ
 spaceCount [] = 0
 spaceCount (x ∷ s) = pick (eqb x 32) (suc (spaceCount s)) (spaceCount s)
 
--- S and E always have the payer's field; on K and C it is missing exactly when the line has fewer than three spaces
+-- S and E always have the payer's field; on K, C and P it is missing exactly when the line has fewer than three spaces
 unfoldable pub hasPayer : Bool → List ℕ → Bool
 hasPayer always s = pick always true (leb 3 (spaceCount s))
 
@@ -39,7 +39,7 @@ readGroup sh today s =
     totalAndDate sh today payer a2 s2)
     (totalAndDate sh today nobody 2 (drop 2 s))
 
--- "Canonical spelling": single groups have two spaces on S and E, and no account on K and C
+-- "Canonical spelling": single groups have two spaces on S and E, and no account on K, C and P
 unfoldable pub spellPayer : Bool → Account → List ℕ
 spellPayer always a = pick (isNobody a) (pick always (32 ∷ []) []) (spellAccount a ++ (32 ∷ []))
 

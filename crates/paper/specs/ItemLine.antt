@@ -51,7 +51,7 @@ module _ {A : Type 0} (y : Style) (k : ℕ → Noted → Said A) where
   afterSymbol specific at [] = k specific noTexts
   afterSymbol specific at (x ∷ s) = toEnd (readText y (at + 1)) (at + 1) s λ texts. k specific texts
 
-  -- K, C and E: nothing, or a space and a symbol, or these, a space and a text; on C (`bare`) also a space and a text, where what
+  -- K, C, E and P: nothing, or a space and a symbol, or these, a space and a text; on C (`bare`) also a space and a text, where what
   -- follows the space is no symbol
   unfoldable pub openTail : Bool → ℕ → List ℕ → Said A
   openTail bare at [] = k 0 noTexts

@@ -124,7 +124,7 @@ isFull sh (stop a) k = false
 
 -- ---- 10: once the closing line has passed, at the group's total
 
--- the total differs where that is refused (K, S), or the sum passes 14 digits
+-- the total differs where that is refused (K, S, P), or the sum passes 14 digits
 unfoldable pub totalBroken : Bool → ℕ → ℕ → Bool
 totalBroken strict total exact = pick (ltb most14 exact) true (pick strict (pick (eqb total exact) false true) false)
 

@@ -45,7 +45,7 @@ fn write_back(
     w.bytes as usize
 }
 
-// Rewrites a file on one of the four sheets and a real day.
+// Rewrites a file on a known sheet and a real day.
 fn rewrite_file(file: &[u8], sh: Sheet, today: u64, rows: &mut [u8], out: &mut [u8]) -> usize
     requires { ⌜ (sheetOf (sh .number) ≡ known.Sheet sh) × (realDay today ≡ true) × (length (now file) ≤ mostInput) ⌝ }
     requires { ⌜ (192 * mostRows ≤ length (now rows)) × (mostOutput ≤ length (now out)) ⌝ }

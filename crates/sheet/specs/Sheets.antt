@@ -1,5 +1,5 @@
 -- The sheets as records of what their banks ask, and which number or letter names which. Document 01, "What the library handles",
--- with each sheet's answers to the questions that "Accounts" and "Lines" put. Assumes nothing.
+-- with each sheet's answers to the questions that "Accounts" and "Lines" put, and document 02, W-201. Assumes nothing.
 use Prim.Native.Nat.{ℕ}
 use mathlib.Core.Path.{_≡_}
 use mathlib.Core.Bool.{Bool, true, false}
@@ -24,6 +24,10 @@ styleS = record { av = false; may = false; names = false; cuts = false; clean = 
 -- on C `AV:` may be missing, a name may follow, and what is too long is cut
 abbrev pub styleC : Style
 styleC = record { av = true; may = true; names = true; cuts = true; clean = false; most = 4 }
+
+-- on P, document 02, W-201: as on K, but no part holds `#` or `~`
+abbrev pub styleP : Style
+styleP = record { av = true; may = false; names = false; cuts = false; clean = true; most = 4 }
 
 -- as many days as 2000 to 2099 have, so that no day is too far ahead ("Due date": S and E)
 abbrev pub anyDay : ℕ
@@ -161,6 +165,39 @@ sheetE =
       fileitems = anyItems;
     }
 
+-- document 02, W-201: source document 004, the edition before 002. Bank field, accounts, amounts and due days as on C, first line as on S, tail
+-- as on K but for the priority, which it has not.
+abbrev pub sheetP : Sheet
+sheetP =
+    record {
+      number = 5;
+      letter = 80;
+      bank = 300;
+      anybank = false;
+      lastkind = 1502;
+      header = true;
+      short = false;
+      interval = false;
+      joined = true;
+      basemin = 1;
+      emptypayer = false;
+      zeropayer = false;
+      longdate = true;
+      ahead = 365;
+      early = true;
+      warnpast = true;
+      near = false;
+      itemdigits = 14;
+      itemmax = 99999999999999;
+      comma = false;
+      priority = false;
+      fixedtail = false;
+      bare = false;
+      text = styleP;
+      strict = true;
+      fileitems = anyItems;
+    }
+
 -- "What the library handles": the known sheets. A new one is a line here.
 abbrev pub sheets : List Sheet
 sheets =
@@ -168,6 +205,7 @@ sheets =
     ∷ sheetS
     ∷ sheetC
     ∷ sheetE
+    ∷ sheetP
     ∷ []
 
 -- the first of the sheets whose name, that is its number or its letter, is n
@@ -175,7 +213,7 @@ abbrev pub firstNamed : (Sheet → ℕ) → ℕ → List Sheet → Known
 firstNamed name n [] = known.Nothing
 firstNamed name n (sh ∷ shs) = pick (eqb n (name sh)) (known.Sheet sh) (firstNamed name n shs)
 
--- "What the library handles": the known sheet of that number, so 1 is K, 2 is S, 3 is C, 4 is E, and no other number names a sheet
+-- "What the library handles": the known sheet of that number, so 1 is K, 2 is S, 3 is C, 4 is E, 5 is P, and no other number names a sheet
 unfoldable pub sheetOf : ℕ → Known
 sheetOf n = firstNamed (λ (sh : Sheet). sh .number) n sheets
 
@@ -183,7 +221,7 @@ sheetOf n = firstNamed (λ (sh : Sheet). sh .number) n sheets
 unfoldable pub sheetBy : ℕ → Known
 sheetBy b = firstNamed (λ (sh : Sheet). sh .letter) b sheets
 
--- "Lines", KIND: K and E 1501, S 1501 and 1502, C 1501 to 1504
+-- "Lines", KIND: K and E 1501, S and P 1501 and 1502, C 1501 to 1504
 unfoldable pub kindAllowed : Sheet → ℕ → Bool
 kindAllowed sh kind = pick (ltb kind 1501) false (leb kind (sh .lastkind))
 

@@ -1,4 +1,4 @@
-// The four sheets, known by name. A sheet is a record of what its bank asks; every rule takes it as a parameter and is proved once.
+// The sheets, known by name. A sheet is a record of what its bank asks; every rule takes it as a parameter and is proved once.
 ghost use mathlib.Core.Path.{_≡_};
 ghost use Rattle.sheet.specs.Sheets.{KindsOf, LimitsOf, kindAllowed, bankAllowed, sheetOf, sheetBy};
 
@@ -225,6 +225,42 @@ impl Sheet {
         fileitems: 99999000,
     };
 
+    pub const P: Sheet = Sheet {
+        number: 5,
+        letter: 80,
+        bank: 300,
+        anybank: false,
+        lastkind: 1502,
+        header: true,
+        short: false,
+        interval: false,
+        joined: true,
+        basemin: 1,
+        emptypayer: false,
+        zeropayer: false,
+        longdate: true,
+        ahead: 365,
+        early: true,
+        warnpast: true,
+        near: false,
+        itemdigits: 14,
+        itemmax: 99999999999999,
+        comma: false,
+        priority: false,
+        fixedtail: false,
+        bare: false,
+        text: Style {
+            av: true,
+            may: false,
+            names: false,
+            cuts: false,
+            clean: true,
+            most: 4,
+        },
+        strict: true,
+        fileitems: 99999000,
+    };
+
     // The kinds of account files that it takes.
     pub fn kinds(self) -> Kinds
         ensures { λ r. ⌜ KindsOf self r ⌝ }
@@ -290,6 +326,7 @@ pub fn sheet_of(number: u64) -> Known
         2 => Known::Sheet(Sheet::S),
         3 => Known::Sheet(Sheet::C),
         4 => Known::Sheet(Sheet::E),
+        5 => Known::Sheet(Sheet::P),
         _ => Known::Nothing,
     }
 }
@@ -303,6 +340,7 @@ pub fn sheet_by(letter: u8) -> Known
         83 => Known::Sheet(Sheet::S),
         67 => Known::Sheet(Sheet::C),
         69 => Known::Sheet(Sheet::E),
+        80 => Known::Sheet(Sheet::P),
         _ => Known::Nothing,
     }
 }

@@ -18,7 +18,7 @@ abbrev pub answer : List ℕ → Request → List ℕ
 answer input (request.Refused n) = refusedLine n 0 0
 answer input (request.File sh today at) = rewritten sh (judge sh today (drop at input))
 
--- a file is asked for only on one of the four sheets, on a real day, and where the input has 8 KiB at most
+-- a file is asked for only on a known sheet, on a real day, and where the input has 8 KiB at most
 abbrev pub Sound : List ℕ → Request → Type 0
 Sound input (request.Refused n) = Unit {0}
 Sound input (request.File sh today at) =

@@ -41,7 +41,7 @@ module _ (sh : Sheet) (sane : Sane sh) (today : ℕ) (f : List ℕ) (h : Header)
   pub sound-warnings : pastWarnings sh today b ≤ w
   sound-warnings = spelled-warnings sh today h b f w sane (exact sh today f h b w .0 e)
 
--- Where a total that differs is refused (K, S), every line says its entry exactly, a group's line the sum of its items.
+-- Where a total that differs is refused (K, S, P), every line says its entry exactly, a group's line the sum of its items.
 pub strict-totals : (sh : Sheet) → sh .strict ≡ true → (today : ℕ) (f : List ℕ) (h : Header) (b : Batch) (w : ℕ)
     → judge sh today f ≡ Accepted h b w → Exactly sh today (linesOf 0 f) (dues h b)
 strict-totals sh on today f h b w e = each-exactly sh today on (linesOf 0 f) (dues h b) w (exact sh today f h b w .0 e .lines)

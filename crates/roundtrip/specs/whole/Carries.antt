@@ -36,7 +36,7 @@ Carries sh today h b = Passes sh today h (things b)
 unfoldable pub headRead : Sheet → Header → Header
 headRead sh h = pick (sh .header) h noHeader
 
--- how many groups are due on a past day, where the sheet warns of it (C): the warnings of a canonical file
+-- how many groups are due on a past day, where the sheet warns of it (C, P): the warnings of a canonical file
 unfoldable pub pastGroups : Sheet → ℕ → List Group → ℕ
 pastGroups sh today [] = 0
 pastGroups sh today (g ∷ gs) = dueWarnings (sh .warnpast) today (g .date) + pastGroups sh today gs

@@ -11,8 +11,7 @@ use Rattle.base.specs.Pick.{pick}
 use Rattle.base.specs.Seek.{all, starts, seek}
 use Rattle.base.proofs.Cases.{by-test}
 use Rattle.base.proofs.Seek.{never}
-use Rattle.sheet.specs.declared.Style.{Style}
-use Rattle.sheet.specs.Sheets.{styleKE, styleS, styleC}
+use Rattle.sheet.specs.Sheets.{styleKE, styleS, styleC, styleP}
 use Rattle.paper.specs.Read.{Field, value, fault}
 use Rattle.paper.specs.Warnings.{longPart, longName, Notice, notice}
 use Rattle.paper.specs.Bytes.{isText, isClean, av, mark, null}
@@ -49,21 +48,17 @@ cases :
 unfolding readText spellText spellMarked spellName joined joinOn trim keep opens marked message messageEnd taken partsTaken fitted finish pad cut over overs others all starts seek pick isText null
 cases = (refl, refl, refl, refl, refl, refl, refl, refl, refl, refl, refl, refl, refl, refl, refl, refl, refl, refl)
 
--- a style that asks for parts without `#` and `~`, and is K's else
-abbrev careful : Style
-careful = record { av = true; may = false; names = false; cuts = false; clean = true; most = 4 }
-
--- `AV:#`, `AV:a|b~`, `AV:a|b`, `AV:a NP:b` and `AV:#` with a byte 31 behind it; the same texts in K's style, which takes both; and what is carried
+-- On P: `AV:#`, `AV:a|b~`, `AV:a|b`, `AV:a NP:b` and `AV:#` with a byte 31 behind it; the same texts in K's style, which takes both; and what is carried
 cleaned :
-    (readText careful 20 (65 ∷ 86 ∷ 58 ∷ 35 ∷ []) ≡ fault 14)
-    × (readText careful 20 (65 ∷ 86 ∷ 58 ∷ 97 ∷ 124 ∷ 98 ∷ 126 ∷ []) ≡ fault 14)
-    × (readText careful 20 (65 ∷ 86 ∷ 58 ∷ 97 ∷ 124 ∷ 98 ∷ []) ≡ read (piece 23 (97 ∷ []) ∷ piece 25 (98 ∷ []) ∷ empty ∷ empty ∷ []) empty [])
-    × (readText careful 20 (65 ∷ 86 ∷ 58 ∷ 97 ∷ 32 ∷ 78 ∷ 80 ∷ 58 ∷ 98 ∷ []) ≡ read (piece 23 (97 ∷ 32 ∷ 78 ∷ 80 ∷ 58 ∷ 98 ∷ []) ∷ empty ∷ empty ∷ empty ∷ []) empty [])
-    × (readText careful 20 (65 ∷ 86 ∷ 58 ∷ 35 ∷ 31 ∷ []) ≡ fault 4)
+    (readText styleP 20 (65 ∷ 86 ∷ 58 ∷ 35 ∷ []) ≡ fault 14)
+    × (readText styleP 20 (65 ∷ 86 ∷ 58 ∷ 97 ∷ 124 ∷ 98 ∷ 126 ∷ []) ≡ fault 14)
+    × (readText styleP 20 (65 ∷ 86 ∷ 58 ∷ 97 ∷ 124 ∷ 98 ∷ []) ≡ read (piece 23 (97 ∷ []) ∷ piece 25 (98 ∷ []) ∷ empty ∷ empty ∷ []) empty [])
+    × (readText styleP 20 (65 ∷ 86 ∷ 58 ∷ 97 ∷ 32 ∷ 78 ∷ 80 ∷ 58 ∷ 98 ∷ []) ≡ read (piece 23 (97 ∷ 32 ∷ 78 ∷ 80 ∷ 58 ∷ 98 ∷ []) ∷ empty ∷ empty ∷ empty ∷ []) empty [])
+    × (readText styleP 20 (65 ∷ 86 ∷ 58 ∷ 35 ∷ 31 ∷ []) ≡ fault 4)
     × (readText styleKE 20 (65 ∷ 86 ∷ 58 ∷ 35 ∷ 124 ∷ 126 ∷ []) ≡ read (piece 23 (35 ∷ []) ∷ piece 25 (126 ∷ []) ∷ empty ∷ empty ∷ []) empty [])
-    × (partCarried careful 3 (97 ∷ 35 ∷ []) ≡ false)
-    × (partCarried careful 3 (97 ∷ 126 ∷ []) ≡ false)
-    × (partCarried careful 3 (97 ∷ 36 ∷ []) ≡ true)
+    × (partCarried styleP 3 (97 ∷ 35 ∷ []) ≡ false)
+    × (partCarried styleP 3 (97 ∷ 126 ∷ []) ≡ false)
+    × (partCarried styleP 3 (97 ∷ 36 ∷ []) ≡ true)
     × (partCarried styleKE 3 (35 ∷ 126 ∷ []) ≡ true)
 unfolding readText opens marked message messageEnd taken partsTaken fitted finish wordsCarried partCarried lacks pad cut over overs others all starts seek pick isText isClean null
 cleaned = (refl, refl, refl, refl, refl, refl, refl, refl, refl, refl)
