@@ -22,14 +22,12 @@ STANDING = {
     # functions that make the calls as a user does, so that the calls' promises are used
     "demands/src/lib": "*",
     # document 01's cases and its sample run, and worked examples of each rule, computed from the definitions
-    **{f"cases/proofs/{name}": "*" for name in ("Cases", "WholeRun", "Lines", "Heads", "Items", "Order", "Warned", "Writing", "Calls")},
+    **{f"cases/proofs/{name}": "*" for name in ("Cases", "WholeRun", "Lines", "Heads", "Items", "Order", "Warned", "Writing", "Calls", "Previous")},
     "amount/proofs/Edges": "*",
     "bank/proofs/Edges": "*",
     "calendar/proofs/Examples": "*",
     "explain/proofs/Examples": "*",
     "text/proofs/wording/Examples": "*",
-    # W-201 will stand on it: sheet C accepts what the one before it accepts, as some batch
-    "uncut/proofs/LooseWalk": ("also-accepted",),
     # what docs/PROOFS.md says of days and sheets: a definition that computes is what the document names
     "calendar/proofs/Next": ("next-number", "next-real"),
     "calendar/proofs/Order": ("order", "one-day"),

@@ -7,16 +7,16 @@ use Prim.Native.Nat.{ℕ, suc, _/_, _≤_, _<_}
 use lib.ListN.{length, take}
 use Rattle.sheet.specs.declared.Sheet.{Sheet}
 use Rattle.sheet.specs.declared.Known.the-variants as known
-use Rattle.sheet.specs.Sheets.{sheetOf}
+use Rattle.sheet.specs.Sheets.{sheetC, sheetP, sheetOf}
 use Rattle.sheet.proofs.Laws as sheets
 use Rattle.paper.specs.Days.{realDay}
-use Rattle.paper.specs.Batch.{Batch, Header, things}
+use Rattle.paper.specs.Batch.{Batch, Header, noHeader, things}
 use Rattle.paper.specs.Lines.{linesOf}
 use Rattle.paper.specs.Spells.{Spells, dues}
 use Rattle.paper.specs.Judge.{Refused, Accepted, judge}
 use Rattle.paper.specs.FirstFault.{FirstFault}
 use Rattle.paper.specs.Rows.{rowSize}
-use Rattle.paper.specs.Reading.{rowCount, readAnswer}
+use Rattle.paper.specs.Reading.{rowCount, readAnswer, rowsAfter}
 use Rattle.paper.specs.Canonical.{canon}
 use Rattle.paper.specs.Writing.{drafted, draftOf, draft, writtenIn}
 use Rattle.paper.specs.Explaining.{refusedLine, acceptedLine, explanation}
@@ -33,6 +33,8 @@ use Rattle.bounds.proofs.Explained as explained
 use Rattle.bounds.proofs.Input as input
 use Rattle.uncut.specs.Severe.{severe}
 use Rattle.uncut.proofs.Main as uncut
+use Rattle.moving.specs.Marks.{BatchUnmarked, headless}
+use Rattle.moving.proofs.Editions as editions
 use Rattle.explain.proofs.Laws as explain
 
 -- ---- 1, 2 and 16, whatever the sheet's number and the day
@@ -83,6 +85,38 @@ explain-bytes sheet today f out = explained.explained-whole sheet today f (lengt
 pub input-read : (s : List ℕ) → rewriting (take 8193 s) ≡ rewriting s
 input-read = input.first-bytes
 
+-- ---- from P to C, document 02, W-201
+
+module _ (today : ℕ) where
+  module _ (f : List ℕ) (h : Header) (b : Batch) (w : ℕ) (accepted : judge sheetP today f ≡ Accepted h b w) where
+    -- Whatever P accepts C accepts that day,
+    pub moves-accepted : (c : Batch) × (v : ℕ) × (judge sheetC today f ≡ Accepted noHeader c v)
+    moves-accepted = editions.moves-accepted today f h b w accepted
+
+    -- as the same batch exactly if no part of it holds ` NP:`,
+    pub moves : ((g : Header) × (v : ℕ) × (judge sheetC today f ≡ Accepted g b v)) ↔ BatchUnmarked b
+    moves = editions.moves today f h b w accepted
+
+    -- and then with as many warnings.
+    pub moves-alike : BatchUnmarked b → judge sheetC today f ≡ Accepted noHeader b w
+    moves-alike = editions.moves-alike today f h b w accepted
+
+    -- So the request's own sentence holds: a file that both accept on the same day, with no ` NP:` in any text, is read as the same batch.
+    pub moves-same : (g : Header) (c : Batch) (v : ℕ) → judge sheetC today f ≡ Accepted g c v → BatchUnmarked b → c ≡ b
+    moves-same = editions.moves-same today f h b w accepted
+
+    -- Then abo_read gives the same answer but for the header, which C has not, and leaves the same rows.
+    module _ (plain : BatchUnmarked b) (real : realDay today ≡ true) (lent : List ℕ) where
+      pub moves-answer : readAnswer 3 today f lent ≡ headless (readAnswer 5 today f lent)
+      moves-answer = editions.moves-answer today f h b w accepted plain real lent
+
+      pub moves-rows : rowsAfter 3 today f lent ≡ rowsAfter 5 today f lent
+      moves-rows = editions.moves-rows today f h b w accepted plain real lent
+
+  -- What P carries with no ` NP:` in any part C carries, with any header.
+  pub moves-carried : (h g : Header) (b : Batch) → BatchUnmarked b → Carries sheetP today h b → Carries sheetC today g b
+  moves-carried = editions.moves-carried today
+
 -- ---- for a known sheet and a real day
 
 module _ (sheet : ℕ) (sh : Sheet) (named : sheetOf sheet ≡ known.Sheet sh) (today : ℕ) where
@@ -108,7 +142,7 @@ module _ (sheet : ℕ) (sh : Sheet) (named : sheetOf sheet ≡ known.Sheet sh) (
     pub idempotent : rewritten sh (judge sh today (rewritten sh (judge sh today f))) ≡ rewritten sh (judge sh today f)
     idempotent = whole.idempotent sh (sheets.sane sheet sh named) today f h b w judged
 
-    -- K and S: every line says exactly what is due, a group's line the sum of its items as its total.
+    -- K, S and P: every line says exactly what is due, a group's line the sum of its items as its total.
     pub exact-totals : sh .strict ≡ true → Exactly sh today (linesOf 0 f) (dues h b)
     exact-totals strict = whole.strict-totals sh strict today f h b w judged
 

@@ -59,13 +59,13 @@ restyled-wider Only sh y z strict strictly texts totals =
 
 -- ---- what is let through: all, or what gives no warning
 
-abbrev Any : Entry → ℕ → Type 0
+abbrev pub Any : Entry → ℕ → Type 0
 Any e w = Unit {0}
 
 abbrev Silent : Entry → ℕ → Type 0
 Silent e w = w ≡ 0
 
-any-throughout : (ds : List Due) (w : ℕ) → Throughout Any ds w
+pub any-throughout : (ds : List Due) (w : ℕ) → Throughout Any ds w
 any-throughout [] w = tt
 any-throughout (d ∷ ds) w = λ v u q. (tt, any-throughout ds u)
 

@@ -19,7 +19,8 @@ use Rattle.paper.specs.Bytes.{mark, np, av, null}
 use Rattle.paper.specs.Texts.{Piece, piece, Noted, divide, cut, over, overs, cuts, pad, taken, partsTaken, fitted, finish, messageEnd, message, marked, readText}
 use Rattle.paper.specs.ItemLine.{partBytes}
 use Rattle.paper.proofs.Lists.{null-none}
-use Rattle.uncut.specs.Wider.{Unmarked, Names, named-alike, named-more, WiderStyle}
+use Rattle.uncut.specs.Unmarked.{Unmarked}
+use Rattle.uncut.specs.Wider.{Names, named-alike, named-more, WiderStyle}
 use Rattle.uncut.proofs.Tests.{same-test, easier, besides}
 use Rattle.uncut.proofs.Takes.{TakesOn, refused}
 use Rattle.uncut.proofs.Unmarked.{pieces-free}

@@ -15,7 +15,7 @@ use Rattle.base.proofs.Seek.{all-head, all-tail, free-starts, free-tail, free-c
 use Rattle.paper.specs.Warnings.{Warning, longPart, notice}
 use Rattle.paper.specs.Bytes.{bar, mark, null}
 use Rattle.paper.specs.Texts.{Piece, piece, others, divide, cut, over, overs, pad}
-use Rattle.uncut.specs.Wider.{Unmarked}
+use Rattle.uncut.specs.Unmarked.{Unmarked}
 
 -- the bytes of pieces
 abbrev bytesOf : List Piece → List (List ℕ)

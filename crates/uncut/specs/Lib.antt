@@ -1,3 +1,4 @@
+pub mod Unmarked
 pub mod Wider
 pub mod Severe
 pub mod Looser

@@ -4,27 +4,21 @@ use mathlib.Core.Path.{_≡_}
 use mathlib.Core.Bool.{true, false}
 use mathlib.Core.List.{List, [], _∷_}
 use lib.ListN.{length}
-use Rattle.base.specs.Seek.{Free}
 use Rattle.sheet.specs.declared.Sheet.{Sheet}
 use Rattle.sheet.specs.declared.Style.{Style}
 use Rattle.sheet.specs.Sheets.{bankAllowed}
-use Rattle.paper.specs.Bytes.{mark}
 use Rattle.paper.specs.Accounts.{Account}
 use Rattle.paper.specs.Batch.{Item, Header, noHeader}
 use Rattle.paper.specs.Texts.{Noted}
 use Rattle.paper.specs.ItemLine.{partBytes}
 use Rattle.paper.specs.Entries.{Entry, group, item}
 use Rattle.paper.specs.Spells.{Due, differs}
+use Rattle.uncut.specs.Unmarked.{Unmarked}
 
 -- The first line: both sheets read it alike, or the wider one takes any. `turn` says what becomes of the header that the narrower one reads.
 pub data Heads (turn : Header → Header) (a b : Sheet) : Type 0 where
   read-alike : ((h : Header) → turn h ≡ h) → a .header ≡ b .header → a .short ≡ b .short → a .interval ≡ b .interval → Heads turn a b
   read-none : ((h : Header) → turn h ≡ noHeader) → b .header ≡ false → b .interval ≡ false → Heads turn a b
-
--- the parts of a text hold no ` NP:`
-abbrev pub Unmarked : List (List ℕ) → Type 0
-Unmarked [] = Unit {0}
-Unmarked (p ∷ ps) = Free mark p × Unmarked ps
 
 -- Names: both sheets read them or neither does. Or the wider one alone, of texts (`On`) without ` NP:` for which the narrower one asks `AV:`, and
 -- which it does not cut.
