@@ -87,7 +87,7 @@ static size_t fill_tail(struct bytes f, const struct peer_sheet *sheet,
         at = symbol.end + 1;
     }
     size_t end = text_end(f, at);
-    peer_split(f, at, end, sheet->tail, &split);
+    peer_split(f, at, end, sheet, &split);
     for (size_t i = 0; i <= MOST_PARTS; i++) {
         put_word(row, 11 + 2 * i, split.place[i]);
         put_word(row, 12 + 2 * i, split.length[i]);

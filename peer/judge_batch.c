@@ -141,7 +141,8 @@ static uint64_t text_narrowed(const struct batch *b, const uint8_t *row)
         struct bytes text = row_text(b, row, part_word(part));
         if (text.len > 0 &&
             ((tail == PEER_TAIL_PART && part > 0) ||
-             (tail == PEER_TAIL_AV_NP && holds_name_mark(text))))
+             (tail == PEER_TAIL_AV_NP && holds_name_mark(text)) ||
+             !sheet_takes_bytes(b->sheet, text.data, text.len)))
             return part_word(part);
     }
     if (tail != PEER_TAIL_AV_NP && row_word(row, ITEM_NAME + 1) != 0)

@@ -49,7 +49,7 @@ static bool pass_text(struct judge *j)
     struct split split;
     if (!line_ends(j->file, end))
         return refuse(j, 4, j->at);
-    peer_split(j->file, j->at, end, j->sheet->tail, &split);
+    peer_split(j->file, j->at, end, j->sheet, &split);
     if (!split.fits)
         return refuse(j, 14, j->at);
     j->warnings += split.cuts;
@@ -65,7 +65,7 @@ static bool pass_part_tail(struct judge *j)
            pass_divider(j) && pass_text(j);
 }
 
-/* K, C, E: each space announces what follows. */
+/* K, C, E, P: each space announces what follows. */
 static bool pass_open_tail(struct judge *j)
 {
     if (line_ends(j->file, j->at))

@@ -1,7 +1,7 @@
 /*
- * ABO (.kpc) payment batches under the four sheets of document 01:
- * 1 is K, 2 is S, 3 is C and 4 is E; and statements of records 074 and 075
- * (request W-204).
+ * ABO (.kpc) payment batches under five sheets: 1 is K, 2 is S, 3 is C and 4 is
+ * E of document 01, 5 is P of request W-201; and statements of records 074 and
+ * 075 (request W-204).
  *
  * Days are numbers YYYYMMDD.  Rows are 24 little-endian 64-bit words each, in
  * statements 17, lent as bytes of any alignment.  A pointer may be NULL where

@@ -2,7 +2,7 @@
 
 #define BELOW_10_12 UINT64_C(999999999999)
 
-static const struct peer_sheet sheets[4] = {
+static const struct peer_sheet sheets[] = {
     { /* K */
         .header = true, .short_header = true, .interval = true,
         .bank = 8100, .last_kind = 1501,
@@ -37,9 +37,19 @@ static const struct peer_sheet sheets[4] = {
         .comma = true, .item_digits = AMOUNT_DIGITS, .item_most = BELOW_10_12,
         .all_items = UINT64_MAX, .tail = PEER_TAIL_AV,
     },
+    { /* P: the previous edition of C (request W-201) */
+        .header = true,
+        .bank = 300, .last_kind = 1502,
+        .joined = true, .base_digits = 1,
+        .by_spaces = true, .long_date = true, .past_warns = true,
+        .total_binds = true, .days_ahead = 365,
+        .item_digits = AMOUNT_DIGITS, .item_most = AMOUNT_MOST,
+        .all_items = UINT64_MAX, .tail = PEER_TAIL_AV, .plain_parts = true,
+    },
 };
 
 const struct peer_sheet *peer_sheet_of(uint64_t number)
 {
-    return number >= 1 && number <= 4 ? &sheets[number - 1] : NULL;
+    const uint64_t count = sizeof sheets / sizeof *sheets;
+    return number >= 1 && number <= count ? &sheets[number - 1] : NULL;
 }

@@ -1,10 +1,11 @@
-/* What the four sheets differ in, as parameters; the rules are written once. */
+/* What the five sheets differ in, as parameters; the rules are written once. */
 #ifndef PEER_SHEET_H
 #define PEER_SHEET_H
 
 #include <stdbool.h>
 #include <stddef.h>
 #include <stdint.h>
+#include <string.h>
 
 /* Limits of document 01, "The batch", that hold on every sheet. */
 enum {
@@ -26,7 +27,7 @@ enum {
 
 enum peer_tail {
     PEER_TAIL_PART,   /* S: symbol and first message part, both spaces kept */
-    PEER_TAIL_AV,     /* K, E: optional symbol, then optional AV: text */
+    PEER_TAIL_AV,     /* K, E, P: optional symbol, then optional AV: text */
     PEER_TAIL_AV_NP   /* C: AV: may be missing, a name may follow */
 };
 
@@ -60,6 +61,7 @@ struct peer_sheet {
     uint64_t item_most; /* the largest amount of an item */
     uint64_t all_items; /* the most items in the whole file */
     enum peer_tail tail;
+    bool plain_parts;   /* no # and no ~ in a message part */
 };
 
 /* The sheet of a number, or NULL. */
@@ -72,6 +74,14 @@ static inline bool sheet_takes_day(const struct peer_sheet *sheet, uint64_t day,
     if (day < today)
         return !sheet->past_refused;
     return day - today <= sheet->days_ahead;
+}
+
+/* Bytes of a message part, or of several with the bars between them. */
+static inline bool sheet_takes_bytes(const struct peer_sheet *sheet,
+                                     const uint8_t *bytes, size_t len)
+{
+    return !sheet->plain_parts || (memchr(bytes, '#', len) == NULL &&
+                                   memchr(bytes, '~', len) == NULL);
 }
 
 #endif

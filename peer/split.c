@@ -70,9 +70,10 @@ static void split_named(struct bytes text, size_t at, struct split *s)
     split_parts((struct bytes){text.data, mark}, at, true, s);
 }
 
-void peer_split(struct bytes file, size_t at, size_t end, enum peer_tail tail,
-                struct split *out)
+void peer_split(struct bytes file, size_t at, size_t end,
+                const struct peer_sheet *sheet, struct split *out)
 {
+    enum peer_tail tail = sheet->tail;
     struct bytes text = {file.data, end};
     *out = (struct split){.fits = true};
     if (at == end)
@@ -88,4 +89,8 @@ void peer_split(struct bytes file, size_t at, size_t end, enum peer_tail tail,
         keep(out, MOST_PARTS, at + 3, end, true);
     else
         split_named(text, message, out);
+    /* One look at the whole text: there is no name where this is asked, and
+       `AV:` and the bars are taken. */
+    if (!sheet_takes_bytes(sheet, file.data + at, end - at))
+        out->fits = false;
 }

@@ -14,7 +14,7 @@ struct split {
 };
 
 /* The text runs from one place to another and holds text bytes only. */
-void peer_split(struct bytes file, size_t at, size_t end, enum peer_tail tail,
-                struct split *out);
+void peer_split(struct bytes file, size_t at, size_t end,
+                const struct peer_sheet *sheet, struct split *out);
 
 #endif

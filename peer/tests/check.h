@@ -12,7 +12,7 @@
 
 #include "../peer.h"
 
-enum { K = 1, S = 2, C = 3, E = 4 };
+enum { K = 1, S = 2, C = 3, E = 4, P = 5 };
 enum { WORDS = 24, ROW = 192 };
 #define TODAY UINT64_C(20180101)
 
@@ -123,6 +123,7 @@ void test_fields(void);
 void test_texts(void);
 void test_writing(void);
 void test_rewriting(void);
+void test_sheet_p(void);
 void test_samples(void);
 void test_random(void);
 void test_statements(void);

@@ -21,7 +21,7 @@ static void edge_accounts(void)
         {"174-1999738514", 174, 1999738514},
         {"500005-2267100237", 500005, 2267100237},
     };
-    for (unsigned sheet = K; sheet <= E; sheet++) {
+    for (unsigned sheet = K; sheet <= P; sheet++) {
         for (size_t i = 0; i < 4; i++) {
             uint64_t(*row)[WORDS] = accepted(
                 "Edges: valid account", sheet,
@@ -48,16 +48,34 @@ static void edge_accounts(void)
 
 static void joined_accounts(void)
 {
-    uint64_t(*row)[WORDS] =
-        accepted("Edges: joined on C", C,
-                 FRAME(C, .item = item_to(C, "190000000019")), 3, 0);
-    CHECK("Edges: joined on C is 19-19", row[2][3] == 19 && row[2][4] == 19);
+    static const unsigned joined[] = {C, P};
+    for (int i = 0; i < 2; i++) {
+        uint64_t(*row)[WORDS] = accepted(
+            "Edges: joined on C and P", joined[i],
+            FRAME(joined[i], .item = item_to(joined[i], "190000000019")), 3, 0);
+        CHECK("Edges: joined is 19-19", row[2][3] == 19 && row[2][4] == 19);
+    }
     refused("Edges: joined on K", K,
             FRAME(K, .item = item_to(K, "190000000019")), 4, 4, 0);
     refused("joined on S", S, FRAME(S, .item = item_to(S, "190000000019")), 4,
             4, 0);
     refused("joined on E", E, FRAME(E, .item = item_to(E, "190000000019")), 4,
             4, 0);
+}
+
+static void joined_spellings(unsigned sheet)
+{
+    uint64_t(*row)[WORDS] = accepted(
+        "Accounts: 16 digits joined", sheet,
+        FRAME(sheet, .item = item_to(sheet, "0000190000000019")), 3, 0);
+    CHECK("Accounts: 16 digits are 19-19", row[2][3] == 19 && row[2][4] == 19);
+    row = accepted("Accounts: 11 digits joined", sheet,
+                   FRAME(sheet, .item = item_to(sheet, "00000000019")), 3, 0);
+    CHECK("Accounts: 11 digits are 19", row[2][3] == 0 && row[2][4] == 19);
+    refused("Accounts: joined prefix is weighed", sheet,
+            FRAME(sheet, .item = item_to(sheet, "180000000019")), 5, 4, 0);
+    refused("Accounts: joined base is weighed", sheet,
+            FRAME(sheet, .item = item_to(sheet, "190000000018")), 5, 4, 0);
 }
 
 static void account_spellings(void)
@@ -67,23 +85,15 @@ static void account_spellings(void)
         "19_19", "1a",       "0000019-19", "19-00000000019", "19-19x",
         "x19",   "19--19",   "00000000000000019", "99999999999999999999999",
     };
-    for (unsigned sheet = K; sheet <= E; sheet++)
+    for (unsigned sheet = K; sheet <= P; sheet++)
         for (size_t i = 0; i < sizeof bad / sizeof *bad; i++)
             refused("Accounts: spelling", sheet,
                     FRAME(sheet, .item = item_to(sheet, bad[i])), 4, 4, 0);
-    uint64_t(*row)[WORDS] = accepted(
-        "Accounts: 16 digits joined", C,
-        FRAME(C, .item = item_to(C, "0000190000000019")), 3, 0);
-    CHECK("Accounts: 16 digits are 19-19", row[2][3] == 19 && row[2][4] == 19);
-    row = accepted("Accounts: 11 digits joined", C,
-                   FRAME(C, .item = item_to(C, "00000000019")), 3, 0);
-    CHECK("Accounts: 11 digits are 19", row[2][3] == 0 && row[2][4] == 19);
-    refused("Accounts: joined prefix is weighed", C,
-            FRAME(C, .item = item_to(C, "180000000019")), 5, 4, 0);
-    refused("Accounts: joined base is weighed", C,
-            FRAME(C, .item = item_to(C, "190000000018")), 5, 4, 0);
-    row = accepted("Accounts: zeros in front", K,
-                   FRAME(K, .item = item_to(K, "000019-0000000019")), 3, 0);
+    joined_spellings(C);
+    joined_spellings(P);
+    uint64_t(*row)[WORDS] =
+        accepted("Accounts: zeros in front", K,
+                 FRAME(K, .item = item_to(K, "000019-0000000019")), 3, 0);
     CHECK("Accounts: zeros in front are 19-19",
           row[2][3] == 19 && row[2][4] == 19);
 }
@@ -152,6 +162,9 @@ static void all_days(void)
         CHECK("C: 365 ahead", due(C, days[i], days[i + 365]) == 0);
         CHECK("C: 366 ahead", due(C, days[i], days[i + 366]) == 11);
         CHECK("S: yesterday", due(S, days[i], days[i - 1]) == 11);
+        CHECK("P: 365 ahead", due(P, days[i], days[i + 365]) == 0);
+        CHECK("P: 366 ahead", due(P, days[i], days[i + 366]) == 11);
+        CHECK("P: yesterday", due(P, days[i], days[i - 1]) == 0);
     }
 }
 
@@ -192,7 +205,7 @@ static void edge_amounts_and_texts(void)
 /* Every number of reading once in a plain place, on every sheet it has. */
 static void numbers_of_all_sheets(void)
 {
-    for (unsigned sheet = K; sheet <= E; sheet++) {
+    for (unsigned sheet = K; sheet <= P; sheet++) {
         accepted("no. 0", sheet, PLAIN(sheet), 3, 0);
         refused("no. 3: the wrong kind of line", sheet,
                 FRAME(sheet, .file = "2 19-19 5001 020118"), 3, 2, 0);
@@ -215,7 +228,7 @@ static void numbers_of_all_sheets(void)
 
 static void numbers_1_and_2(void)
 {
-    static const uint64_t sheets[] = {0, 5, 6, UINT64_MAX, UINT64_C(1) << 32 | 1};
+    static const uint64_t sheets[] = {0, 6, 7, UINT64_MAX, UINT64_C(1) << 32 | 1};
     for (size_t i = 0; i < 5; i++) {
         struct peer_answer a = peer_read(NULL, 0, sheets[i], 0, NULL, 0);
         CHECK("no. 1", a.number == 1 && a.line == 0 && a.byte == 0);
@@ -233,6 +246,7 @@ static void numbers_of_some_sheets(void)
     refused("no. 8 on K", K, FRAME(K, .file = "1 1501 000000 0300"), 8, 2, 14);
     refused("no. 8 on S", S, FRAME(S, .file = "1 1501 000000 8100"), 8, 2, 14);
     refused("no. 8 on E", E, FRAME(E, .file = "1 1501 000000 0800"), 8, 2, 14);
+    refused("no. 8 on P", P, FRAME(P, .file = "1 1501 000000 0800"), 8, 2, 14);
     refused("no. 9: below the interval", K,
             FRAME(K, .first = "UHL1010118KLIENT TEST         1234567890005007",
                   .file = "1 1501 004999 8100"), 9, 2, 7);
@@ -244,6 +258,7 @@ static void numbers_of_some_sheets(void)
                    .file = "1 1501 005999 8100"), 3, 0);
     refused("no. 10 on K", K, FRAME(K, .group = "2 19-19 5002 020118"), 10, 3, 8);
     refused("no. 10 on S", S, FRAME(S, .group = "2 19-19 5002 020118"), 10, 3, 8);
+    refused("no. 10 on P", P, FRAME(P, .group = "2 19-19 5002 020118"), 10, 3, 8);
     refused("no. 14 on K", K, FRAME(K, .item = "705 5001 42 03000558 17 led"), 14,
             4, 24);
     refused("no. 14 on S", S, FRAME(S, .item = "705 5001 42 03000558  a|b"), 14, 4,
@@ -252,6 +267,8 @@ static void numbers_of_some_sheets(void)
             14, 4, 21);
     refused("no. 14 on E", E, FRAME(E, .item = "705 5001 42 03000558 17 av:led"),
             14, 4, 24);
+    refused("no. 14 on P", P, FRAME(P, .item = "705 5001 42 03000558 17 led"), 14,
+            4, 24);
 }
 
 /* K: the first three digits of an account file's number come once. */
@@ -267,6 +284,9 @@ static void repeated_numbers(void)
     snprintf(file, sizeof file, "%s%s", PLAIN(C),
              strchr(PLAIN(C), '\n') + 1);
     accepted("C repeats as it likes", C, file, 6, 0);
+    snprintf(file, sizeof file, "%s%s", PLAIN(P),
+             strchr(PLAIN(P), '\n') + 1);
+    accepted("P repeats as it likes", P, file, 6, 0);
 }
 
 static void warnings(void)
@@ -277,6 +297,8 @@ static void warnings(void)
              FRAME(E, .group = "2 19-19 5000 020118"), 3, 1);
     accepted("warning: past day on C", C,
              FRAME(C, .group = "2 19-19 5001 311217"), 3, 1);
+    accepted("warning: past day on P", P,
+             FRAME(P, .group = "2 19-19 5001 311217"), 3, 1);
     accepted("warning: both", C, FRAME(C, .group = "2 19-19 1 311217"), 3, 2);
     accepted("warning: priority 2 on K", K,
              FRAME(K, .item = "705 5001 42 0281000558"), 3, 1);

@@ -4,7 +4,7 @@
 
 static void dividers_11(void)
 {
-    for (unsigned sheet = K; sheet <= E; sheet++) {
+    for (unsigned sheet = K; sheet <= P; sheet++) {
         refused("11: 706 alone", sheet, FRAME(sheet, .item = "706"), 5, 4, 0);
         refused("11: 705 alone", sheet, FRAME(sheet, .item = "705"), 4, 4, 3);
         refused("11: 1 1505", sheet, FRAME(sheet, .file = "1 1505"), 7, 2, 2);
@@ -13,9 +13,9 @@ static void dividers_11(void)
                 2, 13);
         refused("11: 1 and a space", sheet, FRAME(sheet, .file = "1 "), 4, 2,
                 2);
-        /* Two spaces: on K and C no account, so 19-19 is a total. */
+        /* Two spaces: on K, C and P no account, so 19-19 is a total. */
         refused("11: no date", sheet, FRAME(sheet, .group = "2 19-19 5001"), 4,
-                3, sheet == K || sheet == C ? 2 : 12);
+                3, sheet == S || sheet == E ? 12 : 2);
         refused("11: a zero amount before the line end", sheet,
                 FRAME(sheet, .item = "705 0"), 6, 4, 4);
         refused("11: no variable symbol", sheet,
@@ -27,12 +27,12 @@ static void dividers_11(void)
 
 static void dividers_12(void)
 {
-    for (unsigned sheet = K; sheet <= E; sheet++) {
+    for (unsigned sheet = K; sheet <= P; sheet++) {
         refused("12: a space behind BANK", sheet,
                 FRAME(sheet, .file = sheet == K   ? "1 1501 000000 8100 "
                                      : sheet == S ? "1 1501 000000 0800 "
-                                     : sheet == C ? "1 1501 000000 0300 "
-                                                  : "1 1501 000000 6100 "),
+                                     : sheet == E ? "1 1501 000000 6100 "
+                                                  : "1 1501 000000 0300 "),
                 4, 2, 18);
         refused("12: a space behind DATE", sheet,
                 FRAME(sheet, .group = "2 19-19 5001 020118 "), 4, 3, 19);
@@ -56,10 +56,11 @@ static void dividers_12(void)
 static void kind_and_bank_13(void)
 {
     static const char *const bad[] = {"150", "15011", "15O1", "", "1501x"};
-    static const uint64_t last[] = {0, 1501, 1502, 1504, 1501};
-    static const char *const banks[] = {"", "8100", "0800", "0300", "6100"};
+    static const uint64_t last[] = {0, 1501, 1502, 1504, 1501, 1502};
+    static const char *const banks[] = {"",     "8100", "0800",
+                                        "0300", "6100", "0300"};
     char line[50];
-    for (unsigned sheet = K; sheet <= E; sheet++) {
+    for (unsigned sheet = K; sheet <= P; sheet++) {
         for (size_t i = 0; i < 5; i++) {
             snprintf(line, sizeof line, "1 %s 000000 %s", bad[i], banks[sheet]);
             refused("13: KIND", sheet, FRAME(sheet, .file = line), 4, 2, 2);
@@ -97,8 +98,8 @@ static void kind_and_bank_13(void)
 
 static void payer_by_spaces_14(void)
 {
-    static const unsigned by_spaces[] = {K, C};
-    for (int i = 0; i < 2; i++) {
+    static const unsigned by_spaces[] = {K, C, P};
+    for (int i = 0; i < 3; i++) {
         unsigned sheet = by_spaces[i];
         uint64_t(*row)[WORDS] =
             accepted("14: two spaces, no account", sheet,
@@ -148,9 +149,9 @@ static void zeros_15(void)
     static const char *const zeros[] = {
         "0", "00", "00000000000000000", "0-0", "000000-0000000000", "0-00",
     };
-    /* On S and C: 5, or 4 by the length. */
+    /* On S, C and P: 5, or 4 by the length. */
     static const unsigned on_s[] = {5, 5, 4, 5, 5, 5};
-    static const unsigned on_c[] = {5, 5, 4, 5, 5, 5};
+    static const unsigned on_c_and_p[] = {5, 5, 4, 5, 5, 5};
     static const char *const more[] = {
         "000000000000000000", "0000000-0", "0-00000000000", "0-", "-0", "0-0-0",
     };
@@ -165,9 +166,12 @@ static void zeros_15(void)
                        FRAME(E, .group = line, .item = SINGLE_ITEM), 3, 0);
         CHECK("15: no payer", row[1][2] == 0 && row[1][3] == 0);
         refused("15: zeros on S", S, FRAME(S, .group = line), on_s[i], 3, 2);
-        refused("15: zeros on C", C, FRAME(C, .group = line), on_c[i], 3, 2);
+        refused("15: zeros on C", C, FRAME(C, .group = line), on_c_and_p[i], 3,
+                2);
+        refused("15: zeros on P", P, FRAME(P, .group = line), on_c_and_p[i], 3,
+                2);
         snprintf(line, sizeof line, "2 %s 5001 020118", more[i]);
-        for (unsigned sheet = K; sheet <= E; sheet++)
+        for (unsigned sheet = K; sheet <= P; sheet++)
             refused("15: too many zeros", sheet, FRAME(sheet, .group = line), 4,
                     3, 2);
     }
@@ -177,6 +181,8 @@ static void zeros_elsewhere_15(void)
 {
     refused("15: 16 zeros on C", C,
             FRAME(C, .group = "2 0000000000000000 5001 020118"), 5, 3, 2);
+    refused("15: 16 zeros on P", P,
+            FRAME(P, .group = "2 0000000000000000 5001 020118"), 5, 3, 2);
     refused("15: 11 zeros on S", S,
             FRAME(S, .group = "2 00000000000 5001 020118"), 4, 3, 2);
     refused("15: zeros in a K item", K,
@@ -201,6 +207,8 @@ static void two_digits_16(void)
             2);
     refused("16: one digit elsewhere", E,
             FRAME(E, .item = "19-9 5001 42 03000558"), 5, 4, 0);
+    refused("16: one digit on P", P,
+            FRAME(P, .item = "19-9 5001 42 03000558"), 5, 4, 0);
     accepted("16: a prefix of one digit", K,
              FRAME(K, .item = "0-19 5001 42 03000558"), 3, 0);
 }
@@ -214,7 +222,7 @@ static void amounts_17(void)
     accepted("17: 14 digits", K,
              FRAME(K, .group = "2 19-19 00000000005001 020118",
                    .item = "705 00000000005001 42 03000558"), 3, 0);
-    for (unsigned sheet = K; sheet <= E; sheet++) {
+    for (unsigned sheet = K; sheet <= P; sheet++) {
         refused("17: 15 digits", sheet,
                 FRAME(sheet, .item = "705 000000000005001 42 03000558"), 4, 4,
                 4);
@@ -232,6 +240,9 @@ static void amounts_17(void)
     }
     accepted("17: the largest amount on C", C,
              FRAME(C, .group = "2 19-19 99999999999999 020118",
+                   .item = "705 99999999999999 42 03000558"), 3, 0);
+    accepted("17: the largest amount on P", P,
+             FRAME(P, .group = "2 19-19 99999999999999 020118",
                    .item = "705 99999999999999 42 03000558"), 3, 0);
 }
 
@@ -272,6 +283,8 @@ static void odd_totals_17(void)
 {
     refused("17: a total of 0 on K", K, FRAME(K, .group = "2 19-19 0 020118"),
             10, 3, 8);
+    refused("17: a total of 0 on P", P, FRAME(P, .group = "2 19-19 0 020118"),
+            10, 3, 8);
     refused("17: a large total on S", S,
             FRAME(S, .group = "2 19-19 99999999999999 020118"), 10, 3, 8);
     accepted("17: a total of 0 on C", C, FRAME(C, .group = "2 19-19 0 020118"),
@@ -300,6 +313,8 @@ static void totals_18(void)
                   (size_t)(strstr(file, "3 +") - file));
     refused("18: the total's place, single on K", K,
             FRAME(K, .group = "2 1 020118", .item = SINGLE_ITEM), 10, 3, 2);
+    refused("18: the total's place, single on P", P,
+            FRAME(P, .group = "2 1 020118", .item = SINGLE_ITEM), 10, 3, 2);
     refused("18: the total's place, single on S", S,
             FRAME(S, .group = "2  1 020118", .item = SINGLE_ITEM "  "), 10, 3,
             3);
@@ -315,6 +330,10 @@ static void sums_18(void)
                              "705 1 0 03000558"), 10, 3, 8);
     refused("18: the sum passes on K", K,
             FRAME(K, .group = "2 19-19 99999999999999 020118",
+                  .item = "705 99999999999999 0 03000558\n705 1 0 03000558"),
+            10, 3, 8);
+    refused("18: the sum passes on P", P,
+            FRAME(P, .group = "2 19-19 99999999999999 020118",
                   .item = "705 99999999999999 0 03000558\n705 1 0 03000558"),
             10, 3, 8);
     char items[4000] = "";
@@ -333,36 +352,43 @@ static void sums_18(void)
                               "\n3 +"), 10, 6, 8);
 }
 
-static void due_dates_19(void)
+/* C and P: both lengths, and a past day warns. */
+static void due_dates_19(unsigned sheet)
 {
-    uint64_t(*row)[WORDS] = accepted(
-        "19: RRRRMMDD on C", C, FRAME(C, .group = "2 19-19 5001 20180102"), 3,
-        0);
+    uint64_t(*row)[WORDS] =
+        accepted("19: RRRRMMDD", sheet,
+                 FRAME(sheet, .group = "2 19-19 5001 20180102"), 3, 0);
     CHECK("19: RRRRMMDD", row[1][1] == 20180102);
-    refused("19: 1999", C, FRAME(C, .group = "2 19-19 5001 19991231"), 11, 3,
-            13);
-    refused("19: 2100", C, FRAME(C, .group = "2 19-19 5001 21000101"), 11, 3,
-            13);
-    refused("19: seven digits", C, FRAME(C, .group = "2 19-19 5001 2018012"), 4,
-            3, 13);
-    refused("19: nine digits", C, FRAME(C, .group = "2 19-19 5001 201801020"),
-            4, 3, 13);
-    refused("19: five digits", C, FRAME(C, .group = "2 19-19 5001 20118"), 4, 3,
-            13);
-    static const unsigned others[] = {K, S, E};
-    for (int i = 0; i < 3; i++)
-        refused("19: RRRRMMDD elsewhere", others[i],
-                FRAME(others[i], .group = "2 19-19 5001 20180102"), 4, 3, 13);
-    accepted("19: once a group", C,
-             FRAME(C, .group = "2 19-19 10002 311217",
+    refused("19: 1999", sheet, FRAME(sheet, .group = "2 19-19 5001 19991231"),
+            11, 3, 13);
+    refused("19: 2100", sheet, FRAME(sheet, .group = "2 19-19 5001 21000101"),
+            11, 3, 13);
+    refused("19: seven digits", sheet,
+            FRAME(sheet, .group = "2 19-19 5001 2018012"), 4, 3, 13);
+    refused("19: nine digits", sheet,
+            FRAME(sheet, .group = "2 19-19 5001 201801020"), 4, 3, 13);
+    refused("19: five digits", sheet,
+            FRAME(sheet, .group = "2 19-19 5001 20118"), 4, 3, 13);
+    accepted("19: once a group", sheet,
+             FRAME(sheet, .group = "2 19-19 10002 311217",
                    .item = "705 5001 42 03000558\n705 5001 42 03000558"), 4, 1);
-    accepted("19: a past year", C, FRAME(C, .group = "2 19-19 5001 20000101"),
-             3, 1);
+    accepted("19: a past year", sheet,
+             FRAME(sheet, .group = "2 19-19 5001 20000101"), 3, 1);
+    accepted("19: 365 ahead", sheet,
+             FRAME(sheet, .group = "2 19-19 5001 010119"), 3, 0);
+    refused("19: 366 ahead", sheet,
+            FRAME(sheet, .group = "2 19-19 5001 020119"), 11, 3, 13);
+    accepted_on("19: the last day", sheet, 20991231,
+                FRAME(sheet, .group = "2 19-19 5001 311299"), 3, 0);
 }
 
 static void past_and_far_19(void)
 {
-    for (unsigned sheet = K; sheet <= E; sheet++)
+    static const unsigned others[] = {K, S, E};
+    for (int i = 0; i < 3; i++)
+        refused("19: RRRRMMDD elsewhere", others[i],
+                FRAME(others[i], .group = "2 19-19 5001 20180102"), 4, 3, 13);
+    for (unsigned sheet = K; sheet <= P; sheet++)
         accepted("19: today is not past", sheet,
                  FRAME(sheet, .group = "2 19-19 5001 010118"), 3, 0);
     refused("19: past on K", K, FRAME(K, .group = "2 19-19 5001 311217"), 11, 3,
@@ -373,12 +399,6 @@ static void past_and_far_19(void)
              FRAME(E, .group = "2 19-19 5001 010100"), 3, 0);
     accepted("19: far on S", S, FRAME(S, .group = "2 19-19 5001 311299"), 3, 0);
     accepted("19: far on E", E, FRAME(E, .group = "2 19-19 5001 311299"), 3, 0);
-    accepted("19: 365 ahead on C", C,
-             FRAME(C, .group = "2 19-19 5001 010119"), 3, 0);
-    refused("19: 366 ahead on C", C, FRAME(C, .group = "2 19-19 5001 020119"),
-            11, 3, 13);
-    accepted_on("19: the last day", C, 20991231,
-                FRAME(C, .group = "2 19-19 5001 311299"), 3, 0);
 }
 
 static void bank_field_20(void)
@@ -394,7 +414,7 @@ static void bank_field_20(void)
     };
     char line[80];
     for (size_t i = 0; i < sizeof faults / sizeof *faults; i++)
-        for (unsigned sheet = K; sheet <= E; sheet++) {
+        for (unsigned sheet = K; sheet <= P; sheet++) {
             unsigned number = sheet == K ? faults[i].on_k : faults[i].elsewhere;
             snprintf(line, sizeof line, "705 5001 42 %s%s", faults[i].field,
                      sheet == S ? "  " : "");
@@ -446,7 +466,8 @@ void test_fields(void)
     odd_totals_17();
     totals_18();
     sums_18();
-    due_dates_19();
+    due_dates_19(C);
+    due_dates_19(P);
     past_and_far_19();
     bank_field_20();
     priority_20();

@@ -9,6 +9,7 @@ int main(void)
     test_texts();
     test_writing();
     test_rewriting();
+    test_sheet_p();
     test_samples();
     test_random();
     test_statements();

@@ -1,5 +1,6 @@
 /* Random batches come back as they were written; random damage to files and
-   rows neither crashes nor touches what is not lent. */
+   rows neither crashes nor touches what is not lent; what P accepts C accepts
+   too. */
 #include "check.h"
 
 static struct batch_in b;
@@ -40,23 +41,27 @@ static uint64_t draw_day(unsigned sheet)
         {20180101, 20991231, 20200229, 20180228},
         {20180101, 20190101, 20000101, 20171231},
         {20000229, 20991231, 20180101, 20171231},
+        {20180101, 20190101, 20000101, 20171231},
     };
     return days[sheet][below(4)];
 }
 
 static void draw_text(uint64_t *row, size_t word, unsigned sheet)
 {
-    static const char *const bits[] = {"NP:", " NP", "AV:", "  ", ":", "17"};
+    static const char *const bits[] = {"NP:", " NP", "AV:", "  ",
+                                       ":",   "17",  " NP:"};
     char text[80] = "";
     size_t len = 0, limit = one_in(4) ? 35 : below(12) + 1;
     while (len < limit) {
         if (one_in(6)) {
-            strcpy(text + len, bits[below(6)]);
+            strcpy(text + len, bits[below(7)]);
             len = strlen(text);
             continue;
         }
         unsigned char byte = (unsigned char)(32 + below(224));
         if (byte == 127 || (byte == '|' && word != 19))
+            continue;
+        if (sheet == P && (byte == '#' || byte == '~'))
             continue;
         text[len++] = (char)byte;
         text[len] = 0;
@@ -88,7 +93,7 @@ static void draw_item(unsigned sheet, bool single)
 
 static void draw_batch(unsigned sheet)
 {
-    static const uint64_t kinds[] = {0, 1, 2, 4, 1};
+    static const uint64_t kinds[] = {0, 1, 2, 4, 1, 2};
     batch_start(&b);
     b.rows = 0;
     b.date = one_in(2) ? 20240229 : 20000101;
@@ -186,7 +191,7 @@ static bool rewrites_to(unsigned sheet, const uint8_t *file, size_t len,
 {
     static uint8_t in[8300], out[20000];
     memcpy(in, "? 010118\n", 9);
-    in[0] = (uint8_t)"?KSCE"[sheet];
+    in[0] = (uint8_t)"?KSCEP"[sheet];
     memcpy(in + 9, file, len);
     struct peer_text t = peer_rewrite(in, len + 9, out, sizeof out);
     return t.number == 0 && t.bytes == want_len &&
@@ -217,7 +222,7 @@ static void round_trip(unsigned sheet)
                          h->from == b.from && h->to == b.to &&
                          memcmp(h->name, b.name, 20) == 0));
     CHECK("random: no warnings but for past days",
-          sheet == C || r.answer.warnings == 0);
+          sheet == C || sheet == P || r.answer.warnings == 0);
     CHECK("random: rewriting keeps it",
           rewrites_to(sheet, canonical, (size_t)w.bytes, canonical,
                       (size_t)w.bytes));
@@ -225,7 +230,7 @@ static void round_trip(unsigned sheet)
 
 static size_t damage(uint8_t *file, size_t len)
 {
-    static const char bytes[] = " 0123456789-+|,\r\nAVNP:x\x7f\x01\xff  00";
+    static const char bytes[] = " 0123456789-+|,\r\nAVNP:x\x7f\x01\xff  00#~";
     for (uint64_t times = 1 + below(3); times > 0 && len > 1; times--) {
         size_t at = (size_t)below(len);
         uint8_t byte = (uint8_t)bytes[below(sizeof bytes - 1)];
@@ -316,14 +321,104 @@ static void damaged_rows(unsigned sheet)
     CHECK("random: what is written can be read", same);
 }
 
+/* ---- from P to C ---- */
+
+/* Spells some fields of a canonical file in the other ways that P takes: dates
+   of eight digits, joined accounts, other line ends. */
+static size_t respelled(const uint8_t *file, size_t len, uint8_t *out)
+{
+    static const char *const ends[] = {"\r\n", "\n", "\r"};
+    size_t at = 0, to = 0;
+    while (at < len) {
+        size_t start = at, spaces = 0;
+        for (; file[at] != '\r'; at++) {
+            size_t digits = 1;
+            spaces += file[at] == ' ';
+            out[to++] = file[at];
+            if (file[at] != '-' || spaces > 1 || one_in(2))
+                continue;
+            while (file[at + digits] >= '0' && file[at + digits] <= '9')
+                digits++;
+            memset(out + --to, '0', 11 - digits);
+            to += 11 - digits;
+        }
+        if (file[start] == '2' && file[start + 1] == ' ' && one_in(2)) {
+            const uint8_t *date = file + at - 6;
+            to -= 6;
+            to += (size_t)sprintf((char *)out + to, "20%.2s%.2s%.2s",
+                                  (const char *)date + 4,
+                                  (const char *)date + 2, (const char *)date);
+        }
+        to += (size_t)sprintf((char *)out + to, "%s", ends[below(3)]);
+        at += 2;
+    }
+    return to;
+}
+
+static bool holds_mark(const uint64_t *row, const uint8_t *bytes)
+{
+    for (size_t word = 11; row[0] == 3 && word <= 17; word += 2)
+        for (size_t i = 0; i + 4 <= row[word + 1]; i++)
+            if (memcmp(bytes + row[word] + i, " NP:", 4) == 0)
+                return true;
+    return false;
+}
+
+/* The sentence of W-201: what P accepts C accepts that day, as the same batch
+   exactly if no part holds ` NP:`; then the rows' words and the warnings are
+   the same too.  Counts files without and with the mark. */
+static void moved_to_c(const uint8_t *file, size_t len, unsigned counts[2])
+{
+    read_file(&r, file, len, P);
+    if (r.answer.number != 0)
+        return;
+    read_file(&again, file, len, C);
+    size_t rows = (size_t)r.answer.rows;
+    CHECK("random: C accepts what P accepts",
+          again.answer.number == 0 && again.answer.rows == rows);
+    bool same = again.answer.rows == rows, marked = false;
+    for (size_t i = 0; i < rows; i++) {
+        marked = marked || holds_mark(r.words[i], file);
+        same = same && same_row(r.words[i], file, again.words[i], file);
+    }
+    CHECK("random: the same batch exactly without the mark", same != marked);
+    CHECK("random: the same words and warnings without the mark",
+          marked || (r.answer.warnings == again.answer.warnings &&
+                     memcmp(r.words, again.words, rows * ROW) == 0));
+    counts[marked]++;
+}
+
+static void moves_to_c(int times)
+{
+    static uint8_t file[2 * sizeof canonical];
+    unsigned whole[2] = {0, 0}, hurt[2] = {0, 0};
+    for (int i = 0; i < times; i++) {
+        draw_batch(P);
+        struct peer_written w = batch_write(&b, P, TODAY, sizeof canonical);
+        CHECK("random: written on P", w.number == 0);
+        if (w.number != 0)
+            return;
+        moved_to_c(test_out, (size_t)w.bytes, whole);
+        size_t len = respelled(test_out, (size_t)w.bytes, file);
+        moved_to_c(file, len, whole);
+        len = damage(file, len);
+        moved_to_c(file, len, hurt);
+    }
+    CHECK("random: P reads what is only respelled",
+          whole[0] + whole[1] == 2 * (unsigned)times);
+    CHECK("random: files without the mark and with it",
+          whole[0] > 300 && whole[1] > 300 && hurt[0] > 30 && hurt[1] > 30);
+}
+
 void test_random(void)
 {
     unsigned kept = 0;
-    for (int i = 0; i < 4 * 500; i++)
-        round_trip(K + i % 4);
-    for (int i = 0; i < 4 * 2000; i++)
-        kept += damaged_file(K + i % 4);
+    for (int i = 0; i < 5 * 500; i++)
+        round_trip(K + i % 5);
+    for (int i = 0; i < 5 * 2000; i++)
+        kept += damaged_file(K + i % 5);
     CHECK("random: some damage is harmless", kept > 300);
-    for (int i = 0; i < 4 * 1000; i++)
-        damaged_rows(K + i % 4);
+    for (int i = 0; i < 5 * 1000; i++)
+        damaged_rows(K + i % 5);
+    moves_to_c(1500);
 }

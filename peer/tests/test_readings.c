@@ -32,13 +32,13 @@ static void line_ends_1(void)
             ended(FRAME(K, .item = "706"), "\r\n"), 5, 4, 0);
     refused("1: CR counts as one line", E,
             ended(FRAME(E, .item = "706"), "\r"), 5, 4, 0);
-    for (unsigned sheet = K; sheet <= E; sheet++)
+    for (unsigned sheet = K; sheet <= P; sheet++)
         accepted("1: CR LF", sheet, ended(PLAIN(sheet), "\r\n"), 3, 0);
 }
 
 static void empty_lines_2(void)
 {
-    for (unsigned sheet = K; sheet <= E; sheet++) {
+    for (unsigned sheet = K; sheet <= P; sheet++) {
         refused("2: empty, an account file is due", sheet,
                 FRAME(sheet, .file = ""), 3, 2, 0);
         refused("2: empty, a group is due", sheet, FRAME(sheet, .group = ""),
@@ -62,7 +62,7 @@ static void early_end_3(void)
     refused_bytes("3: UHL1 alone", C, TODAY, "UHL1", 4, 3, 2, 4);
     refused_bytes("3: UHL1 and LF", C, TODAY, "UHL1\n", 5, 3, 2, 5);
     refused_bytes("3: UHL1 and CR LF", C, TODAY, "UHL1\r\n", 6, 3, 2, 6);
-    for (unsigned sheet = K; sheet <= E; sheet++) {
+    for (unsigned sheet = K; sheet <= P; sheet++) {
         refused_bytes("3: empty", sheet, TODAY, "", 0, 3, 1, 0);
         const char *file = PLAIN(sheet);
         for (uint64_t lines = 1; lines <= 5; lines++) {
@@ -77,7 +77,7 @@ static void early_end_3(void)
 
 static void closing_4(void)
 {
-    for (unsigned sheet = K; sheet <= E; sheet++) {
+    for (unsigned sheet = K; sheet <= P; sheet++) {
         bool tight = sheet == C || sheet == E;
         if (tight) {
             accepted("4: 3+ and 5+", sheet,
@@ -109,7 +109,7 @@ static void closing_4(void)
 /* Lines that look like closing lines or heads: they are items, or not due. */
 static void items_like_closing_4(void)
 {
-    for (unsigned sheet = K; sheet <= E; sheet++) {
+    for (unsigned sheet = K; sheet <= P; sheet++) {
         refused("4: 3 alone is an item", sheet, FRAME(sheet, .close = "3"),
                 sheet == K ? 4 : 5, 5, 0);
         refused("4: 5 alone is an item", sheet, FRAME(sheet, .end = "5"), 3, 6,
@@ -194,28 +194,29 @@ static void add_items(struct big *b, const char *item, size_t count)
         add(b, item);
 }
 
-static void many_items_6(void)
+static void many_items_6(unsigned sheet)
 {
     struct big b = {0};
-    add(&b, "UHL1\n1 1501 000000 0300\n2 705 99999 020118\n");
+    add(&b, sheet == C ? "UHL1\n" : FIRST_58 "\n");
+    add(&b, "1 1501 000000 0300\n2 705 99999 020118\n");
     add_items(&b, "705 1 0 03000000\n", 99999);
     size_t full = b.len;
-    add(&b, "3+\n5+\n");
-    accepted_bytes("6: 99,999 items", C, TODAY, b.text, b.len, 100001, 0);
+    add(&b, "3 +\n5 +\n");
+    accepted_bytes("6: 99,999 items", sheet, TODAY, b.text, b.len, 100001, 0);
     b.len = full;
-    add(&b, "3+\n2 7 020118\n");
+    add(&b, "3 +\n2 7 020118\n");
     size_t next = b.len;
     add(&b, "no field of an item\n");
-    refused_bytes("6: item 100,000, before its fields", C, TODAY, b.text, b.len,
-                  15, 100005, next);
+    refused_bytes("6: item 100,000, before its fields", sheet, TODAY, b.text,
+                  b.len, 15, 100005, next);
     b.len = next;
-    add(&b, "3+\n");
-    refused_bytes("6: 3 before 15 for items", C, TODAY, b.text, b.len, 3,
+    add(&b, "3 +\n");
+    refused_bytes("6: 3 before 15 for items", sheet, TODAY, b.text, b.len, 3,
                   100005, next);
     b.len = full;
-    add(&b, "3+\n5+\n1 1501 000000 0300\n2 705 1 020118\n705 1 0 03000000\n"
-            "3+\n5+\n");
-    accepted_bytes("6: the next account file counts anew", C, TODAY, b.text,
+    add(&b, "3 +\n5 +\n1 1501 000000 0300\n2 705 1 020118\n"
+            "705 1 0 03000000\n3 +\n5 +\n");
+    accepted_bytes("6: the next account file counts anew", sheet, TODAY, b.text,
                    b.len, 100004, 0);
     free(b.text);
 }
@@ -246,8 +247,8 @@ static void many_files_6(unsigned sheet)
     add(&b, sheet == C ? "UHL1\n" : FIRST_58 "\n");
     for (int i = 0; i < 1000; i++) {
         snprintf(lines, sizeof lines,
-                 "1 1501 %03d000 8100\n2 705 1 020118\n705 1 0 03000000\n"
-                 "3 +\n5 +\n", i);
+                 "1 1501 %03d000 %s\n2 705 1 020118\n705 1 0 03000000\n"
+                 "3 +\n5 +\n", i, sheet == K ? "8100" : "0300");
         add(&b, lines);
     }
     size_t full = b.len;
@@ -277,8 +278,8 @@ static const char *first_of(size_t len)
 
 static void first_line_7(void)
 {
-    static const unsigned sheets[] = {K, S, E};
-    for (int i = 0; i < 3; i++) {
+    static const unsigned sheets[] = {K, S, E, P};
+    for (int i = 0; i < 4; i++) {
         unsigned sheet = sheets[i];
         for (size_t len = 4; len <= 65; len++) {
             const char *file = FRAME(sheet, .first = first_of(len));
@@ -310,8 +311,8 @@ static void first_line_7(void)
 
 static void first_line_8(void)
 {
-    static const unsigned sheets[] = {K, S, E};
-    for (int i = 0; i < 3; i++) {
+    static const unsigned sheets[] = {K, S, E, P};
+    for (int i = 0; i < 4; i++) {
         unsigned sheet = sheets[i];
         const char *file = FRAME(
             sheet, .first = "UHL1010118KLIENT\tTEST         1234567890000999"
@@ -329,8 +330,8 @@ static void first_line_8(void)
 
 static void first_line_9(void)
 {
-    static const unsigned sheets[] = {K, S, E};
-    for (int i = 0; i < 3; i++) {
+    static const unsigned sheets[] = {K, S, E, P};
+    for (int i = 0; i < 4; i++) {
         unsigned sheet = sheets[i];
         const char *file =
             FRAME(sheet, .first = "UHL1311299KLIENT TEST         "
@@ -407,10 +408,12 @@ void test_readings(void)
     closing_4();
     items_like_closing_4();
     due_5();
-    many_items_6();
+    many_items_6(C);
+    many_items_6(P);
     many_items_of_s_6();
     many_files_6(K);
     many_files_6(C);
+    many_files_6(P);
     first_line_7();
     first_line_8();
     first_line_9();

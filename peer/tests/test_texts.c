@@ -15,8 +15,8 @@ static const char *no_texts(const uint64_t *row)
 
 static void bytes_21(void)
 {
-    static const unsigned marked[] = {K, E};
-    for (int i = 0; i < 2; i++) {
+    static const unsigned marked[] = {K, E, P};
+    for (int i = 0; i < 3; i++) {
         unsigned sheet = marked[i];
         refused("21: a control byte before the start", sheet,
                 FRAME(sheet, .item = ITEM " 17 XX\x01"), 4, 4, 24);
@@ -53,6 +53,12 @@ static void each_byte_21(void)
             refused("21: each byte", E, FRAME(E, .item = item), 4, 4, 24);
         else
             accepted("21: each byte", E, FRAME(E, .item = item), 3, 0);
+        if (byte < 32 || byte == 127)
+            refused("21: each byte on P", P, FRAME(P, .item = item), 4, 4, 24);
+        else if (byte == '#' || byte == '~')
+            refused("21: each byte on P", P, FRAME(P, .item = item), 14, 4, 24);
+        else
+            accepted("21: each byte on P", P, FRAME(P, .item = item), 3, 0);
     }
     for (int at = 0; at < 35; at++) {
         char item[80];
@@ -94,7 +100,7 @@ static void tail_of_s_22(void)
              0);
 }
 
-static void tail_of_k_and_e_23(unsigned sheet)
+static void tail_of_k_e_and_p_23(unsigned sheet)
 {
     uint64_t(*row)[WORDS];
     refused("23: no symbol before the text", sheet,
@@ -113,7 +119,7 @@ static void tail_of_k_and_e_23(unsigned sheet)
     CHECK("23: one empty part", row[2][8] == 0 && no_texts(row[2]));
 }
 
-static void parts_of_k_and_e_23(unsigned sheet)
+static void parts_of_k_e_and_p_23(unsigned sheet)
 {
     uint64_t(*row)[WORDS];
     const char *file;
@@ -246,10 +252,12 @@ void test_texts(void)
     bytes_21();
     each_byte_21();
     tail_of_s_22();
-    tail_of_k_and_e_23(K);
-    tail_of_k_and_e_23(E);
-    parts_of_k_and_e_23(K);
-    parts_of_k_and_e_23(E);
+    tail_of_k_e_and_p_23(K);
+    tail_of_k_e_and_p_23(E);
+    tail_of_k_e_and_p_23(P);
+    parts_of_k_e_and_p_23(K);
+    parts_of_k_e_and_p_23(E);
+    parts_of_k_e_and_p_23(P);
     symbols_of_c_24();
     names_of_c_24();
     marks_of_c_24();
