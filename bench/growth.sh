@@ -38,7 +38,7 @@ grow() { # CALL SHEET KIND
 
 for call in ${CALLS:-read write}; do
     printf '%s\n%-5s %-9s %10s %9s %9s\n' "$call" sheet kind bytes library peer
-    for sheet in ${SHEETS:-K S C E}; do
+    for sheet in ${SHEETS:-K S C E P}; do
         for kind in $(kinds_for "$call" "$sheet" wages groups); do grow "$call" "$sheet" "$kind"; done
     done
 done

@@ -40,7 +40,7 @@ for call in ${CALLS:-read write}; do
     printf '%s\n%-5s %-9s %10s %9s %9s %7s' "$call" sheet kind bytes library peer ratio
     if [ "$times" -gt 0 ]; then printf ' %9s %9s %7s' 'lib MB/s' 'peer MB/s' ratio; fi
     echo
-    for sheet in ${SHEETS:-K S C E}; do
+    for sheet in ${SHEETS:-K S C E P}; do
         for kind in $(kinds_for "$call" "$sheet" wages invoices shortest longest groups files); do line "$call" "$sheet" "$kind"; done
     done
 done

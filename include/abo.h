@@ -1,5 +1,5 @@
 /*
- * Reading, writing and explaining Czech ABO (.kpc) payment files for the bank sheets K, S, C and E, finding their lines, and reading
+ * Reading, writing and explaining Czech ABO (.kpc) payment files for the bank sheets K, S, C, E and P, finding their lines, and reading
  * and writing statements (GPC records 074 and 075): six calls, the rows that they take and give, and the numbers that they return.
  * For C99 and later and for C++; link with libabo.a.
  *
@@ -43,8 +43,8 @@ extern "C" {
 /* ---- Version: the first part grows when a program must be changed to go on working, the second when something is added ---- */
 
 #define ABO_VERSION_MAJOR 1
-#define ABO_VERSION_MINOR 3
-#define ABO_VERSION "1.3"
+#define ABO_VERSION_MINOR 4
+#define ABO_VERSION "1.4"
 
 /* ---- Sheets: which bank's rules a file is judged by ---- */
 
@@ -52,14 +52,15 @@ enum abo_sheet {
     ABO_SHEET_K = 1, /* payer's bank 8100 */
     ABO_SHEET_S = 2, /* payer's bank 0800 */
     ABO_SHEET_C = 3, /* any payer's bank, written as 0300; has no header */
-    ABO_SHEET_E = 4  /* payer's bank 6100 */
+    ABO_SHEET_E = 4, /* payer's bank 6100 */
+    ABO_SHEET_P = 5  /* payer's bank 0300: the edition before C, which has a header */
 };
 
 /* ---- Numbers returned ---- */
 
 enum abo_number {
     ABO_ACCEPTED = 0,        /* the file was read, or written, whole */
-    ABO_BAD_SHEET = 1,       /* the sheet is none of 1 to 4 */
+    ABO_BAD_SHEET = 1,       /* the sheet is none of 1 to 5 */
     ABO_BAD_TODAY = 2,       /* today is no real day of 2000 to 2099 */
     ABO_BAD_ORDER = 3,       /* another kind of line is due, the file ends early, or lines follow its end */
     ABO_BAD_FIELD = 4,       /* wrong bytes or length of a field, or a wrong divider */
@@ -68,11 +69,11 @@ enum abo_number {
     ABO_BAD_KIND = 7,        /* the account file's kind is not on the sheet */
     ABO_BAD_PAYER_BANK = 8,  /* the payer's bank is not the sheet's */
     ABO_BAD_NUMBER = 9,      /* K: interval turned round, or a number outside it or used before */
-    ABO_BAD_TOTAL = 10,      /* the total is not the sum (K, S), or the sum passes 14 digits */
+    ABO_BAD_TOTAL = 10,      /* the total is not the sum (K, S, P), or the sum passes 14 digits */
     ABO_BAD_DAY = 11,        /* a day is not real, or not among the sheet's days */
     ABO_BAD_PAYEE_BANK = 12, /* the payee's bank is 0000 */
     ABO_BAD_DIGIT = 13,      /* ninth or tenth digit of the bank field is not allowed */
-    ABO_BAD_TEXT = 14,       /* a text breaks the sheet: its start, parts or length, or a bar on S */
+    ABO_BAD_TEXT = 14,       /* a text breaks the sheet: its start, parts, length, a bar on S, # or ~ on P */
     ABO_TOO_MANY = 15,       /* one item or account file more than a file may have */
     ABO_NO_ROOM = 16,        /* the lent room is too small; the answer says how much is needed */
     ABO_NOT_A_BATCH = 20,    /* writing: rows or header are no batch, whatever the sheet */

@@ -12,7 +12,7 @@ struct number_words {
 
 static const struct number_words numbers[] = {
     NUMBER(ABO_ACCEPTED, "it is accepted"),
-    NUMBER(ABO_BAD_SHEET, "the sheet is none of K, S, C and E"),
+    NUMBER(ABO_BAD_SHEET, "the sheet is none of K, S, C, E and P"),
     NUMBER(ABO_BAD_TODAY, "the day is no real day of 2000 to 2099"),
     NUMBER(ABO_BAD_ORDER, "another kind of line is due here, or the end of the file"),
     NUMBER(ABO_BAD_FIELD, "the bytes or the length of this field are wrong, or a divider is"),
@@ -26,7 +26,7 @@ static const struct number_words numbers[] = {
     NUMBER(ABO_BAD_DAY, "the day is not real, or not among the days that the sheet takes"),
     NUMBER(ABO_BAD_PAYEE_BANK, "the payee's bank is 0000"),
     NUMBER(ABO_BAD_DIGIT, "the ninth or tenth digit from the right is not allowed"),
-    NUMBER(ABO_BAD_TEXT, "the text breaks the sheet's rules on its start, its parts, their length or bars"),
+    NUMBER(ABO_BAD_TEXT, "the text breaks the sheet's rules on its start, its parts, their length or their bytes"),
     NUMBER(ABO_TOO_MANY, "this is one item or account file more than a file may have"),
     NUMBER(ABO_NO_ROOM, "the room that was lent is too small"),
     NUMBER(ABO_NOT_A_BATCH, "this is no batch on any sheet"),
@@ -151,19 +151,20 @@ static const struct {
 } narrowed[] = {
     {"K", 0, ABO_HEADER_TO, ABO_HEADER_TO, "not below the interval's start"},
     {"KE", ABO_ROW_FILE, ABO_FILE_KIND, ABO_FILE_KIND, "1501 alone"},
-    {"S", ABO_ROW_FILE, ABO_FILE_KIND, ABO_FILE_KIND, "1501 or 1502"},
+    {"SP", ABO_ROW_FILE, ABO_FILE_KIND, ABO_FILE_KIND, "1501 or 1502"},
     {"K", ABO_ROW_FILE, ABO_FILE_NUMBER, ABO_FILE_NUMBER,
      "a number whose first three of six digits lie in the header's interval and are unlike those of any account file before"},
     {"K", ABO_ROW_GROUP, ABO_GROUP_DUE, ABO_GROUP_DUE, "a day from today to 364 days ahead"},
     {"S", ABO_ROW_GROUP, ABO_GROUP_DUE, ABO_GROUP_DUE, "a day that is not before today"},
-    {"C", ABO_ROW_GROUP, ABO_GROUP_DUE, ABO_GROUP_DUE, "a day at most 365 days ahead"},
+    {"CP", ABO_ROW_GROUP, ABO_GROUP_DUE, ABO_GROUP_DUE, "a day at most 365 days ahead"},
     {"S", ABO_ROW_ITEM, ABO_FIELD_ROW, ABO_FIELD_ROW, "at most 1,000 items in a file"},
     {"SE", ABO_ROW_ITEM, ABO_ITEM_AMOUNT, ABO_ITEM_AMOUNT, "at most 9999999999.99 crowns"},
-    {"SCE", ABO_ROW_ITEM, ABO_ITEM_PRIORITY, ABO_ITEM_PRIORITY, "5 alone, since the sheet has no place for a priority"},
+    {"SCEP", ABO_ROW_ITEM, ABO_ITEM_PRIORITY, ABO_ITEM_PRIORITY, "5 alone, since the sheet has no place for a priority"},
     {"S", ABO_ROW_ITEM, ABO_ITEM_PART_2, ABO_ITEM_PART_4, "nothing, since the sheet has one part alone"},
     {"C", ABO_ROW_ITEM, ABO_ITEM_PART_1, ABO_ITEM_PART_4,
      "a text without ` NP:`, since the bank would read what follows as a name"},
-    {"KSE", ABO_ROW_ITEM, ABO_ITEM_NAME, ABO_ITEM_NAME, "nothing, since the sheet has no place for a name"},
+    {"P", ABO_ROW_ITEM, ABO_ITEM_PART_1, ABO_ITEM_PART_4, "a text without # and ~"},
+    {"KSEP", ABO_ROW_ITEM, ABO_ITEM_NAME, ABO_ITEM_NAME, "nothing, since the sheet has no place for a name"},
 };
 
 const char *abo_say_carried(uint64_t sheet, uint64_t row, uint64_t field)
@@ -236,6 +237,7 @@ const struct abo_sheet_words *abo_say_sheet(uint64_t sheet)
         [ABO_SHEET_S] = {'S', "0800", "Česká spořitelna"},
         [ABO_SHEET_C] = {'C', "0300", "ČSOB"},
         [ABO_SHEET_E] = {'E', "6100", "Equa bank"},
+        [ABO_SHEET_P] = {'P', "0300", "ČSOB, previous edition"},
     };
     return sheet < COUNT_OF(words) && words[sheet].code != NULL ? &words[sheet] : NULL;
 }

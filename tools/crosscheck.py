@@ -47,7 +47,8 @@ def load(path):
 # ---- files: the pieces of which lines are made, the usual one first
 
 HEAD = b"UHL1010118" + b"RYBNIKY".ljust(20) + b"1234567890" + b"001900" + b"000000000000"
-BANK = {1: b"8100", 2: b"0800", 3: b"0300", 4: b"6100"}
+BANK = {1: b"8100", 2: b"0800", 3: b"0300", 4: b"6100", 5: b"0300"}
+LAST_SHEET = max(BANK)
 ACCOUNTS = [b"19-19", b"5152046", b"174-1999738514", b"500005-2267100237", b"705", b"000019-0000000019", b"190000000019",
             b"0", b"00", b"000-00", b"9", b"1234567890", b"19-", b"-19", b"1-9-9", b"", b"0" * 17, b"0" * 18, b"2267100237"]
 AMOUNTS = [b"5001", b"1", b"0", b"0005001", b"50,01", b",50", b"3500,0", b"9" * 14, b"9" * 12, b"1" + b"0" * 12,
@@ -60,9 +61,10 @@ SYMBOLS = [b"42", b"0042", b"0", b"12345678901", b"", b"x"]
 TAILS = [b"", b" 17", b" 17 AV:led", b" AV:led", b" 17 led", b" ", b" 17 ", b" 12345678901", b"  led", b" 0  ", b"  a|b",
          b" 17 AV:a|b|c|d", b" 17 AV:a|b|c|d|e", b" 1 AV:" + b"x" * 36, b" 1 AV: NP:Jan", b" 1 NP:Jan",
          b" 1 AV:a|b NP:Jan NP:K", b"  ", b" 5 " + b"z" * 35, b"  " + b"z" * 36, b" 1 AV:||||", b" 1 AV:|||", b" 1 AV:\x01",
-         b" 1  AV:x", b" 1 AV:" + b"y" * 36 + b" NP:" + b"n" * 36]
-USUAL_TAILS = {1: [b"", b" 17 AV:led"], 2: [b"  ", b" 17 led"], 3: [b"", b" led"], 4: [b"", b" 17 AV:led"]}
-NO_PAYER = {1: [b"", b"0 "], 2: [b" "], 3: [b""], 4: [b" ", b"00-0 "]}
+         b" 1  AV:x", b" 1 AV:" + b"y" * 36 + b" NP:" + b"n" * 36, b" 1 AV:a#", b" 1 AV:a|~", b" 1 AV:a NP:b"]
+USUAL_TAILS = {1: [b"", b" 17 AV:led"], 2: [b"  ", b" 17 led"], 3: [b"", b" led"], 4: [b"", b" 17 AV:led"],
+               5: [b"", b" 17 AV:led", b" 17 AV:a NP:b"]}
+NO_PAYER = {1: [b"", b"0 "], 2: [b" "], 3: [b""], 4: [b" ", b"00-0 "], 5: [b""]}
 ENDS = [b"\n", b"\r\n", b"\r"]
 
 
@@ -123,12 +125,13 @@ class Files:
 
 # ---- batches: rows of words, the usual value first
 
-TEXTS = b"led ryby NP:Jan|x" + b"abcdefghijklmnopqrstuvwxyzABCDEFGHIJKLMN" + b"\x01 NP: zz"
+TEXTS = b"led ryby NP:Jan|x" + b"abcdefghijklmnopqrstuvwxyzABCDEFGHIJKLMN" + b"\x01 NP: zz" + b"a#b~"
 LAST = 2 ** 64 - 1
 GOOD_ACCOUNTS = [(19, 19), (0, 705), (174, 1999738514), (500005, 2267100237)]
 BAD_ACCOUNTS = [(0, 0), (19, 19), (1, 19), (19, 9), (10 ** 6, 19), (19, 10 ** 10), (LAST, LAST)]
 SPANS = [(0, 0), (0, 3), (4, 12), (8, 7), (8, 9), (17, 35), (17, 36), (17, 0), (len(TEXTS), 0), (len(TEXTS) + 1, 0),
-         (len(TEXTS) - 2, 3), (LAST, 2), (2 ** 63, 2 ** 63), (57, 1), (58, 4), (3, 1)]
+         (len(TEXTS) - 2, 3), (LAST, 2), (2 ** 63, 2 ** 63), (57, 1), (58, 4), (3, 1),
+         (65, 1), (65, 2), (67, 2)]
 
 
 class Batches:
@@ -202,7 +205,7 @@ def header_of(date, name, client, start, end):
 def file_cases(lib, rnd, count):
     make = Files(rnd)
     for _ in range(count):
-        sheet = rnd.randrange(1, 5) if rnd.random() < 0.97 else rnd.choice([0, 5, 2 ** 63])
+        sheet = rnd.randrange(1, LAST_SHEET + 1) if rnd.random() < 0.97 else rnd.choice([0, LAST_SHEET + 1, 2 ** 63])
         text = make.file(sheet if sheet in BANK else 3)
         today = 20180101 if rnd.random() < 0.97 else rnd.choice([20171231, 20180230, 0])
         room = rnd.choice([40, 40, 40, 3])
@@ -221,7 +224,7 @@ def file_cases(lib, rnd, count):
 def batch_cases(lib, rnd, count):
     make = Batches(rnd)
     for _ in range(count):
-        sheet = rnd.randrange(1, 5) if rnd.random() < 0.97 else rnd.choice([0, 5])
+        sheet = rnd.randrange(1, LAST_SHEET + 1) if rnd.random() < 0.97 else rnd.choice([0, LAST_SHEET + 1])
         rows = make.rows(sheet)
         h = make.header()
         today = 20180101 if rnd.random() < 0.97 else rnd.choice([20180230, 0])

@@ -103,7 +103,7 @@ same_refusal() { # WHAT: check, rewrite and show tell one refusal, check as its 
 same_end() { tail -n 1 "$work/show.out" | cmp - "$work/check.line"; }
 
 number_of() { # LETTER
-    case $1 in K) echo 1 ;; S) echo 2 ;; C) echo 3 ;; E) echo 4 ;; *) echo "$1" ;; esac
+    case $1 in K) echo 1 ;; S) echo 2 ;; C) echo 3 ;; E) echo 4 ;; P) echo 5 ;; *) echo "$1" ;; esac
 }
 
 # ---- host/runs: the first line becomes the options ----
@@ -112,11 +112,11 @@ run_of() { # NAME.in: the rewriting program and the tool agree, where the tool's
     name=$(basename "$1" .in)
     line=$(head -c 9 "$1" | tr '\r' '\n' | head -n 1)
     letter=$(printf %s "$line" | cut -c 1)
-    small=$(printf %s "$letter" | tr KSCE ksce)
+    small=$(printf %s "$letter" | tr KSCEP kscep)
     rest=$(printf %s "$line" | cut -c 3-)
     today=$(printf %s "$rest" | sed 's/^\(..\)\(..\)\(.*\)$/20\3\2\1/')
     case $line in
-    [KSCE]' '[0-9][0-9][0-9][0-9][0-9][0-9]) ;;
+    [KSCEP]' '[0-9][0-9][0-9][0-9][0-9][0-9]) ;;
     *) today=none ;;
     esac
     head -c 10 "$1" | tail -c 2 | od -An -c | grep -q '\\r  *\\n' && past=11 || past=10
@@ -205,7 +205,23 @@ says C "$c" "$g" '19 1 0 00000558' \
 says C "$c" "$g" '19 1 0 103000558' \
     'refused at line 4, column 8, byte 45: the ninth or tenth digit from the right is not allowed (13).\n  19 1 0 103000558\n         ^'
 says C "$c" "$g" "$i 0 a|b|c|d|e" \
-    "refused at line 4, column 19, byte 56: the text breaks the sheet's rules on its start, its parts, their length or bars (14).\n  $i 0 a|b|c|d|e\n                    ^"
+    "refused at line 4, column 19, byte 56: the text breaks the sheet's rules on its start, its parts, their length or their bytes (14).\n  $i 0 a|b|c|d|e\n                    ^"
+says P "$c" "$g" "$i 0 AV:a|b#" \
+    "refused at line 4, column 19, byte 110: the text holds # or ~, which the sheet does not take (14).\n  $i 0 AV:a|b#\n                    ^"
+says P "$c" "$g" "$i 0 AV:~" \
+    "refused at line 4, column 19, byte 110: the text holds # or ~, which the sheet does not take (14).\n  $i 0 AV:~\n                    ^"
+says P "$c" "$g" "$i 0 #" \
+    "refused at line 4, column 19, byte 110: the text holds # or ~, which the sheet does not take (14).\n  $i 0 #\n                    ^"
+says P "$c" "$g" "$i 0 AV:a|b|c|d|e" \
+    "refused at line 4, column 19, byte 110: the text breaks the sheet's rules on its start, its parts, their length or their bytes (14).\n  $i 0 AV:a|b|c|d|e\n                    ^"
+says P "$c" '2 19 2 010118' "$i" '3 +' \
+    "refused at line 3, column 6, byte 83: the group's total is not the sum of its items (10).\n  2 19 2 010118\n       ^"
+says K '1 1501 001001 0300' \
+    "refused at line 2, column 15, byte 73: the payer's bank is not the sheet's (8).\n  1 1501 001001 0300\n                ^
+note: the file names bank 0300, ČSOB, whose sheet is C or P; it was judged by sheet K, Komerční banka."
+says P "$k" \
+    "refused at line 2, column 15, byte 73: the payer's bank is not the sheet's (8).\n  $k\n                ^
+note: the file names bank 8100, Komerční banka, whose sheet is K; it was judged by sheet P, ČSOB, previous edition."
 
 # ---- what is shown of a line: letters, a mark where there is none, and a piece of a long one ----
 
@@ -220,7 +236,7 @@ says C "$c\\r$g\\r19 0 0 03000558\\r" \
     "refused at line 4, column 4, byte 41: the amount is zero or over the sheet's limit (6).\n  19 0 0 03000558\n     ^"
 far='000019-0000000019 000019-0000000019 00000000000001 0000000000 0003000558 0000000000 a|b|c|d|e'
 says C "$c" '2 1 010118' "$far" \
-    "refused at line 4, column 85, byte 119: the text breaks the sheet's rules on its start, its parts, their length or bars (14).
+    "refused at line 4, column 85, byte 119: the text breaks the sheet's rules on its start, its parts, their length or their bytes (14).
   ..$(printf %s "$far" | tail -c 72)\n$(printf '%67s' '')^"
 head_of K | sed "s/000000000000\$/$long/" >"$file"
 tell check "$file" --sheet K --day 2018-01-01
@@ -248,7 +264,7 @@ same_answer 'account file 1,001' 3 20180101
 # ---- an empty file, and standard input ----
 
 : >"$file"
-for letter in K S C E; do same_answer "an empty file, $letter" "$(number_of $letter)" 20180101; done
+for letter in K S C E P; do same_answer "an empty file, $letter" "$(number_of $letter)" 20180101; done
 tell check - --sheet C --day 2018-01-01 </dev/null
 check 'no standard input is an empty file' diff - "$work/out" <<END
 refused at line 1, column 1, byte 0: the file ends too early (3).
@@ -408,7 +424,7 @@ END
 tell show "$file" --sheet K --day 2018-01-01
 check 'and show shows what the bank will see' grep -q '"PĹ™Ă�liĹˇ" "kĹŻĹ�" "plain"$' "$work/out"
 says K "$k" "$g" "$i 0 AV:řřřřřřřřřřřřřřřřřř" \
-    "refused at line 4, column 19, byte 110: the text breaks the sheet's rules on its start, its parts, their length or bars (14).
+    "refused at line 4, column 19, byte 110: the text breaks the sheet's rules on its start, its parts, their length or their bytes (14).
   $i 0 AV:Ĺ™Ĺ™Ĺ™Ĺ™Ĺ™Ĺ™Ĺ™Ĺ™Ĺ™Ĺ™Ĺ™Ĺ™Ĺ™Ĺ™Ĺ™Ĺ™Ĺ™Ĺ™\n                    ^
 note: 1 text looks like UTF-8; the bank reads Windows-1250 and counts each byte, so letters with marks would come out as two others."
 
@@ -419,6 +435,15 @@ for sheet in s S 2 0800; do
     tell check "$file" --sheet "$sheet" --day 1.1.2018
     check "sheet $sheet" [ "$status" -eq 0 ]
 done
+# 0300 is C, and P, the edition before it, goes by its letter or number: its first line is P's, and its closing lines are C's
+for sheet in p P 5 c C 3 0300; do
+    case $sheet in p | P | 5) plus=' +' ;; *) plus='+' ;; esac
+    { head_of P; printf '%s\n%s\n%s\n3%s\n5%s\n' "$c" "$g" "$i" "$plus" "$plus"; } >"$file"
+    tell check "$file" --sheet "$sheet" --day 2018-01-01
+    check "sheet $sheet" [ "$status" -eq 0 ]
+done
+tell check "$file" --sheet P --day 2018-01-01
+check 'and on P the closing lines of C are refused' [ "$status" -eq 1 ]
 { printf 'UHL1\n%s\n2 19 1 %s\n%s\n3 +\n5 +\n' "$c" "$(date -u +%d%m%y)" "$i"; } >"$file"
 TZ=UTC0 abo check "$file" --sheet C --day today >"$work/out"
 check 'today is the day of the clock' [ "$(cat "$work/out")" = 'accepted, 1 payment, 0.01 crowns, 0 warnings' ]
@@ -436,7 +461,7 @@ $file: accepted, 2 collections, 50.02 crowns, 0 warnings
 $work/b file:1:5: refused at line 1, column 5, byte 4: the line ends too early, or a divider is missing (4).
   UHL1
       ^
-note: the file names bank 0300, ČSOB, whose sheet is C; it was judged by sheet S, Česká spořitelna.
+note: the file names bank 0300, ČSOB, whose sheet is C or P; it was judged by sheet S, Česká spořitelna.
 END
 check 'several files: the one that is not there' diff - "$work/err" <<END
 abo: $work/none cannot be read: No such file or directory.
@@ -599,8 +624,8 @@ wrong "The option -o was given twice. $how" rewrite "$file" --sheet C --day 2018
 wrong "A file with warnings is not rewritten anyway, so rewrite does not take --strict. $how" \
     rewrite "$file" --sheet C --day 2018-01-01 --strict
 wrong "Only rewrite takes --accept-warnings. $how" check "$file" --sheet C --day 2018-01-01 --accept-warnings
-for sheet in X 0 5 11 KS 81 0100 ''; do
-    wrong "The sheet $sheet is none of K, S, C or E, its number 1 to 4, or its bank's code 8100, 0800, 0300 or 6100. $how" \
+for sheet in X 0 6 11 KS 81 0100 ''; do
+    wrong "The sheet $sheet is none of K, S, C, E or P, its number 1 to 5, or its bank's code 8100, 0800, 0300 (for C) or 6100. $how" \
         check "$file" --sheet "$sheet" --day 2018-01-01
 done
 for day in 2018-1-1 01-01-2018 2018-01-01x '' 2018/01/01 2O18-01-01 1.1.18 1.1.2018. 201811 tomorrow; do
@@ -672,8 +697,8 @@ for option in $(grep -oE -e '(^| |\[)--?[a-z][a-z-]*' "$work/help" | tr -d ' [' 
     check "the page has $option" grep -qE -e "(^| )$option( |\$)" "$work/man"
 done
 for command in check show explain rewrite statement; do check "the page has $command" grep -qx "\.B abo $command" "$work/man"; done
-grep -oE ' [KSCE]  [0-9]{4}  .*' "$work/help" | sed 's/^ \(.\)  [0-9]*/\1/' | while read -r letter bank; do
-    grep -qE "^$letter  [1-4]  [0-9]{4}  $bank\$" "$work/man" || echo "$letter $bank"
+grep -oE ' [KSCEP]  [0-9]{4}  .*' "$work/help" | sed 's/^ \(.\)  [0-9]*/\1/' | while read -r letter bank; do
+    grep -qE "^$letter  [1-5]  [0-9]{4}  $bank\$" "$work/man" || echo "$letter $bank"
 done >"$work/lacking"
 check "the page has each sheet" [ ! -s "$work/lacking" ]
 if command -v groff >/dev/null; then

@@ -23,7 +23,7 @@ static const char words[] =
     "DAY     the day that the file is judged on: 2026-11-15, 15.11.2026, 20261115, or today by this machine's clock; a real day\n"
     "        of 2000 to 2099\n"
     "OUT     replaced when the new file is whole and on the disk, and only if FILE is accepted; - is standard output\n"
-    "SHEET   the bank whose rules hold, by its letter in either case, its number 1 to 4 or its code:\n";
+    "SHEET   the bank whose rules hold, by its letter in either case, its number 1 to 5 or its code, 0300 being C:\n";
 
 static const char rest[] =
     "\n"

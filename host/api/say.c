@@ -12,7 +12,7 @@
 #include "words.h"
 #include "small_batch.h"
 
-enum { KINDS = ABO_ROW_ITEM + 1, SHEETS = ABO_SHEET_E, S_ITEMS = 1000 };
+enum { KINDS = ABO_ROW_ITEM + 1, SHEETS = ABO_SHEET_P, S_ITEMS = 1000 };
 enum { TODAY = 20180101, ROOM = 1024, LONG = 36 };
 
 /* What no number, row, field, kind or sheet is. */
@@ -111,9 +111,11 @@ static void check_fields(void)
 
 /* ---- what the library refuses has words ---- */
 
-/* Bytes that texts lie in: `Wage`, with a name, with a bar, and too many. */
-static const char texts[] = "Wage NP:Jan|xxxxxxxxxxxxxxxxxxxxxxxxxxxxxxxxxxxx";
-enum { WITH_NAME = 11, WITH_BAR = 12 };
+/* Bytes that texts lie in: `Wage`, with a name, with a bar, with a mark, and too
+   many. */
+static const char texts[] =
+    "Wage NP:Jan|#~xxxxxxxxxxxxxxxxxxxxxxxxxxxxxxxxxxxx";
+enum { WITH_NAME = 11, WITH_BAR = 12, HASH = 12, TILDE = 13, FILLED = 14 };
 
 /* One word of a batch changed, and for a text the next one too. */
 struct change {
@@ -130,7 +132,8 @@ struct change {
 #define OF_TEXT(word, place, length) {ABO_ROW_ITEM, word, place, length}
 #define OF_PART(word)                                                         \
     OF_TEXT(word, 0, SMALL_TEXT), OF_TEXT(word, 0, WITH_NAME),                \
-        OF_TEXT(word, 0, WITH_BAR), OF_TEXT(word, WITH_BAR, LONG)
+        OF_TEXT(word, 0, WITH_BAR), OF_TEXT(word, FILLED, LONG),              \
+        OF_TEXT(word, HASH, 1), OF_TEXT(word, TILDE, 1)
 
 static const struct change changes[] = {
     OF_HEADER(ABO_HEADER_DATE, 20180230),
@@ -264,7 +267,7 @@ static void check_refused(void)
 /* The letter, and the bank's code as the library writes it. */
 static void check_sheets(void)
 {
-    static const char letters[] = "KSCE";
+    static const char letters[] = "KSCEP";
     union abo_row rows[SMALL_ROWS];
     struct abo_header header;
     uint8_t out[ROOM];

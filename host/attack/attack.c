@@ -362,7 +362,7 @@ static void attack_bulks(void)
         {.files = 1, .groups = 1001, .items = 1},
     };
     struct made made = {0};
-    for (unsigned sheet = K; sheet <= E; sheet++)
+    for (unsigned sheet = K; sheet <= LAST_SHEET; sheet++)
         for (unsigned i = 0; i < COUNT_OF(bulks); i++) {
             make_bulk(&made, sheet, &bulks[i]);
             attack_made("a file of many lines", &made, false);

@@ -163,7 +163,7 @@ int main(int argc, char **argv)
     struct seeds seeds = take_seeds(argc, argv, 0);
     struct made made = {0};
     catch_crashes();
-    for (unsigned sheet = K; sheet <= E; sheet++) {
+    for (unsigned sheet = K; sheet <= LAST_SHEET; sheet++) {
         test_bulks(seeds, sheet);
         for (unsigned i = first_step(seeds, sheet);
              corner_file(&made, sheet, i); i += seeds.step)

@@ -32,6 +32,14 @@ static bool ends_early(const struct input *file, const struct abo_answer *a)
     return a->number == ABO_BAD_ORDER && a->byte == file->len;
 }
 
+/* Does a line hold `#` or `~` from this byte of the file on? */
+static bool holds_unclean(const struct line *l, size_t from)
+{
+    const uint8_t *text = l->bytes + (from - l->at);
+    size_t len = l->len - (from - l->at);
+    return memchr(text, '#', len) != NULL || memchr(text, '~', len) != NULL;
+}
+
 /* What the number says, or more closely where the place or the sheet tells more. */
 static const char *reason(const struct input *file, const struct line *l, uint64_t sheet, const struct abo_answer *a)
 {
@@ -45,12 +53,14 @@ static const char *reason(const struct input *file, const struct line *l, uint64
                             : "the number's first three digits are outside the interval or were used before";
     if (a->number == ABO_BAD_TOTAL)
         return warns ? "the sum of the group's items has more than 14 digits" : "the group's total is not the sum of its items";
+    if (a->number == ABO_BAD_TEXT && sheet == ABO_SHEET_P && holds_unclean(l, (size_t)a->byte))
+        return "the text holds # or ~, which the sheet does not take";
     if (a->number == ABO_TOO_MANY)
         return starts(l, "1 ") ? "this account file is one more than a file may have" : "this item is one more than the sheet takes";
     return abo_say_number(a->number);
 }
 
-/* The sheet whose bank the file's first account file names, if that is known; else 0. */
+/* The first sheet whose bank the file's first account file names, if that is known; else 0. */
 static uint64_t named_sheet(const struct input *file)
 {
     enum { CODE = 4 };
@@ -64,15 +74,27 @@ static uint64_t named_sheet(const struct input *file)
     return 0;
 }
 
+/* The letters of a bank's sheets: C or P. */
+static void put_letters_of(FILE *to, const char *code)
+{
+    const struct abo_sheet_words *words;
+    const char *before = "";
+    for (uint64_t sheet = 1; (words = abo_say_sheet(sheet)) != NULL; sheet++)
+        if (strcmp(words->code, code) == 0) {
+            fprintf(to, "%s%c", before, words->letter);
+            before = " or ";
+        }
+}
+
 /* A file may be in order, and only be judged by another bank's rules. */
 static void note_other_sheet(FILE *to, const struct input *file, uint64_t sheet)
 {
-    uint64_t other = named_sheet(file);
-    const struct abo_sheet_words *words = abo_say_sheet(other), *asked = abo_say_sheet(sheet);
-    if (words == NULL || asked == NULL || other == sheet)
+    const struct abo_sheet_words *words = abo_say_sheet(named_sheet(file)), *asked = abo_say_sheet(sheet);
+    if (words == NULL || asked == NULL || strcmp(words->code, asked->code) == 0)
         return;
-    fprintf(to, "note: the file names bank %s, %s, whose sheet is %c; it was judged by sheet %c, %s.\n", words->code, words->bank,
-            words->letter, asked->letter, asked->bank);
+    fprintf(to, "note: the file names bank %s, %s, whose sheet is ", words->code, words->bank);
+    put_letters_of(to, words->code);
+    fprintf(to, "; it was judged by sheet %c, %s.\n", asked->letter, asked->bank);
 }
 
 size_t utf8_texts(const union abo_row *rows, size_t count, const uint8_t *file)

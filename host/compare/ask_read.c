@@ -11,7 +11,7 @@
 
 static struct fence fence;
 static struct room ours, theirs;
-unsigned long read_counts[E + 1][READ_NUMBERS];
+unsigned long read_counts[LAST_SHEET + 1][READ_NUMBERS];
 
 /* One call: lent bytes, what they were copied from, the other arguments. */
 struct ask {
@@ -108,7 +108,7 @@ static struct abo_answer ask_both(const struct ask *q)
     if (count_check(fault == NULL))
         show_fault(q, fault, &a, &p);
     if (p.number < READ_NUMBERS)
-        read_counts[q->sheet <= E ? q->sheet : 0][p.number]++;
+        read_counts[q->sheet <= LAST_SHEET ? q->sheet : 0][p.number]++;
     return p;
 }
 

@@ -6,11 +6,12 @@
 #include <abo.h>
 
 #include "../generate/generate.h"
+#include "../generate/limits.h"
 
 enum { READ_NUMBERS = ABO_NO_ROOM + 1 };
 
 /* How often each number came on each sheet; sheet 0 is no sheet. */
-extern unsigned long read_counts[5][READ_NUMBERS];
+extern unsigned long read_counts[LAST_SHEET + 1][READ_NUMBERS];
 
 /* None, then too little, exact and plenty if the file asks for rows, else
    any. */

@@ -88,7 +88,7 @@ int main(int argc, char **argv)
         generate(&made, seeds.first + i);
         compare_file("generated file", seeds.first + i, &made);
     }
-    for (unsigned sheet = K; sheet <= E; sheet++)
+    for (unsigned sheet = K; sheet <= LAST_SHEET; sheet++)
         for (unsigned i = first_step(seeds, sheet);
              corner_file(&made, sheet, i); i += seeds.step)
             compare_file("corner file", i, &made);

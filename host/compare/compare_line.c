@@ -173,7 +173,7 @@ int main(int argc, char **argv)
     catch_crashes();
     for (uint64_t i = 0; i < seeds.count; i++)
         compare_generated(&m, seeds.first + i);
-    for (unsigned sheet = K; sheet <= E; sheet++)
+    for (unsigned sheet = K; sheet <= LAST_SHEET; sheet++)
         compare_sheet(&m, seeds, sheet);
     compare_short_files(&m);
     text_free(&m.file);

@@ -29,7 +29,7 @@ static void compare_generated(struct seeds seeds)
 static void compare_special(struct seeds seeds)
 {
     struct made made = {0};
-    for (unsigned sheet = K; sheet <= E; sheet++) {
+    for (unsigned sheet = K; sheet <= LAST_SHEET; sheet++) {
         unsigned first = first_step(seeds, sheet);
         for (unsigned i = first; corner_file(&made, sheet, i); i += seeds.step)
             compare_file("corner file", i, &made);
@@ -86,12 +86,12 @@ static void compare_arguments(const struct made *made)
 static void compare_odd_calls(void)
 {
     struct made made = {0};
-    for (unsigned sheet = K; sheet <= E; sheet++) {
+    for (unsigned sheet = K; sheet <= LAST_SHEET; sheet++) {
         make_bulk(&made, sheet,
                   &(struct bulk){.files = 1, .groups = 1, .items = 1});
         compare_arguments(&made);
     }
-    for (uint64_t sheet = 0; sheet <= 5; sheet++)
+    for (uint64_t sheet = 0; sheet <= LAST_SHEET + 1; sheet++)
         for (uint64_t today = 0; today <= 20180101; today += 20180101)
             compare_call("no pointers", NULL, 0, sheet, today, 0);
     text_free(&made.file);
@@ -110,13 +110,13 @@ static bool can_come(unsigned sheet, unsigned number)
 static void report(struct seeds seeds)
 {
     bool tested = are_enough(seeds, ENOUGH);
-    printf("number     K       S       C       E       no sheet\n");
+    printf("number     K       S       C       E       P       no sheet\n");
     for (unsigned number = 0; number < READ_NUMBERS; number++) {
         printf("%6u", number);
-        for (unsigned i = 1; i <= E + 1; i++)
-            printf(" %7lu", read_counts[i % (E + 1)][number]);
+        for (unsigned i = 1; i <= LAST_SHEET + 1; i++)
+            printf(" %7lu", read_counts[i % (LAST_SHEET + 1)][number]);
         printf("\n");
-        for (unsigned sheet = 0; sheet <= E && tested; sheet++)
+        for (unsigned sheet = 0; sheet <= LAST_SHEET && tested; sheet++)
             if (can_come(sheet, number) &&
                 count_check(read_counts[sheet][number] > 0))
                 printf("failed: number %u never came on sheet %u\n", number,

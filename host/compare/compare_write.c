@@ -86,7 +86,7 @@ static void compare_bulks(struct seeds seeds)
         {.files = 1, .groups = 1, .items = 999},
     };
     struct made made = {0};
-    for (unsigned sheet = K; sheet <= E; sheet++)
+    for (unsigned sheet = K; sheet <= LAST_SHEET; sheet++)
         for (unsigned i = first_step(seeds, sheet); i < COUNT_OF(bulks);
              i += seeds.step) {
             make_bulk(&made, sheet, &bulks[i]);

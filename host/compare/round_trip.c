@@ -99,13 +99,14 @@ static bool is_tidy(const struct reading *r)
     return true;
 }
 
-/* A canonical file warns of nothing but C's past days, which are the batch's
-   own. */
+/* A canonical file warns of nothing but past days on C and P, which are the
+   batch's own. */
 static uint64_t due_warnings(const struct reading *r, uint64_t sheet,
                              uint64_t today)
 {
     uint64_t warnings = 0;
-    for (size_t row = 0; sheet == C && row < (size_t)r->answer.rows; row++)
+    for (size_t row = 0;
+         warns_of_past((unsigned)sheet) && row < (size_t)r->answer.rows; row++)
         warnings += word_of(r->rows, row, 0) == ABO_ROW_GROUP &&
                     word_of(r->rows, row, ABO_GROUP_DUE) < today;
     return warnings;

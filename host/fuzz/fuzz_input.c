@@ -1,8 +1,9 @@
 #include "fuzz_input.h"
 #include "../generate/days.h"
+#include "../generate/limits.h"
 #include "../generate/words.h"
 
-enum { HEAD = 5, WRITE_HEAD = 17, NAME = ABO_NAME_BYTES, ENOUGH_ROOM = 128, NO_SHEET = 5 };
+enum { HEAD = 5, WRITE_HEAD = 17, NAME = ABO_NAME_BYTES, ENOUGH_ROOM = 128, NO_SHEET = LAST_SHEET + 1 };
 
 /* The first byte's modulus, the bit of its quotient that makes an explanation
    the finding of a line, and the one that makes a batch a statement. */

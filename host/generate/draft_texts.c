@@ -6,7 +6,7 @@ static void put_run(struct pool *pool, struct dice *d)
     pool->runs[pool->run_count] = pool->texts->len;
     pool->run_lens[pool->run_count++] = len;
     for (size_t i = 0; i < len; i++) {
-        static const uint8_t edges[] = {' ', '!', '{', '}', '~', 128, 255,
+        static const uint8_t edges[] = {' ', '!', '{', '}', '$', 128, 255,
                                         ':', 'N', 'P', 'A', '0'};
         text_byte(pool->texts, one_in(d, 3) ? PICK(d, edges)
                                             : (uint8_t)between(d, 'a', 'z'));
@@ -17,7 +17,8 @@ static void put_mark(struct pool *pool, struct dice *d)
 {
     static const char *const marks[] = {" NP:", " NP:", " NP:", "|",  "|",
                                         "\001", "\037", "\177", "\n", "\r",
-                                        " NP",  "NP:",  "\200", "\t"};
+                                        " NP",  "NP:",  "\200", "\t",
+                                        "#",    "#",    "~",    "~"};
     pool->marks[pool->mark_count++] = pool->texts->len;
     text_words(pool->texts, PICK(d, marks));
 }

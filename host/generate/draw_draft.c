@@ -121,7 +121,7 @@ void draw_draft(struct draft *draft, uint64_t seed)
 {
     struct draft_plan p = {.dice = {seed}, .draft = draft};
     struct dice *d = &p.dice;
-    p.sheet = (unsigned)between(d, K, E);
+    p.sheet = (unsigned)between(d, K, LAST_SHEET);
     p.today = draw_today(d);
     p.dirty = one_in(d, 2);
     draw_faults(&p);

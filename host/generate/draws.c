@@ -127,14 +127,15 @@ static uint64_t draw_odd(struct dice *d, uint64_t real)
 void draw_arguments(struct dice *d, unsigned sheet, size_t today,
                     uint64_t *sheet_out, uint64_t *today_out)
 {
-    static const uint64_t sheets[] = {0, 5, 6, 7, UINT64_MAX};
+    static const uint64_t sheets[] = {0, LAST_SHEET + 1, LAST_SHEET + 2,
+                                      LAST_SHEET + 3, UINT64_MAX};
     static const uint64_t days[] = {0, 1, 19991231, 20000100, 20180132,
                                     20180229, 20181301, 21000101, 21000228,
                                     UINT64_MAX};
     *sheet_out = sheet;
     *today_out = day_at(today);
     if (one_in(d, 32))
-        *sheet_out = between(d, K, E);
+        *sheet_out = between(d, K, LAST_SHEET);
     if (one_in(d, 200))
         *sheet_out = one_in(d, 3) ? PICK(d, sheets) : draw_odd(d, sheet);
     if (one_in(d, 200))

@@ -23,7 +23,7 @@ static void put_wide(struct plan *p, uint64_t value, size_t most)
                 one_in(&p->dice, 2) ? own : between(&p->dice, own, most));
 }
 
-/* C: prefix and base joined, 11 to 16 digits. */
+/* C and P: prefix and base joined, 11 to 16 digits. */
 static void put_joined(struct plan *p, struct account_value a)
 {
     put_wide(p, a.prefix, 6);
@@ -33,7 +33,7 @@ static void put_joined(struct plan *p, struct account_value a)
 static void put_valid(struct plan *p)
 {
     struct account_value a = draw_account(&p->dice);
-    if (p->sheet == C && one_in(&p->dice, 4)) {
+    if (spells_long(p->sheet) && one_in(&p->dice, 4)) {
         put_joined(p, a);
     } else {
         /* A prefix of zeros only is one, too. */
@@ -74,7 +74,7 @@ void put_no_payer(struct plan *p)
         SPOIL(p, start, account_aims);
         zeros = p->out->len > start;
     }
-    /* On K and C the field is missing with its divider. */
-    if (zeros || p->sheet == S || p->sheet == E)
+    /* Elsewhere the field is missing with its divider. */
+    if (zeros || empty_payer(p->sheet))
         put_gap(p);
 }

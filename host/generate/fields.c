@@ -78,7 +78,7 @@ void put_total(struct plan *p, uint64_t sum)
     };
     size_t start = p->out->len;
     uint64_t total = sum <= MOST_SUM ? sum : sum % (MOST_SUM + 1);
-    if (one_in(&p->dice, 40)) /* K and S refuse it, C and E warn */
+    if (one_in(&p->dice, 40)) /* C and E warn, the others refuse it */
         total = one_in(&p->dice, 2) && total < MOST_SUM ? total + 1
                 : total > 0                             ? total - 1
                                                         : 1;
@@ -89,7 +89,7 @@ void put_total(struct plan *p, uint64_t sum)
 
 static void put_day(struct plan *p, size_t place)
 {
-    if (p->sheet == C && one_in(&p->dice, 3))
+    if (spells_long(p->sheet) && one_in(&p->dice, 3))
         text_number(p->out, day_at(place), 8);
     else
         text_number(p->out, short_day_at(place), 6);

@@ -28,7 +28,7 @@ static void put_closing(struct plan *p, char digit)
     static const char *const aims[] = {"+", " +", "", " ", " x", "+x", " + ",
                                        " +x", "  +", "+ ", "++", " ++", "x",
                                        " -", "-"};
-    bool tight = p->sheet >= C && one_in(&p->dice, 3);
+    bool tight = closes_tight(p->sheet) && one_in(&p->dice, 3);
     size_t start = p->out->len, mark;
     text_byte(p->out, (uint8_t)digit);
     mark = p->out->len;
@@ -114,7 +114,7 @@ void generate(struct made *made, uint64_t seed)
 {
     struct plan p = {.dice = {seed}, .out = &made->file};
     struct dice *d = &p.dice;
-    p.sheet = (unsigned)between(d, K, E);
+    p.sheet = (unsigned)between(d, K, LAST_SHEET);
     p.today = draw_today(d);
     p.ends = (enum line_ends)below(d, 4);
     draw_faults(&p);

@@ -3,12 +3,22 @@
 #ifndef HOST_LIMITS_H
 #define HOST_LIMITS_H
 
+#include <stdbool.h>
+
 #include <abo.h>
 
 #include "days.h"
 
-/* Short, since the generators name little else. */
-enum { K = ABO_SHEET_K, S = ABO_SHEET_S, C = ABO_SHEET_C, E = ABO_SHEET_E };
+/* Short, since the generators name little else.  Whatever goes through all
+   sheets goes from K to LAST_SHEET. */
+enum {
+    K = ABO_SHEET_K,
+    S = ABO_SHEET_S,
+    C = ABO_SHEET_C,
+    E = ABO_SHEET_E,
+    P = ABO_SHEET_P,
+    LAST_SHEET = P
+};
 
 /* The most that a group's sum may be, and an item on S and E. */
 #define MOST_SUM UINT64_C(99999999999999)
@@ -24,21 +34,45 @@ static inline const char *payer_bank(unsigned sheet)
 {
     return sheet == K   ? "8100"
            : sheet == S ? "0800"
-           : sheet == C ? "0300"
-                        : "6100";
+           : sheet == E ? "6100"
+                        : "0300";
 }
 
 /* The kinds are 1501 and so many in all. */
 static inline unsigned kinds_of(unsigned sheet)
 {
-    return sheet == C ? 4 : sheet == S ? 2 : 1;
+    return sheet == C ? 4 : sheet == S || sheet == P ? 2 : 1;
+}
+
+/* C and P: accounts may be joined, and due dates may have eight digits. */
+static inline bool spells_long(unsigned sheet)
+{
+    return sheet == C || sheet == P;
+}
+
+/* A due day that is past is taken with a warning. */
+static inline bool warns_of_past(unsigned sheet)
+{
+    return sheet == C || sheet == P;
+}
+
+/* `3+` and `5+` close too. */
+static inline bool closes_tight(unsigned sheet)
+{
+    return sheet == C || sheet == E;
+}
+
+/* A group always has its payer's field, which is empty where there is none. */
+static inline bool empty_payer(unsigned sheet)
+{
+    return sheet == S || sheet == E;
 }
 
 /* First and last day that may be due; days are places in the list of days. */
 static inline void due_days(unsigned sheet, size_t today, size_t *first,
                             size_t *last)
 {
-    size_t ahead = sheet == K ? 364 : sheet == C ? 365 : DAYS;
+    size_t ahead = sheet == K ? 364 : sheet == C || sheet == P ? 365 : DAYS;
     *first = sheet == K || sheet == S ? today : 0;
     *last = today + ahead < DAYS ? today + ahead : DAYS - 1;
 }

@@ -150,7 +150,7 @@ static const struct kind kinds[] = {
 static const struct kind *kind_of(const char *name, unsigned sheet)
 {
     for (size_t i = 0; i < COUNT_OF(kinds); i++)
-        if (strcmp(kinds[i].name, name) == 0 && sheet >= K && sheet <= E)
+        if (strcmp(kinds[i].name, name) == 0 && sheet >= K && sheet <= LAST_SHEET)
             return kinds[i].put_item == put_cut && sheet != C ? NULL
                                                               : &kinds[i];
     return NULL;
@@ -176,7 +176,7 @@ static void put_group(struct text *t, const struct pool *p, bool single,
     text_words(t, "2 ");
     if (!single)
         text_words(t, "19-5152046 ");
-    else if (sheet == S || sheet == E)
+    else if (empty_payer(sheet))
         text_byte(t, ' ');
     text_number(t, sum, 1);
     text_words(t, " 020118\r\n");

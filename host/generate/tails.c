@@ -17,17 +17,29 @@ static uint8_t text_byte_of(struct dice *d)
     }
 }
 
-/* Text bytes, none of them a bar.  If spoilt, one is no text byte. */
+/* Puts one of these bytes over one of those that were put since a place. */
+static void put_over(struct plan *p, size_t start, const uint8_t *bytes,
+                     size_t count)
+{
+    size_t at = start + below(&p->dice, p->out->len - start);
+    p->out->data[at] = bytes[below(&p->dice, count)];
+}
+
+/* Text bytes, none of them a bar, and on P neither `#` nor `~`.  If spoilt, one
+   is no text byte, or one is such a mark. */
 static void put_run(struct plan *p, size_t len)
 {
     static const uint8_t wrong[] = {0, 1, 9, 11, 12, 27, 31, 127};
+    static const uint8_t unclean[] = {'#', '~'};
     size_t start = p->out->len;
-    for (size_t i = 0; i < len; i++)
-        text_byte(p->out, text_byte_of(&p->dice));
-    if (len > 0 && spoils(p, AT_RUN)) {
-        size_t at = start + below(&p->dice, len);
-        p->out->data[at] = PICK(&p->dice, wrong);
+    for (size_t i = 0; i < len; i++) {
+        uint8_t byte = text_byte_of(&p->dice);
+        text_byte(p->out, p->sheet == P && (byte == '#' || byte == '~') ? '$' : byte);
     }
+    if (len > 0 && spoils(p, AT_UNCLEAN))
+        put_over(p, start, unclean, COUNT_OF(unclean));
+    if (len > 0 && spoils(p, AT_RUN))
+        put_over(p, start, wrong, COUNT_OF(wrong));
 }
 
 /* Lengths up to the limit; C cuts what is longer, the others refuse it. */
@@ -40,13 +52,25 @@ static size_t draw_length(struct plan *p)
     return PICK(&p->dice, right);
 }
 
+/* On P ` NP:` may stand in a part, which C reads as a name. */
+static void put_part(struct plan *p)
+{
+    size_t len = draw_length(p);
+    if (len <= 31 && (spoils(p, AT_MARK) || (p->sheet == P && one_in(&p->dice, 12)))) {
+        put_run(p, len / 2);
+        text_words(p->out, " NP:");
+        len -= len / 2;
+    }
+    put_run(p, len);
+}
+
 static void put_parts(struct plan *p)
 {
     size_t parts = spoils(p, AT_PARTS) ? 5 : between(&p->dice, 1, 4);
     for (size_t i = 0; i < parts; i++) {
         if (i > 0)
             text_byte(p->out, '|');
-        put_run(p, draw_length(p));
+        put_part(p);
     }
 }
 
@@ -134,7 +158,8 @@ void put_tail(struct plan *p)
         "", " ", "  ", "   ", " 17", " 17 ", " 17  ", " 17 AV:", " AV:led",
         " 17 led", " 17led", " 1234567890", " 12345678901", " 12345678901 ",
         "  led", " 0  ", "  a|b", " 17 AV:a|b|c|d", " 17 AV:a|b|c|d|e",
-        " 1 AV:||||", " 1 AV:|||", " 1  AV:x", " 1 AV:\001", " 1 NP:Jan",
+        " 1 AV:||||", " 1 AV:#", " 1 AV:a|b~", " 1 AV:#\037", " 1 AV:a NP:b#",
+        " 1 AV:|||", " 1  AV:x", " 1 AV:\001", " 1 NP:Jan",
         " 1 AV: NP:Jan", " 1 AV:NP:Jan", " NP:", " NP:Jan NP:K", " AV:a NP:",
         " 1 AV:a|b|c|d NP:e|f", " 1 AV:a|b|c|d| NP:e", " 1 a NP:b NP:c",
         " 1 |||", " |", " | NP:", " 17\tled", " 17 \177", " led\037", " -1",

@@ -22,7 +22,7 @@ static const char usage[] =
     "           variable symbol, and came back if a reversed debit has them too\n"
     "ENCODING   of the ledger: utf-8, which is taken if none is given, or cp1250 (also windows-1250). Banks read Windows-1250,\n"
     "           and that is what is written\n"
-    "SHEET      the bank's rules, by letter in either case, by number 1 to 4, or by the bank's code:\n"
+    "SHEET      the bank's rules, by letter in either case, by number 1 to 5, or by the bank's code, 0300 being C:\n"
     "\n";
 
 static const char status[] =

@@ -68,7 +68,7 @@ same_as_expected() { # FILE MARK NUMBER: what was said is what the case has
 
 # ---- ledgers that become files, and files that are read again ----
 
-for sheet in K S C E; do
+for sheet in K S C E P; do
     write_case "pond_$sheet" pond $sheet
     cp "$work/out" "$work/first"
     # what was written is shown the same when it is read from the disk
@@ -80,9 +80,12 @@ done
 write_case bad_account_K bad_account K
 write_case bad_message_C bad_message C
 write_case bad_day_K bad_day K
+write_case hash_P hash P
 # the same ledgers where they are no fault: another sheet carries the message, and C only warns of the day, in two places
 write_case message_E bad_message E
+write_case message_P bad_message P
 write_case past_day_C bad_day C
+write_case hash_C hash C
 
 # ---- which payments have left the account ----
 
