@@ -22,10 +22,11 @@ use Rattle.paper.specs.Numerals.{digits}
 use Rattle.paper.specs.Days.{shortDay, readDue, dueWarnings}
 use Rattle.paper.specs.Accounts.{Account, nobody, readAccount, readPayer}
 use Rattle.paper.specs.Amounts.{readTotal, readItemAmount}
-use Rattle.paper.specs.BankField.{Bank, readBank}
+use Rattle.paper.specs.BankField.{Bank, readDueBank}
 use Rattle.paper.specs.Texts.{Noted, readText}
 use Rattle.paper.specs.Batch.{noHeader}
 use Rattle.paper.specs.Entries.{Entry, head, file, group, item, closeGroup, closeFile, Places, totalAt, Listed, said, plain, no, Kind, headLine, fileLine, groupLine, itemLine, groupEnd, fileEnd, onField, field, place, gap, lineEnd}
+use Rattle.paper.specs.Terms.{dayHere, bankDue}
 use Rattle.paper.specs.FirstLine.{textField, readTo, readRest, readFirst}
 use Rattle.paper.specs.FileLine.{readKind, readNumber, readCode, readFile}
 use Rattle.paper.specs.GroupLine.{totalAndDate, readGroup}
@@ -43,25 +44,44 @@ Read read v = (f : List ℕ) × (read f ≡ value v)
 abbrev pub Refuses : {A : Type 0} → (List ℕ → Field A) → ℕ → Type 0
 Refuses read n = (f : List ℕ) × (read f ≡ fault n)
 
+-- what a line is asked besides: the refusal that an account file's number gets, whether a group's day is judged here, which payee banks may be
+-- due, and whether the group is single
+pub record Asked : Type 0 where
+  pub number : ℕ → ℕ
+  pub here : Bool
+  pub due : ℕ → Bool
+  pub single : Bool
+
+abbrev pub asking : (ℕ → ℕ) → Bool → (ℕ → Bool) → Bool → Asked
+asking number here due single = record { number = number; here = here; due = due; single = single }
+
+-- nothing but the number
+abbrev pub askingNumber : (ℕ → ℕ) → Asked
+askingNumber number = asking number false (λ _. true) false
+
+-- in its context
+abbrev pub askedIn : Sheet → ℕ → Context → Asked
+askedIn sh today c = asking (numberTest sh (c .numbers)) (dayHere sh (c .kind)) (bankDue sh today (c .kind) (c .date)) (c .single)
+
 -- a line is refused by 4 for its form, or with the number of one of its fields
-pub data Blamed (sh : Sheet) (today : ℕ) (test : ℕ → ℕ) : ℕ → Type 0 where
-  form : Blamed sh today test 4
-  by-digits : (few most : ℕ) {n : ℕ} → Refuses (digits few most) n → Blamed sh today test n
-  by-day : {n : ℕ} → Refuses shortDay n → Blamed sh today test n
-  by-name : {n : ℕ} → Refuses textField n → Blamed sh today test n
-  by-to : (from : ℕ) {n : ℕ} → Refuses (readTo (sh .interval) from) n → Blamed sh today test n
-  by-rest : {n : ℕ} → Refuses (readRest (sh .short)) n → Blamed sh today test n
-  by-kind : {n : ℕ} → Refuses (readKind sh) n → Blamed sh today test n
-  by-number : {n : ℕ} → Refuses (readNumber test) n → Blamed sh today test n
-  by-code : {n : ℕ} → Refuses (readCode sh) n → Blamed sh today test n
-  by-payer : {n : ℕ} → Refuses (readPayer (sh .emptypayer) (sh .zeropayer) (sh .joined) (sh .basemin)) n → Blamed sh today test n
-  by-total : {n : ℕ} → Refuses (readTotal (sh .comma)) n → Blamed sh today test n
-  by-due : {n : ℕ} → Refuses (readDue (sh .longdate) (sh .early) (sh .ahead) today) n → Blamed sh today test n
-  by-account : {n : ℕ} → Refuses (readAccount (sh .joined) (sh .basemin)) n → Blamed sh today test n
-  by-amount : {n : ℕ} → Refuses (readItemAmount (sh .comma) (sh .itemdigits) (sh .itemmax)) n → Blamed sh today test n
-  by-bank : {n : ℕ} → Refuses (readBank (sh .priority)) n → Blamed sh today test n
-  by-symbol : {n : ℕ} → Refuses readSymbolOrNone n → Blamed sh today test n
-  by-text : (at : ℕ) {n : ℕ} → Refuses (readText (sh .text) at) n → Blamed sh today test n
+pub data Blamed (sh : Sheet) (today : ℕ) (a : Asked) : ℕ → Type 0 where
+  form : Blamed sh today a 4
+  by-digits : (few most : ℕ) {n : ℕ} → Refuses (digits few most) n → Blamed sh today a n
+  by-day : {n : ℕ} → Refuses shortDay n → Blamed sh today a n
+  by-name : {n : ℕ} → Refuses textField n → Blamed sh today a n
+  by-to : (from : ℕ) {n : ℕ} → Refuses (readTo (sh .interval) from) n → Blamed sh today a n
+  by-rest : {n : ℕ} → Refuses (readRest (sh .short)) n → Blamed sh today a n
+  by-kind : {n : ℕ} → Refuses (readKind sh) n → Blamed sh today a n
+  by-number : {n : ℕ} → Refuses (readNumber (a .number)) n → Blamed sh today a n
+  by-code : {n : ℕ} → Refuses (readCode sh) n → Blamed sh today a n
+  by-payer : {n : ℕ} → Refuses (readPayer (sh .emptypayer) (sh .zeropayer) (sh .joined) (sh .basemin)) n → Blamed sh today a n
+  by-total : {n : ℕ} → Refuses (readTotal (sh .comma)) n → Blamed sh today a n
+  by-due : {n : ℕ} → Refuses (readDue (sh .longdate) (a .here) (sh .early) (sh .ahead) today) n → Blamed sh today a n
+  by-account : {n : ℕ} → Refuses (readAccount (sh .joined) (sh .basemin)) n → Blamed sh today a n
+  by-amount : {n : ℕ} → Refuses (readItemAmount (sh .comma) (sh .itemdigits) (sh .itemmax)) n → Blamed sh today a n
+  by-bank : {n : ℕ} → Refuses (readDueBank (sh .priority) (a .due)) n → Blamed sh today a n
+  by-symbol : {n : ℕ} → Refuses readSymbolOrNone n → Blamed sh today a n
+  by-text : (at : ℕ) {n : ℕ} → Refuses (readText (sh .text) at) n → Blamed sh today a n
 
 -- a payer where one stands, and nobody elsewhere
 pub data Payer (read : List ℕ → Field Account) : Bool → Account → Type 0 where
@@ -80,35 +100,35 @@ pub data Text (y : Style) (w : List ℕ) : Noted → Type 0 where
 
 -- What the line w says where it is read as of a kind. A refusal's offset lies in the line, if that is as long as its kind asks for, and so
 -- does that of a group's total.
-pub data LineSays (sh : Sheet) (today : ℕ) (test : ℕ → ℕ) (single : Bool) (w : List ℕ) : Kind → Listed → Type 0 where
-  no-header : sh .header ≡ false → LineSays sh today test single w headLine (plain (head noHeader))
+pub data LineSays (sh : Sheet) (today : ℕ) (a : Asked) (w : List ℕ) : Kind → Listed → Type 0 where
+  no-header : sh .header ≡ false → LineSays sh today a w headLine (plain (head noHeader))
   a-header : {date client from to : ℕ} {name : List ℕ} → sh .header ≡ true → Read shortDay date → (t : Read textField name) → length (t .0) ≡ 20
       → Read (digits 10 10) client → Read (digits 3 3) from → Read (readTo (sh .interval) from) to
-      → LineSays sh today test single w headLine (plain (head (record { date = date; name = name; client = client; from = from; to = to })))
-  a-file : {kind number code : ℕ} (k : Read (readKind sh) kind) (n : Read (readNumber test) number) → Read (readCode sh) code
-      → length (k .0) + length (n .0) ≤ length (drop 2 w) → LineSays sh today test single w fileLine (plain (file kind number))
-  a-group : {named : Bool} {payer : Account} {total date at : ℕ} (due : ℕ)
+      → LineSays sh today a w headLine (plain (head (record { date = date; name = name; client = client; from = from; to = to })))
+  a-file : {kind number code : ℕ} (k : Read (readKind sh) kind) (n : Read (readNumber (a .number)) number) → Read (readCode sh) code
+      → length (k .0) + length (n .0) ≤ length (drop 2 w) → LineSays sh today a w fileLine (plain (file kind number))
+  a-group : {named : Bool} {payer : Account} {total date at : ℕ} (spot : ℕ)
       → Payer (readPayer (sh .emptypayer) (sh .zeropayer) (sh .joined) (sh .basemin)) named payer → Read (readTotal (sh .comma)) total
-      → (d : Read (readDue (sh .longdate) (sh .early) (sh .ahead) today) date) → suc (length (d .0)) ≤ length (drop 2 w) → (2 ≤ length w → at ≤ length w)
-      → LineSays sh today test single w groupLine (said (group payer total date) (notices pastDay due (dueWarnings (sh .warnpast) today date)) (totalAt at))
+      → (d : Read (readDue (sh .longdate) (a .here) (sh .early) (sh .ahead) today) date) → suc (length (d .0)) ≤ length (drop 2 w) → (2 ≤ length w → at ≤ length w)
+      → LineSays sh today a w groupLine (said (group payer total date) (notices pastDay spot (dueWarnings (a .here) (sh .warnpast) today date)) (totalAt at))
   an-item : {payer payee : Account} {amount variable specific : ℕ} {bank : Bank} {texts : Noted} (at : ℕ)
-      → Payer (readAccount (sh .joined) (sh .basemin)) single payer → Read (readAccount (sh .joined) (sh .basemin)) payee
+      → Payer (readAccount (sh .joined) (sh .basemin)) (a .single) payer → Read (readAccount (sh .joined) (sh .basemin)) payee
       → Read (readItemAmount (sh .comma) (sh .itemdigits) (sh .itemmax)) amount → Read readSymbol variable
-      → (b : Read (readBank (sh .priority)) bank) → length (b .0) ≤ length w → Symbol specific → Text (sh .text) w texts
-      → LineSays sh today test single w itemLine
+      → (b : Read (readDueBank (sh .priority) (a .due)) bank) → length (b .0) ≤ length w → Symbol specific → Text (sh .text) w texts
+      → LineSays sh today a w itemLine
       (said (item (itemOf payer payee amount variable specific bank texts)) (notices lowPriority at (bank .warnings) ++ texts .warnings) (places texts))
-  a-group-end : LineSays sh today test single w groupEnd (plain closeGroup)
-  a-file-end : LineSays sh today test single w fileEnd (plain closeFile)
-  refused : {kind : Kind} {n off : ℕ} → Blamed sh today test n → (least kind ≤ length w → off ≤ length w) → LineSays sh today test single w kind (no n off)
+  a-group-end : LineSays sh today a w groupEnd (plain closeGroup)
+  a-file-end : LineSays sh today a w fileEnd (plain closeFile)
+  refused : {kind : Kind} {n off : ℕ} → Blamed sh today a n → (least kind ≤ length w → off ≤ length w) → LineSays sh today a w kind (no n off)
 
 -- ---- fields from left to right
 
-module _ (sh : Sheet) (today : ℕ) (test : ℕ → ℕ) (single : Bool) (w : List ℕ) where
+module _ (sh : Sheet) (today : ℕ) (a : Asked) (w : List ℕ) where
   abbrev Line : Kind → Listed → Type 0
-  Line = LineSays sh today test single w
+  Line = LineSays sh today a w
 
   abbrev Why : ℕ → Type 0
-  Why = Blamed sh today test
+  Why = Blamed sh today a
 
   module _ (kind : Kind) where
     -- an offset lies in the line, if that is long enough
@@ -182,26 +202,26 @@ module _ (sh : Sheet) (today : ℕ) (test : ℕ → ℕ) (single : Bool) (w : Li
       a-header yes f1 f2 long f3 f4 f5)
       no-header
 
-  pub file-says : Line fileLine (readFile sh test w)
+  pub file-says : Line fileLine (readFile sh (a .number) w)
   unfolding readFile
   file-says =
       fields fileLine (readKind sh) 2 (drop 2 w) (refl, λ k. k) (λ n. by-kind) λ kind a1 s1 f1 n1 l1.
       gaps fileLine a1 s1 l1 λ a2 s2 n2 l2.
-      fields fileLine (readNumber test) a2 s2 l2 (λ n. by-number) λ number a3 s3 f3 n3 l3.
+      fields fileLine (readNumber (a .number)) a2 s2 l2 (λ n. by-number) λ number a3 s3 f3 n3 l3.
       gaps fileLine a3 s3 l3 λ a4 s4 n4 l4.
       fields fileLine (readCode sh) a4 s4 l4 (λ n. by-code) λ code a5 s5 f5 n5 l5.
       ends fileLine a5 s5 l5 (a-file f1 f3 f5 (omega arith))
 
   total-says : {named : Bool} {payer : Account} → Payer (readPayer (sh .emptypayer) (sh .zeropayer) (sh .joined) (sh .basemin)) named payer
-      → (at : ℕ) (s : List ℕ) → Left groupLine at s → length s ≤ length (drop 2 w) → Line groupLine (totalAndDate sh today payer at s)
+      → (at : ℕ) (s : List ℕ) → Left groupLine at s → length s ≤ length (drop 2 w) → Line groupLine (totalAndDate sh today (a .here) payer at s)
   unfolding totalAndDate
   total-says p at s l few =
       fields groupLine (readTotal (sh .comma)) at s l (λ n. by-total) λ total a1 s1 f1 n1 l1.
       gaps groupLine a1 s1 l1 λ a2 s2 n2 l2.
-      fields groupLine (readDue (sh .longdate) (sh .early) (sh .ahead) today) a2 s2 l2 (λ n. by-due) λ date a3 s3 f3 n3 l3.
+      fields groupLine (readDue (sh .longdate) (a .here) (sh .early) (sh .ahead) today) a2 s2 l2 (λ n. by-due) λ date a3 s3 f3 n3 l3.
       ends groupLine a3 s3 l3 (a-group a2 p f1 f3 (omega arith) (l .1))
 
-  pub group-says : Line groupLine (readGroup sh today w)
+  pub group-says : Line groupLine (readGroup sh today (a .here) w)
   unfolding readGroup
   group-says =
       either (Line groupLine) _
@@ -245,8 +265,8 @@ module _ (sh : Sheet) (today : ℕ) (test : ℕ → ℕ) (single : Bool) (w : Li
   unfolding tail
   tail-says at s l h = either (Line itemLine) (sh .fixedtail) (λ _. fixed-says h at s l) (λ _. open-says h (sh .bare) at s l)
 
-  payee-says : {payer : Account} → Payer (readAccount (sh .joined) (sh .basemin)) single payer → (at : ℕ) (s : List ℕ) → Left itemLine at s
-      → Line itemLine (fromPayee sh payer at s)
+  payee-says : {payer : Account} → Payer (readAccount (sh .joined) (sh .basemin)) (a .single) payer → (at : ℕ) (s : List ℕ) → Left itemLine at s
+      → Line itemLine (fromPayee sh (a .due) payer at s)
   unfolding fromPayee
   payee-says p at s l =
       fields itemLine (readAccount (sh .joined) (sh .basemin)) at s l (λ n. by-account) λ payee a1 s1 f1 n1 l1.
@@ -255,7 +275,7 @@ module _ (sh : Sheet) (today : ℕ) (test : ℕ → ℕ) (single : Bool) (w : Li
       gaps itemLine a3 s3 l3 λ a4 s4 n4 l4.
       fields itemLine readSymbol a4 s4 l4 (λ n. by-digits 1 10) λ variable a5 s5 f5 n5 l5.
       gaps itemLine a5 s5 l5 λ a6 s6 n6 l6.
-      fields itemLine (readBank (sh .priority)) a6 s6 l6 (λ n. by-bank) λ bank a7 s7 f7 n7 l7.
+      fields itemLine (readDueBank (sh .priority) (a .due)) a6 s6 l6 (λ n. by-bank) λ bank a7 s7 f7 n7 l7.
       tail-says a7 s7 l7 λ specific texts q t.
       an-item a6 p f1 f3 f5 f7 (omega (arith, ap length (l6 .0), length-drop a6 w)) q t
 
@@ -266,30 +286,31 @@ module _ (sh : Sheet) (today : ℕ) (test : ℕ → ℕ) (single : Bool) (w : Li
   file-end-says = closes fileEnd (sh .near) closeFile (λ k. k) a-file-end
 
 -- the payer's account comes first where the group is single
-module _ (sh : Sheet) (today : ℕ) (test : ℕ → ℕ) where
-  pub item-says : (single : Bool) (w : List ℕ) → LineSays sh today test single w itemLine (readItem sh single w)
+module _ (sh : Sheet) (today : ℕ) (test : ℕ → ℕ) (here : Bool) (due : ℕ → Bool) where
+  pub item-says : (single : Bool) (w : List ℕ) → LineSays sh today (asking test here due single) w itemLine (readItem sh due single w)
   unfolding readItem pick
   item-says true w =
-      fields sh today test true w itemLine (readAccount (sh .joined) (sh .basemin)) 0 w (refl, λ _. omega arith) (λ n. by-account) λ payer a1 s1 f1 n1 l1.
-      gaps sh today test true w itemLine a1 s1 l1 λ a2 s2 n2 l2.
-      payee-says sh today test true w (stands f1) a2 s2 l2
-  item-says false w = payee-says sh today test false w lacks 0 w (refl, λ _. omega arith)
+      let a = asking test here due true in
+      fields sh today a w itemLine (readAccount (sh .joined) (sh .basemin)) 0 w (refl, λ _. omega arith) (λ n. by-account) λ payer a1 s1 f1 n1 l1.
+      gaps sh today a w itemLine a1 s1 l1 λ a2 s2 n2 l2.
+      payee-says sh today a w (stands f1) a2 s2 l2
+  item-says false w = payee-says sh today (asking test here due false) w lacks 0 w (refl, λ _. omega arith)
 
 -- a line that is read as of a kind
-pub says : (sh : Sheet) (today : ℕ) (c : Context) (kind : Kind) (w : List ℕ) → LineSays sh today (numberTest sh (c .numbers)) (c .single) w kind (readAs sh today c kind w)
+pub says : (sh : Sheet) (today : ℕ) (c : Context) (kind : Kind) (w : List ℕ) → LineSays sh today (askedIn sh today c) w kind (readAs sh today c kind w)
 unfolding readAs
-says sh today c headLine w = first-says sh today _ _ w
-says sh today c fileLine w = file-says sh today _ _ w
-says sh today c groupLine w = group-says sh today _ _ w
-says sh today c itemLine w = item-says sh today _ _ w
-says sh today c groupEnd w = group-end-says sh today _ _ w
-says sh today c fileEnd w = file-end-says sh today _ _ w
+says sh today c headLine w = first-says sh today _ w
+says sh today c fileLine w = file-says sh today _ w
+says sh today c groupLine w = group-says sh today _ w
+says sh today c itemLine w = item-says sh today _ _ _ _ w
+says sh today c groupEnd w = group-end-says sh today _ w
+says sh today c fileEnd w = file-end-says sh today _ w
 
 -- ---- a refusal's offset lies in its line, and so does that of a group's total
 
-module _ {sh : Sheet} {today : ℕ} {test : ℕ → ℕ} {single : Bool} {w : List ℕ} where
-  pub refusal-in : {kind : Kind} {n off : ℕ} → LineSays sh today test single w kind (no n off) → least kind ≤ length w → off ≤ length w
+module _ {sh : Sheet} {today : ℕ} {a : Asked} {w : List ℕ} where
+  pub refusal-in : {kind : Kind} {n off : ℕ} → LineSays sh today a w kind (no n off) → least kind ≤ length w → off ≤ length w
   refusal-in (refused _ l) h = l h
 
-  pub total-in : {kind : Kind} {a : Account} {t d : ℕ} {v : List Notice} {q : Places} → LineSays sh today test single w kind (said (group a t d) v q) → 2 ≤ length w → q .total ≤ length w
+  pub total-in : {kind : Kind} {p : Account} {t d : ℕ} {v : List Notice} {q : Places} → LineSays sh today a w kind (said (group p t d) v q) → 2 ≤ length w → q .total ≤ length w
   total-in (a-group _ _ _ _ _ l) h = l h

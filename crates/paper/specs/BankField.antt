@@ -29,6 +29,10 @@ readBank ranked s =
     pick (eqb (n / 10000 % 10000) 0) (fault 12)
     (pick (ltb 999999999 n) (fault 13) (ninth ranked (n / 100000000) (n / 10000 % 10000) (n % 10000)))
 
+-- Document 02, W-202: then 11 for a bank that may not be due on the group's day
+unfoldable pub readDueBank : Bool → (ℕ → Bool) → List ℕ → Field Bank
+readDueBank ranked due s = given (readBank ranked s) λ b. pick (due (b .bank)) (value b) (fault 11)
+
 -- "The batch": a payee bank is 1 to 9999
 unfoldable pub bankProper : ℕ → Bool
 bankProper b = pick (ltb b 1) false (leb b 9999)

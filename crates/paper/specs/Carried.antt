@@ -9,6 +9,7 @@ use Rattle.sheet.specs.declared.Sheet.{Sheet}
 use Rattle.sheet.specs.declared.Style.{Style}
 use Rattle.sheet.specs.Sheets.{kindAllowed}
 use Rattle.paper.specs.Days.{dueAllowed}
+use Rattle.paper.specs.Terms.{dayHere, bankDue}
 use Rattle.paper.specs.Amounts.{amountProper}
 use Rattle.paper.specs.BankField.{priorityCarried}
 use Rattle.paper.specs.Texts.{partCarried, nameCarried}
@@ -33,20 +34,45 @@ itemCarried sh k x rest =
     (partsCarriedFrom (sh .text) k 11 0 (x .parts)
     (check k 19 (nameCarried (sh .text) (x .name)) rest)))
 
--- The rows from row k on: n items stand before them in the file, and account files with numbers that begin with `seen`. An account
--- file's kind and number, a group's due day, item 1,001 of S at its kind, an item's amount, priority, parts and name.
-unfoldable pub rowsCarried : Sheet → ℕ → Header → ℕ → ℕ → List ℕ → List Thing → Verdict
-rowsCarried sh today h k n seen [] = fine
-rowsCarried sh today h k n seen (aFile kind number ∷ ts) =
-    check k 1 (kindAllowed sh kind)
-    (check k 2 (numberAllowed (sh .interval) h seen number)
-    (rowsCarried sh today h (suc k) n (series number ∷ seen) ts))
-rowsCarried sh today h k n seen (aGroup date payer ∷ ts) =
-    check k 1 (dueAllowed (sh .early) (sh .ahead) today date) (rowsCarried sh today h (suc k) n seen ts)
-rowsCarried sh today h k n seen (anItem x ∷ ts) =
-    check k 0 (ltb n (sh .fileitems)) (itemCarried sh k x (rowsCarried sh today h (suc k) (suc n) seen ts))
-rowsCarried sh today h k n seen (strange ∷ ts) = wrong k 0
+-- where rows stand: how many items are before them in the file, the first three digits of account files' numbers before them, and the kind and
+-- the due date of the account file and the group at hand, 0 where there is none
+pub record Place : Type 0 where
+  pub items : ℕ
+  pub seen : List ℕ
+  pub kind : ℕ
+  pub date : ℕ
 
--- the whole batch from row 1 on: no item and no account file stands before it
+-- before the first row
+abbrev pub atStart : Place
+atStart = record { items = 0; seen = []; kind = 0; date = 0 }
+
+-- behind an account file's row, a group's and an item's
+abbrev pub behindFile : Place → ℕ → ℕ → Place
+behindFile p kind number = record { items = p .items; seen = series number ∷ p .seen; kind = kind; date = 0 }
+
+abbrev pub behindGroup : Place → ℕ → Place
+behindGroup p date = record { items = p .items; seen = p .seen; kind = p .kind; date = date }
+
+abbrev pub behindItem : Place → Place
+behindItem p = record { items = suc (p .items); seen = p .seen; kind = p .kind; date = p .date }
+
+-- The rows from row k on, which stand at p. An account file's kind and number; a group's due day; item 1,001 of S at its kind, and of an item the
+-- payee bank by the group's day, amount, priority, parts and name.
+unfoldable pub rowsCarried : Sheet → ℕ → Header → ℕ → Place → List Thing → Verdict
+rowsCarried sh today h k p [] = fine
+rowsCarried sh today h k p (aFile kind number ∷ ts) =
+    check k 1 (kindAllowed sh kind)
+    (check k 2 (numberAllowed (sh .interval) h (p .seen) number)
+    (rowsCarried sh today h (suc k) (behindFile p kind number) ts))
+rowsCarried sh today h k p (aGroup date payer ∷ ts) =
+    check k 1 (dueAllowed (dayHere sh (p .kind)) (sh .early) (sh .ahead) today date)
+    (rowsCarried sh today h (suc k) (behindGroup p date) ts)
+rowsCarried sh today h k p (anItem x ∷ ts) =
+    check k 0 (ltb (p .items) (sh .fileitems))
+    (check k 5 (bankDue sh today (p .kind) (p .date) (x .bank))
+    (itemCarried sh k x (rowsCarried sh today h (suc k) (behindItem p) ts)))
+rowsCarried sh today h k p (strange ∷ ts) = wrong k 0
+
+-- the whole batch from row 1 on
 unfoldable pub batchCarried : Sheet → ℕ → Header → List Thing → Verdict
-batchCarried sh today h ts = rowsCarried sh today h 1 0 [] ts
+batchCarried sh today h ts = rowsCarried sh today h 1 atStart ts

@@ -1,7 +1,7 @@
 -- Days: which are real, how far one lies ahead of another, how they are spelled. Document 01, "The batch" and "Lines". Assumes nothing.
 -- A day is the number YYYYMMDD, so 20240229 is 29 February 2024.
 use Prim.Native.Nat.{ℕ, zero, suc, _+_, _-_, _*_, _/_, _%_}
-use mathlib.Core.Bool.{Bool, false}
+use mathlib.Core.Bool.{Bool, true, false}
 use mathlib.Core.List.{List, [], _∷_}
 use lib.Dec.{eqb, ltb, leb}
 use lib.ListN.{length, getD}
@@ -83,13 +83,30 @@ past today d = ltb (dayNumber d) (dayNumber today)
 
 -- A sheet takes a past day or not (`early`), and others up to so many days ahead.
 -- K: none past, 364; S: none past, any; C and P: past, 365; E: past, any.
-unfoldable pub dueAllowed : Bool → ℕ → ℕ → ℕ → Bool
-dueAllowed early ahead today d = pick (past today d) early (leb (dayNumber d - dayNumber today) ahead)
+-- That is where the day is judged at its own field (`here`); elsewhere every real day passes there.
+unfoldable pub dueAllowed : Bool → Bool → ℕ → ℕ → ℕ → Bool
+dueAllowed here early ahead today d = pick here (pick (past today d) early (leb (dayNumber d - dayNumber today) ahead)) true
 
--- a past day is warned of once, on a sheet that warns of it
-unfoldable pub dueWarnings : Bool → ℕ → ℕ → ℕ
-dueWarnings warns today d = pick (past today d) (pick warns 1 0) 0
+-- a past day is warned of once, where it is judged, on a sheet that warns of it
+unfoldable pub dueWarnings : Bool → Bool → ℕ → ℕ → ℕ
+dueWarnings here warns today d = pick here (pick (past today d) (pick warns 1 0) 0) 0
 
 -- a due date: 11 also where the day is not among the sheet's days
-unfoldable pub readDue : Bool → Bool → ℕ → ℕ → List ℕ → Field ℕ
-readDue long early ahead today s = given (readDay long s) λ d. pick (dueAllowed early ahead today d) (value d) (fault 11)
+unfoldable pub readDue : Bool → Bool → Bool → ℕ → ℕ → List ℕ → Field ℕ
+readDue long here early ahead today s = given (readDay long s) λ d. pick (dueAllowed here early ahead today d) (value d) (fault 11)
+
+-- Document 02, W-202: day d of month m of year y, or that month's last day if it is shorter
+abbrev pub dayIn : ℕ → ℕ → ℕ → ℕ
+dayIn y m d = y * 10000 + m * 100 + pick (ltb (monthDays y m) d) (monthDays y m) d
+
+-- "one month ahead": the same day of the next month. From December 2099 it lies in 2100, behind every real day.
+unfoldable pub monthAhead : ℕ → ℕ
+monthAhead d =
+    pick (eqb (monthOf d) 12)
+    (dayIn (yearOf d + 1) 1 (dayOf d))
+    (dayIn (yearOf d) (monthOf d + 1) (dayOf d))
+
+-- A collection is due from today on, if it comes from the sheet's own bank, or from tomorrow on, if from any other, up to one month ahead. Days
+-- as numbers YYYYMMDD have the order of days.
+unfoldable pub collectAllowed : Bool → ℕ → ℕ → Bool
+collectAllowed own today d = pick (pick own (ltb d today) (leb d today)) false (leb d (monthAhead today))

@@ -12,6 +12,7 @@ use Rattle.sheet.specs.declared.Sheet.{Sheet}
 use Rattle.sheet.specs.Sheets.{kindAllowed}
 use Rattle.paper.specs.Bytes.{isText}
 use Rattle.paper.specs.Days.{realDay, dueAllowed}
+use Rattle.paper.specs.Terms.{dayHere, bankDue}
 use Rattle.paper.specs.Accounts.{accountProper, isNobody}
 use Rattle.paper.specs.Amounts.{amountProper}
 use Rattle.paper.specs.BankField.{bankProper, priorityProper, priorityCarried}
@@ -85,6 +86,22 @@ inSingle (aFile kind number ∷ ts) = false
 inSingle (aGroup date payer ∷ ts) = isNobody payer
 inSingle (anItem x ∷ ts) = inSingle ts
 inSingle (strange ∷ ts) = inSingle ts
+
+-- the kind of the last account file, 0 where there is none
+unfoldable pub kindIn : List Thing → ℕ
+kindIn [] = 0
+kindIn (aFile kind number ∷ ts) = kind
+kindIn (aGroup date payer ∷ ts) = kindIn ts
+kindIn (anItem x ∷ ts) = kindIn ts
+kindIn (strange ∷ ts) = kindIn ts
+
+-- the due date of its last group, 0 where there is none
+unfoldable pub dateIn : List Thing → ℕ
+dateIn [] = 0
+dateIn (aFile kind number ∷ ts) = 0
+dateIn (aGroup date payer ∷ ts) = date
+dateIn (anItem x ∷ ts) = dateIn ts
+dateIn (strange ∷ ts) = dateIn ts
 
 -- what may come next, by the last of them
 unfoldable pub stageBehind : List Thing → Stage
@@ -161,13 +178,15 @@ module _ (sh : Sheet) (today : ℕ) (h : Header) where
   unfoldable pub carriedHeader : List Rule
   carriedHeader = rule 0 5 (pick (sh .interval) (leb (h .from) (h .to)) true) ∷ []
 
-  -- An account file's kind and number. A group's day. An item is not number 1,001 on S; its amount, priority, parts and name.
+  -- An account file's kind and number. A group's day, where it is judged here. An item is not number 1,001 on S; its payee bank, by the group's day
+  -- in a collection; its amount, priority, parts and name.
   unfoldable pub carriedRow : ℕ → List Thing → Thing → List Rule
   carriedRow k before (aFile kind number) =
       rule k 1 (kindAllowed sh kind) ∷ rule k 2 (numberAllowed (sh .interval) h (seriesIn before) number) ∷ []
-  carriedRow k before (aGroup date payer) = rule k 1 (dueAllowed (sh .early) (sh .ahead) today date) ∷ []
+  carriedRow k before (aGroup date payer) = rule k 1 (dueAllowed (dayHere sh (kindIn before)) (sh .early) (sh .ahead) today date) ∷ []
   carriedRow k before (anItem x) =
       rule k 0 (ltb (length (itemsIn before)) (sh .fileitems))
+      ∷ rule k 5 (bankDue sh today (kindIn before) (dateIn before) (x .bank))
       ∷ rule k 6 (amountProper (sh .itemmax) (x .amount))
       ∷ rule k 10 (priorityCarried (sh .priority) (x .priority))
       ∷ (partRules k (partCarried (sh .text)) 0 (x .parts) ++ (rule k 19 (nameCarried (sh .text) (x .name)) ∷ []))

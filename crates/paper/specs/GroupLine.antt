@@ -22,22 +22,22 @@ spaceCount (x ∷ s) = pick (eqb x 32) (suc (spaceCount s)) (spaceCount s)
 unfoldable pub hasPayer : Bool → List ℕ → Bool
 hasPayer always s = pick always true (leb 3 (spaceCount s))
 
--- TOTAL, at offset `at`, and DATE, which may be warned of; the total's place is kept for refusal 10
-unfoldable pub totalAndDate : Sheet → ℕ → Account → ℕ → List ℕ → Listed
-totalAndDate sh today payer at s =
+-- TOTAL, at offset `at`, and DATE, which may be judged here and warned of; the total's place is kept for refusal 10
+unfoldable pub totalAndDate : Sheet → ℕ → Bool → Account → ℕ → List ℕ → Listed
+totalAndDate sh today here payer at s =
     field (readTotal (sh .comma)) at s λ total a1 s1.
     gap a1 s1 λ a2 s2.
-    field (readDue (sh .longdate) (sh .early) (sh .ahead) today) a2 s2 λ date a3 s3.
-    lineEnd a3 s3 (said (group payer total date) (notices pastDay a2 (dueWarnings (sh .warnpast) today date)) (totalAt at))
+    field (readDue (sh .longdate) here (sh .early) (sh .ahead) today) a2 s2 λ date a3 s3.
+    lineEnd a3 s3 (said (group payer total date) (notices pastDay a2 (dueWarnings here (sh .warnpast) today date)) (totalAt at))
 
 -- "Lines": `2 TOTAL DATE`, or with the payer's account before TOTAL
-unfoldable pub readGroup : Sheet → ℕ → List ℕ → Listed
-readGroup sh today s =
+unfoldable pub readGroup : Sheet → ℕ → Bool → List ℕ → Listed
+readGroup sh today here s =
     pick (hasPayer (sh .emptypayer) s)
     (field (readPayer (sh .emptypayer) (sh .zeropayer) (sh .joined) (sh .basemin)) 2 (drop 2 s) λ payer a1 s1.
     gap a1 s1 λ a2 s2.
-    totalAndDate sh today payer a2 s2)
-    (totalAndDate sh today nobody 2 (drop 2 s))
+    totalAndDate sh today here payer a2 s2)
+    (totalAndDate sh today here nobody 2 (drop 2 s))
 
 -- "Canonical spelling": single groups have two spaces on S and E, and no account on K, C and P
 unfoldable pub spellPayer : Bool → Account → List ℕ

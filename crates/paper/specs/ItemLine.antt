@@ -12,7 +12,7 @@ use Rattle.paper.specs.Bytes.{fieldOf, null}
 use Rattle.paper.specs.Numerals.{digits, decimal}
 use Rattle.paper.specs.Accounts.{Account, nobody, isNobody, readAccount, spellAccount}
 use Rattle.paper.specs.Amounts.{readItemAmount}
-use Rattle.paper.specs.BankField.{Bank, readBank, spellBank}
+use Rattle.paper.specs.BankField.{Bank, readDueBank, spellBank}
 use Rattle.paper.specs.Texts.{Piece, piece, Texts, Noted, readText, spellText, noText}
 use Rattle.paper.specs.Batch.{Item}
 use Rattle.paper.specs.Entries.{item, Places, Said, Listed, said, field, gap, toEnd}
@@ -90,27 +90,28 @@ itemOf payer payee amount variable specific bank texts =
       name = texts .name .bytes;
     }
 
--- payee, amount, variable symbol, bank field, tail; the bank field's warning stands before those of the texts
-unfoldable pub fromPayee : Sheet → Account → ℕ → List ℕ → Listed
-fromPayee sh payer at s =
+-- payee, amount, variable symbol, bank field, tail; the bank field's warning stands before those of the texts. `due` says which payee banks may
+-- be due on the group's day.
+unfoldable pub fromPayee : Sheet → (ℕ → Bool) → Account → ℕ → List ℕ → Listed
+fromPayee sh due payer at s =
     field (readAccount (sh .joined) (sh .basemin)) at s λ payee a1 s1.
     gap a1 s1 λ a2 s2.
     field (readItemAmount (sh .comma) (sh .itemdigits) (sh .itemmax)) a2 s2 λ amount a3 s3.
     gap a3 s3 λ a4 s4.
     field readSymbol a4 s4 λ variable a5 s5.
     gap a5 s5 λ a6 s6.
-    field (readBank (sh .priority)) a6 s6 λ bank a7 s7.
+    field (readDueBank (sh .priority) due) a6 s6 λ bank a7 s7.
     tail sh a7 s7 λ specific texts.
     said (item (itemOf payer payee amount variable specific bank texts)) (notices lowPriority a6 (bank .warnings) ++ texts .warnings) (places texts)
 
 -- the payer's account comes first where the group is single
-unfoldable pub readItem : Sheet → Bool → List ℕ → Listed
-readItem sh single s =
+unfoldable pub readItem : Sheet → (ℕ → Bool) → Bool → List ℕ → Listed
+readItem sh due single s =
     pick single
     (field (readAccount (sh .joined) (sh .basemin)) 0 s λ payer a1 s1.
     gap a1 s1 λ a2 s2.
-    fromPayee sh payer a2 s2)
-    (fromPayee sh nobody 0 s)
+    fromPayee sh due payer a2 s2)
+    (fromPayee sh due nobody 0 s)
 
 -- ---- "Canonical spelling"
 

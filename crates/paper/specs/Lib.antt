@@ -9,6 +9,7 @@ pub mod Days
 -- "Accounts"
 pub mod Accounts
 -- "Lines": its fields
+pub mod Terms
 pub mod Amounts
 pub mod BankField
 pub mod Texts

@@ -115,7 +115,8 @@ unfoldable pub singleBehind : Bool → Counted → Bool
 singleBehind b (got t) = singleAfter b (t .entry)
 singleBehind b (no n off) = b
 
--- The context for lines that are accepted already: any number, and no kind or date. What a line says in its own context it says in this one.
+-- The context for lines that are accepted already: any number, and no kind or date. What a line says in its own context it says in this one,
+-- but for a group's warning of a past day, which may be missing here.
 abbrev pub accepted : Bool → Context
 accepted single = forItem 0 0 single
 

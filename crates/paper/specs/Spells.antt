@@ -12,6 +12,7 @@ use Rattle.paper.specs.Accounts.{isNobody}
 use Rattle.paper.specs.Batch.{Item, Group, AccountFile, Batch, Header, sum, most14}
 use Rattle.paper.specs.Lines.{Line, linesOf}
 use Rattle.paper.specs.Entries.{Entry, head, file, group, item, closeGroup, closeFile, Places, Listed, Counted, said, counted, Kind, headLine, fileLine, groupLine, itemLine, groupEnd, fileEnd, kindOf}
+use Rattle.paper.specs.Terms.{dayHere, bankDue}
 use Rattle.paper.specs.FirstLine.{readFirst}
 use Rattle.paper.specs.FileLine.{series, numberFault, readFile}
 use Rattle.paper.specs.GroupLine.{readGroup}
@@ -58,8 +59,8 @@ numberTest sh (after h seen) n = numberFault (sh .interval) h seen n
 unfoldable pub readAs : Sheet → ℕ → Context → Kind → List ℕ → Listed
 readAs sh today c headLine s = readFirst sh s
 readAs sh today c fileLine s = readFile sh (numberTest sh (c .numbers)) s
-readAs sh today c groupLine s = readGroup sh today s
-readAs sh today c itemLine s = readItem sh (c .single) s
+readAs sh today c groupLine s = readGroup sh today (dayHere sh (c .kind)) s
+readAs sh today c itemLine s = readItem sh (bankDue sh today (c .kind) (c .date)) (c .single) s
 readAs sh today c groupEnd s = readClose (sh .near) closeGroup s
 readAs sh today c fileEnd s = readClose (sh .near) closeFile s
 

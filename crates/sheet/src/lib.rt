@@ -47,6 +47,8 @@ pub struct Sheet {
     pub ahead: u64,
     pub early: bool,
     pub warnpast: bool,
+    // .. but those of kind 1502 are judged for each item, by its payee bank, up to a month ahead
+    pub collects: bool,
     // `3+` and `5+` close as `3 +` and `5 +` do
     pub near: bool,
     // an item's amount: how many digits, how much, and whether a comma may stand before the haléř
@@ -98,6 +100,7 @@ impl Sheet {
         ahead: 364,
         early: false,
         warnpast: false,
+        collects: false,
         near: false,
         itemdigits: 14,
         itemmax: 99999999999999,
@@ -134,6 +137,7 @@ impl Sheet {
         ahead: 36525,
         early: false,
         warnpast: false,
+        collects: false,
         near: false,
         itemdigits: 12,
         itemmax: 999999999999,
@@ -170,6 +174,7 @@ impl Sheet {
         ahead: 365,
         early: true,
         warnpast: true,
+        collects: true,
         near: true,
         itemdigits: 14,
         itemmax: 99999999999999,
@@ -206,6 +211,7 @@ impl Sheet {
         ahead: 36525,
         early: true,
         warnpast: false,
+        collects: false,
         near: true,
         itemdigits: 14,
         itemmax: 999999999999,
@@ -242,6 +248,7 @@ impl Sheet {
         ahead: 365,
         early: true,
         warnpast: true,
+        collects: true,
         near: false,
         itemdigits: 14,
         itemmax: 99999999999999,
