@@ -2,4 +2,5 @@ pub mod Range
 pub mod Sound
 pub mod Spelled
 pub mod Back
+pub mod Due
 pub mod Edges

@@ -1,5 +1,6 @@
 // The field of an item that holds payee bank, constant symbol and priority, in a line: judged at its place, and taken
 // where the line was judged before.
+use calendar::term::Banks;
 use numeral::field::NumAt;
 ghost use mathlib.Core.Path.{_≡_};
 ghost use mathlib.Core.Bool.{true};
@@ -10,7 +11,9 @@ ghost use Rattle.paper.specs.Read.{value};
 ghost use Rattle.paper.specs.Bytes.{space, fieldOf};
 ghost use Rattle.paper.specs.Numerals.{digits};
 ghost use Rattle.paper.specs.ItemLine.{isValue};
-ghost use Rattle.paper.specs.BankField.{readBank};
+ghost use Rattle.paper.specs.BankField as paper;
+ghost use Rattle.paper.specs.BankField.{readBank, readDueBank};
+ghost use Rattle.calendar.specs.term.Allows.{allows};
 ghost use Rattle.numeral.specs.Zero.{isZero};
 ghost use Rattle.numeral.specs.field.At.{ending, fieldAt};
 ghost use Rattle.numeral.specs.field.Kept.{keeping};
@@ -88,8 +91,40 @@ fn any_bank(s: &[u8], at: usize, ranked: bool) -> NumAt
     }
 }
 
-// The field at `at`: how many warnings it gives and where it ends, or the refusal's number.
-pub fn judge_bank(s: &[u8], at: usize, ranked: bool) -> NumAt
+// May the bank of the field at `at`, which was judged, be due?
+fn bank_due(s: &[u8], at: usize, ranked: bool, own: u64, banks: Banks) -> bool
+    requires { ⌜ at ≤ length (now s) ⌝ }
+    requires { ⌜ isValue (readBank ranked (fieldOf (drop at (now s)))) ≡ true ⌝ }
+    ensures { λ r. ⌜ ((b : paper.Bank) → readBank ranked (fieldOf (drop at (now (s .entry)))) ≡ value b → r ≡ allows banks own (b .bank)) ⌝ }
+{
+    match banks {
+        Banks::Any => true,
+        Banks::Own => {
+            let bank = take_bank(s, at, ranked);
+            bank.bank == own
+        }
+        Banks::Nobody => false,
+    }
+}
+
+// Any field at `at`, whose bank is one of those that may be due.
+fn any_due_bank(s: &[u8], at: usize, ranked: bool, own: u64, banks: Banks) -> NumAt
+    requires { ⌜ at ≤ length (now s) ⌝ }
+    ensures { λ r. ⌜ told r ≡ keeping warningsOf (fieldAt (readDueBank ranked (allows banks own)) (now (s .entry)) at) ⌝ }
+{
+    match any_bank(s, at, ranked) {
+        NumAt::Value(warnings, end) => {
+            if bank_due(s, at, ranked, own, banks) {
+                return NumAt::Value(warnings, end);
+            }
+            NumAt::Refused(11)
+        }
+        NumAt::Refused(n) => NumAt::Refused(n),
+    }
+}
+
+// The field at `at`, whatever its bank: how many warnings it gives and where it ends, or the refusal's number.
+fn plain_or_any(s: &[u8], at: usize, ranked: bool) -> NumAt
     requires { ⌜ at ≤ length (now s) ⌝ }
     ensures { λ r. ⌜ told r ≡ keeping warningsOf (fieldAt (readBank ranked) (now (s .entry)) at) ⌝ }
 {
@@ -98,6 +133,18 @@ pub fn judge_bank(s: &[u8], at: usize, ranked: bool) -> NumAt
         return NumAt::Value(0, end);
     }
     any_bank(s, at, ranked)
+}
+
+// The field at `at`, whose bank is one of those that may be due. It is looked at only where not every bank may be.
+pub fn judge_bank(s: &[u8], at: usize, ranked: bool, own: u64, banks: Banks) -> NumAt
+    requires { ⌜ at ≤ length (now s) ⌝ }
+    ensures { λ r. ⌜ told r ≡ keeping warningsOf (fieldAt (readDueBank ranked (allows banks own)) (now (s .entry)) at) ⌝ }
+{
+    match banks {
+        Banks::Any => plain_or_any(s, at, ranked),
+        Banks::Own => any_due_bank(s, at, ranked, own, Banks::Own),
+        Banks::Nobody => any_due_bank(s, at, ranked, own, Banks::Nobody),
+    }
 }
 
 // ---- taken

@@ -69,6 +69,6 @@ module _ (d : ℕ) where
         six true = refl
         six false = refl
 
-    pub due-back : (early : Bool) (ahead today : ℕ) → dueAllowed early ahead today d ≡ true → readDue long early ahead today (spellDay d) ≡ value d
+    pub due-back : (here early : Bool) (ahead today : ℕ) → dueAllowed here early ahead today d ≡ true → readDue long here early ahead today (spellDay d) ≡ value d
     unfolding readDue given pick
-    due-back early ahead today h = rw (day-back, h)
+    due-back here early ahead today h = rw (day-back, h)

@@ -5,6 +5,8 @@ pub mod Order
 pub mod Steep
 pub mod Next
 pub mod Due
+pub mod Month
+pub mod Terms
 pub mod Reading
 pub mod Sound
 pub mod Back

@@ -52,16 +52,16 @@ module _ (long : Bool) (s : List ℕ) where
   pub day-told : (r : Num) (d : ℕ) → told r ≡ readDay long s → r ≡ Value d → realDay d ≡ true
   day-told r d g e = day-sound d (sym g ∙ rw e)
 
-  module _ (early : Bool) (ahead today : ℕ) where
+  module _ (here early : Bool) (ahead today : ℕ) where
     abbrev Due : ℕ → Type 0
-    Due d = (realDay d ≡ true) × (dueAllowed early ahead today d ≡ true)
+    Due d = (realDay d ≡ true) × (dueAllowed here early ahead today d ≡ true)
 
-    due-says : Says Due Dated (readDue long early ahead today s)
+    due-says : Says Due Dated (readDue long here early ahead today s)
     unfolding readDue
     due-says =
         says-given Sure Due Dated (readDay long s) _ (day-says long s)
-        (λ d p. either (Says Due Dated) (dueAllowed early ahead today d) (λ e. of-value Due Dated d (p, e)) (λ e. of-fault Due Dated 11 (inr refl)))
+        (λ d p. either (Says Due Dated) (dueAllowed here early ahead today d) (λ e. of-value Due Dated d (p, e)) (λ e. of-fault Due Dated 11 (inr refl)))
 
     -- a due date that is read is a real day, and one of the sheet's days
-    pub due-sound : (d : ℕ) → readDue long early ahead today s ≡ value d → (realDay d ≡ true) × (dueAllowed early ahead today d ≡ true)
+    pub due-sound : (d : ℕ) → readDue long here early ahead today s ≡ value d → (realDay d ≡ true) × (dueAllowed here early ahead today d ≡ true)
     due-sound d e = says-value Due Dated _ due-says d e

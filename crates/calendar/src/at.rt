@@ -49,57 +49,73 @@ fn last_day(s: &[u8], at: usize) -> u64
     20000000 + year * 10000 + month * 100 + day
 }
 
-// The real day d as a due date, 11 where no payment may be due on it.
-fn if_allowed(d: u64, early: bool, ahead: u64, today: u64, end: usize) -> NumAt
+// The real day d as a due date, 11 where no group may be due on it.
+fn if_allowed(d: u64, here: bool, early: bool, ahead: u64, today: u64, end: usize) -> NumAt
     requires { ⌜ realDay today ≡ true ⌝ }
     requires { ⌜ realDay d ≡ true ⌝ }
-    ensures { λ r. ⌜ told r ≡ ending end (pick (dueAllowed early ahead today d) (value d) (fault 11)) ⌝ }
+    ensures { λ r. ⌜ told r ≡ ending end (pick (dueAllowed here early ahead today d) (value d) (fault 11)) ⌝ }
 {
-    if crate::due_allowed(early, ahead, today, d) {
+    if crate::due_allowed(here, early, ahead, today, d) {
         return NumAt::Value(d, end);
     }
     NumAt::Refused(11)
 }
 
 // The day d as a due date, 11 where it is not real either.
-fn if_due(d: u64, early: bool, ahead: u64, today: u64, end: usize) -> NumAt
+fn if_due(d: u64, here: bool, early: bool, ahead: u64, today: u64, end: usize) -> NumAt
     requires { ⌜ realDay today ≡ true ⌝ }
-    ensures { λ r. ⌜ told r ≡ ending end (pick (realDay d) (pick (dueAllowed early ahead today d) (value d) (fault 11)) (fault 11)) ⌝ }
+    ensures { λ r. ⌜ told r ≡ ending end (pick (realDay d) (pick (dueAllowed here early ahead today d) (value d) (fault 11)) (fault 11)) ⌝ }
 {
     if crate::real_day(d) {
-        return if_allowed(d, early, ahead, today, end);
+        return if_allowed(d, here, early, ahead, today, end);
     }
     NumAt::Refused(11)
 }
 
 // A due date at `at`, by the bytes of the whole field.
-fn whole_due(s: &[u8], at: usize, long: bool, early: bool, ahead: u64, today: u64) -> NumAt
+fn whole_due(
+    s: &[u8],
+    at: usize,
+    long: bool,
+    here: bool,
+    early: bool,
+    ahead: u64,
+    today: u64,
+) -> NumAt
     requires { ⌜ at ≤ length (now s) ⌝ }
     requires { ⌜ realDay today ≡ true ⌝ }
-    ensures { λ r. ⌜ told r ≡ fieldAt (readDue long early ahead today) (now (s .entry)) at ⌝ }
+    ensures { λ r. ⌜ told r ≡ fieldAt (readDue long here early ahead today) (now (s .entry)) at ⌝ }
 {
     let end = scan::line::field_end(s, at);
     match crate::read_day(&s[at..end], long) {
-        Num::Value(d) => if_allowed(d, early, ahead, today, end),
+        Num::Value(d) => if_allowed(d, here, early, ahead, today, end),
         Num::Refused(n) => NumAt::Refused(n),
     }
 }
 
-// A due date at `at`: a day on which a payment may be due. Nearly all are DDMMRR and end the line; any other field is left to the reader
+// A due date at `at`: a day on which a group may be due, as far as that is judged here. Nearly all are DDMMRR and end the line; any other field is left to the reader
 // of whole fields.
-pub fn due_at(s: &[u8], at: usize, long: bool, early: bool, ahead: u64, today: u64) -> NumAt
+pub fn due_at(
+    s: &[u8],
+    at: usize,
+    long: bool,
+    here: bool,
+    early: bool,
+    ahead: u64,
+    today: u64,
+) -> NumAt
     requires { ⌜ at ≤ length (now s) ⌝ }
     requires { ⌜ realDay today ≡ true ⌝ }
-    ensures { λ r. ⌜ told r ≡ fieldAt (readDue long early ahead today) (now (s .entry)) at ⌝ }
+    ensures { λ r. ⌜ told r ≡ fieldAt (readDue long here early ahead today) (now (s .entry)) at ⌝ }
 {
     let end = s.len();
     if end - at == 6 {
         let d = last_day(s, at);
         if 0 < d {
-            return if_due(d, early, ahead, today, end);
+            return if_due(d, here, early, ahead, today, end);
         }
     }
-    whole_due(s, at, long, early, ahead, today)
+    whole_due(s, at, long, here, early, ahead, today)
 }
 
 // ---- taken

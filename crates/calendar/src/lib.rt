@@ -1,5 +1,6 @@
 // Days: which are real, their numbers, how they are read and written, which days a payment may be due on.
 pub mod at;
+pub mod term;
 
 ghost use mathlib.Core.Path.{_≡_};
 ghost use mathlib.Core.Bool.{true};
@@ -7,7 +8,7 @@ ghost use Prim.Native.Nat.{_+_, _≤_};
 ghost use lib.ListN.{length};
 ghost use Rattle.base.specs.Put.{Wrote};
 ghost use Rattle.numeral.specs.Told.{told};
-ghost use Rattle.paper.specs.Days.{realDay, dayNumber, monthDays, real, shortDay, longDay, readDay, spellDay, dueAllowed, dueWarnings};
+ghost use Rattle.paper.specs.Days.{realDay, dayNumber, monthDays, real, shortDay, longDay, readDay, spellDay, dueAllowed, dueWarnings, monthAhead, collectAllowed};
 use numeral::Num;
 
 // how many days each month has in a year with no 29 February
@@ -75,37 +76,79 @@ pub fn day_number(d: u64) -> u64
     days
 }
 
-// May a payment be due on the day d?
-pub fn due_allowed(early: bool, ahead: u64, today: u64, d: u64) -> bool
+// May a group be due on the day d, as far as that is judged at its own field (`here`)?
+pub fn due_allowed(here: bool, early: bool, ahead: u64, today: u64, d: u64) -> bool
     requires { ⌜ realDay today ≡ true ⌝ }
     requires { ⌜ realDay d ≡ true ⌝ }
-    ensures { λ r. ⌜ r ≡ dueAllowed early ahead today d ⌝ }
+    ensures { λ r. ⌜ r ≡ dueAllowed here early ahead today d ⌝ }
 {
-    // later days have greater numbers, so a past day is known without its number
-    if d < today {
-        return early;
+    if here {
+        // later days have greater numbers, so a past day is known without its number
+        if d < today {
+            return early;
+        }
+        // and by no more than the days themselves, so one that is soon is known so too
+        if d - today <= ahead {
+            return true;
+        }
+        return day_number(d) - day_number(today) <= ahead;
     }
-    // and by no more than the days themselves, so one that is soon is known so too
-    if d - today <= ahead {
-        return true;
-    }
-    day_number(d) - day_number(today) <= ahead
+    true
 }
 
-// How many warnings the due day d brings.
-pub fn due_warnings(warns: bool, today: u64, d: u64) -> u64
+// How many warnings the due day d brings there.
+pub fn due_warnings(here: bool, warns: bool, today: u64, d: u64) -> u64
     requires { ⌜ realDay today ≡ true ⌝ }
     requires { ⌜ realDay d ≡ true ⌝ }
-    ensures { λ r. ⌜ r ≡ dueWarnings warns today d ⌝ }
+    ensures { λ r. ⌜ r ≡ dueWarnings here warns today d ⌝ }
     ensures { λ r. ⌜ r ≤ 1 ⌝ }
 {
     if today <= d {
         return 0;
     }
     if warns {
-        return 1;
+        if here {
+            return 1;
+        }
     }
     0
+}
+
+// The same day of the next month, or that month's last day if it is shorter.
+pub fn month_ahead(d: u64) -> u64
+    requires { ⌜ realDay d ≡ true ⌝ }
+    ensures { λ r. ⌜ r ≡ monthAhead d ⌝ }
+{
+    let y = d / 10000;
+    let m = d / 100 % 100;
+    let n = d % 100;
+    if m == 12 {
+        // January is as long as December
+        return (y + 1) * 10000 + 100 + n;
+    }
+    let days = month_days(y, m + 1);
+    let month = y * 10000 + (m + 1) * 100;
+    if days < n {
+        return month + days;
+    }
+    month + n
+}
+
+// May a collection be due on the day d, from the sheet's own bank or from any other? The last day for it is one month ahead of today.
+pub fn collect_allowed(own: bool, today: u64, last: u64, d: u64) -> bool
+    requires { ⌜ last ≡ monthAhead today ⌝ }
+    ensures { λ r. ⌜ r ≡ collectAllowed own today d ⌝ }
+{
+    if own {
+        if d < today {
+            return false;
+        }
+        return d <= last;
+    }
+    if d <= today {
+        return false;
+    }
+    d <= last
 }
 
 // A day, if it is real.

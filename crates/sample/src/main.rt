@@ -1,6 +1,7 @@
 // Judges fields, takes them and spells them canonically. Each line of standard input has a field, and behind a space a sheet's letter and
 // the field's, as `19-19 KA`: A an account, M an item's amount, D a due date (today is 1 January 2018), B a bank field. It is answered
 // by the canonical spelling, or by the number of the refusal.
+use calendar::term::Banks;
 use numeral::field::NumAt;
 use numeral::field::Passed;
 use sheet::Known;
@@ -54,7 +55,7 @@ fn show_amount(sh: Sheet, f: &[u8]) {
 fn show_date(sh: Sheet, f: &[u8]) {
     if calendar::real_day(TODAY) {
         let limits = sh.limits();
-        match calendar::at::due_at(f, 0, sh.longdate, sh.early, limits.ahead, TODAY) {
+        match calendar::at::due_at(f, 0, sh.longdate, true, sh.early, limits.ahead, TODAY) {
             NumAt::Refused(n) => {
                 refused(n);
             }
@@ -68,7 +69,7 @@ fn show_date(sh: Sheet, f: &[u8]) {
 }
 
 fn show_bank(sh: Sheet, f: &[u8]) {
-    match bank::at::judge_bank(f, 0, sh.priority) {
+    match bank::at::judge_bank(f, 0, sh.priority, sh.bank_code(), Banks::Any) {
         NumAt::Refused(n) => {
             refused(n);
         }

@@ -115,14 +115,14 @@ digits-field f h =
     let a : all isDigit (take (length f) f) ≡ true = rw take-length h in
     seek-over isDigit 32 refl (length f) f (omega arith) a ∙ rw drop-length (omega arith)
 
-module _ (long early : Bool) (ahead today : ℕ) where
+module _ (long here early : Bool) (ahead today : ℕ) where
   -- a real day is judged as a due date
-  judged : (d : ℕ) → given (real d) (λ day. pick (dueAllowed early ahead today day) (value day) (fault 11)) ≡ pick (realDay d) (pick (dueAllowed early ahead today d) (value d) (fault 11)) (fault 11)
+  judged : (d : ℕ) → given (real d) (λ day. pick (dueAllowed here early ahead today day) (value day) (fault 11)) ≡ pick (realDay d) (pick (dueAllowed here early ahead today d) (value d) (fault 11)) (fault 11)
   unfolding real given pick
   judged d = by-test (realDay d) (λ y. simp y) (λ n. simp n)
 
   pub spelled-due : (r : At ℕ) (s : List ℕ) (at : ℕ) → length s - at ≡ 6 → (d : ℕ) → Spelled (drop at s) d → 0 < d
-      → r ≡ ending (length s) (pick (realDay d) (pick (dueAllowed early ahead today d) (value d) (fault 11)) (fault 11)) → r ≡ fieldAt (readDue long early ahead today) s at
+      → r ≡ ending (length s) (pick (realDay d) (pick (dueAllowed here early ahead today d) (value d) (fault 11)) (fault 11)) → r ≡ fieldAt (readDue long here early ahead today) s at
   unfolding fieldAt readDue
   spelled-due r s at l d w h q =
       let n : length (drop at s) ≡ 6 = omega (arith, length-drop at s) in
@@ -137,19 +137,19 @@ module _ (s : List ℕ) (at e : ℕ) (h : e ≡ at + seek space (drop at s)) (lo
   pub whole-real : (d : ℕ) → m ≡ num.Value d → realDay d ≡ true
   whole-real d f = day-told long (take (e - at) (drop at s)) m d g f
 
-  module _ (early : Bool) (ahead today : ℕ) where
-    whole-day : (x : Field ℕ) → number.told m ≡ x → ending e (given x (λ d. pick (dueAllowed early ahead today d) (value d) (fault 11))) ≡ fieldAt (readDue long early ahead today) s at
+  module _ (here early : Bool) (ahead today : ℕ) where
+    whole-day : (x : Field ℕ) → number.told m ≡ x → ending e (given x (λ d. pick (dueAllowed here early ahead today d) (value d) (fault 11))) ≡ fieldAt (readDue long here early ahead today) s at
     unfolding fieldAt readDue
     whole-day x q =
         let d : e - at ≡ seek space (drop at s) = omega arith in
         let z : x ≡ readDay long (fieldOf (drop at s)) = sym q ∙ (g ∙ rw d) in
         rw (← h, z)
 
-    pub whole-due : (r : At ℕ) (d : ℕ) → m ≡ num.Value d → r ≡ ending e (pick (dueAllowed early ahead today d) (value d) (fault 11)) → r ≡ fieldAt (readDue long early ahead today) s at
+    pub whole-due : (r : At ℕ) (d : ℕ) → m ≡ num.Value d → r ≡ ending e (pick (dueAllowed here early ahead today d) (value d) (fault 11)) → r ≡ fieldAt (readDue long here early ahead today) s at
     unfolding given
     whole-due r d f q = q ∙ whole-day (value d) (rw f)
 
-    pub whole-no-due : (n : ℕ) → m ≡ num.Refused n → missed n ≡ fieldAt (readDue long early ahead today) s at
+    pub whole-no-due : (n : ℕ) → m ≡ num.Refused n → missed n ≡ fieldAt (readDue long here early ahead today) s at
     unfolding given ending
     whole-no-due n f = whole-day (fault n) (rw f)
 

@@ -22,7 +22,17 @@ sub-result c = search (dues, needs)
 returns-3 : tie.Need-returns-3
 returns-3 c = search dues
 
+returns-4 : tie.Need-returns-4
+returns-4 c = search dues
+
 pub due-allowed-spec : {M : Type 1} → statement M
 due-allowed-spec =
     tie.close
-    (tie.spec returns returns-2 day-number-requires day-number-requires-2 sub-result returns-3)
+    (tie.spec
+    returns
+    returns-2
+    day-number-requires
+    day-number-requires-2
+    sub-result
+    returns-3
+    returns-4)

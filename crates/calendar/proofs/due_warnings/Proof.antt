@@ -13,5 +13,8 @@ returns-2 c = (search dues, search needs)
 returns-3 : tie.Need-returns-3
 returns-3 c = (search dues, search needs)
 
+returns-4 : tie.Need-returns-4
+returns-4 c = (search dues, search needs)
+
 pub due-warnings-spec : {M : Type 1} → statement M
-due-warnings-spec = tie.close (tie.spec returns returns-2 returns-3)
+due-warnings-spec = tie.close (tie.spec returns returns-2 returns-3 returns-4)

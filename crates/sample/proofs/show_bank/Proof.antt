@@ -4,6 +4,9 @@ use Rattle.bank.proofs.at.Steps.{bank-says}
 use Rattle.sample.proofs.show_bank.Statement.{statement}
 use Rattle.sample.proofs.show_bank.Tie as tie
 
+bank-code-requires : tie.Need-bank-code-requires
+bank-code-requires c κs = search needs
+
 judge-bank-requires : tie.Need-judge-bank-requires
 judge-bank-requires c κs = search needs
 
@@ -41,6 +44,7 @@ pub show-bank-spec : {M : Type 1} → statement M
 show-bank-spec =
     tie.close
     (tie.spec
+    bank-code-requires
     judge-bank-requires
     enum-known-n
     refused-requires
