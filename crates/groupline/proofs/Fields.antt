@@ -44,31 +44,31 @@ module _ (s : List ℕ) (at : ℕ) (n : NumAt) (v e : ℕ) (f : n ≡ num.Value 
   pub total-low : (may : Bool) → number.told n ≡ fieldAt (readTotal may) s at → v < 10 ^ 14
   total-low may g = total-sound may _ v (found-value (readTotal may) s at v e (rw f at g))
 
-  pub due-real : (long early : Bool) (ahead today : ℕ) → number.told n ≡ fieldAt (readDue long early ahead today) s at → realDay v ≡ true
-  due-real long early ahead today g = due-sound long _ early ahead today v (found-value (readDue long early ahead today) s at v e (rw f at g)) .0
+  pub due-real : (long here early : Bool) (ahead today : ℕ) → number.told n ≡ fieldAt (readDue long here early ahead today) s at → realDay v ≡ true
+  due-real long here early ahead today g = due-sound long _ here early ahead today v (found-value (readDue long here early ahead today) s at v e (rw f at g)) .0
 
 -- a due day within the limit that the sheet gave
-pub due-limit : (sh : Sheet) (l : Limits) → LimitsOf sh l → (long : Bool) (today : ℕ) (s : List ℕ) (at : ℕ) (n : NumAt)
-    → number.told n ≡ fieldAt (readDue long (sh .early) (l .ahead) today) s at → number.told n ≡ fieldAt (readDue long (sh .early) (sh .ahead) today) s at
-due-limit sh l of long today s at n g = rw (of .ahead) at g
+pub due-limit : (sh : Sheet) (l : Limits) → LimitsOf sh l → (long here : Bool) (today : ℕ) (s : List ℕ) (at : ℕ) (n : NumAt)
+    → number.told n ≡ fieldAt (readDue long here (sh .early) (l .ahead) today) s at → number.told n ≡ fieldAt (readDue long here (sh .early) (sh .ahead) today) s at
+due-limit sh l of long here today s at n g = rw (of .ahead) at g
 
 -- ---- what the line says, with the warnings w that were counted
 
-pub step-group : (warns : Bool) (today date w : ℕ) → w ≡ dueWarnings warns today date → (payer : Account) (total at : ℕ)
-    → said (group payer total date) w (totalAt at) ≡ said (group payer total date) (dueWarnings warns today date) (totalAt at)
-step-group warns today date w g payer total at = rw g
+pub step-group : (here warns : Bool) (today date w : ℕ) → w ≡ dueWarnings here warns today date → (payer : Account) (total at : ℕ)
+    → said (group payer total date) w (totalAt at) ≡ said (group payer total date) (dueWarnings here warns today date) (totalAt at)
+step-group here warns today date w g payer total at = rw g
 
 -- its warnings counted at the end are counted
-module _ (sh : Sheet) (today : ℕ) (payer : Account) (at : ℕ) (s : List ℕ) where
+module _ (sh : Sheet) (today : ℕ) (here : Bool) (payer : Account) (at : ℕ) (s : List ℕ) where
   abbrev read-due : List ℕ → Field ℕ
-  read-due = readDue (sh .longdate) (sh .early) (sh .ahead) today
+  read-due = readDue (sh .longdate) here (sh .early) (sh .ahead) today
 
   abbrev ending : ℕ → ℕ → Counted
-  ending total date = said (group payer total date) (dueWarnings (sh .warnpast) today date) (totalAt at)
+  ending total date = said (group payer total date) (dueWarnings here (sh .warnpast) today date) (totalAt at)
 
   pub total-counted : (r : Counted)
       → r ≡ (field (readTotal (sh .comma)) at s λ total a1 s1. gap a1 s1 λ a2 s2. field read-due a2 s2 λ date a3 s3. lineEnd a3 s3 (ending total date))
-      → r ≡ counted (totalAndDate sh today payer at s)
+      → r ≡ counted (totalAndDate sh today here payer at s)
   unfolding totalAndDate counted
   total-counted r q =
       q
@@ -77,7 +77,7 @@ module _ (sh : Sheet) (today : ℕ) (payer : Account) (at : ℕ) (s : List ℕ) 
       gap-passes counted counted-keeps a1 s1 _ _ λ a2 s2.
       field-passes counted counted-keeps read-due a2 s2 _ _ λ date a3 s3.
       end-passes counted counted-keeps a3 s3 _ _
-      (ap (λ (n : ℕ). said (group payer total date) n (totalAt at)) (notices-length pastDay a2 (dueWarnings (sh .warnpast) today date))))
+      (ap (λ (n : ℕ). said (group payer total date) n (totalAt at)) (notices-length pastDay a2 (dueWarnings here (sh .warnpast) today date))))
 
 pub ruleset payers = (payer-counted, payer-third, payer-always)
 

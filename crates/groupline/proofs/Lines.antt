@@ -23,8 +23,8 @@ use Rattle.groupline.specs.declared.GroupRead.the-variants.{Refused}
 use Rattle.groupline.specs.Told.{told, Marked, Tells}
 
 -- b is whether the payer's field stands in the line s, and x what total and date gave
-module _ (sh : Sheet) (today : ℕ) (s : List ℕ) (b : Bool) (h : b ≡ hasPayer (sh .emptypayer) s) where
-  pub line-single : b ≡ false → (x : GroupRead) → ((payer : Account) → told payer x ≡ counted (totalAndDate sh today payer 2 (drop 2 s))) → Marked true x → Tells (readGroup sh today s) x
+module _ (sh : Sheet) (today : ℕ) (here : Bool) (s : List ℕ) (b : Bool) (h : b ≡ hasPayer (sh .emptypayer) s) where
+  pub line-single : b ≡ false → (x : GroupRead) → ((payer : Account) → told payer x ≡ counted (totalAndDate sh today here payer 2 (drop 2 s))) → Marked true x → Tells (readGroup sh today here s) x
   unfolding readGroup isNobody pick
   line-single n x q m = record { payer = nobody; says = q nobody ∙ ap counted (sym (pick-false _ _ (sym h ∙ n))); single = m }
 
@@ -34,30 +34,30 @@ module _ (sh : Sheet) (today : ℕ) (s : List ℕ) (b : Bool) (h : b ≡ hasPaye
     read = readPayer (sh .emptypayer) (sh .zeropayer) (sh .joined) (sh .basemin)
 
     abbrev rest : Account → ℕ → List ℕ → Listed
-    rest payer a1 s1 = gap a1 s1 λ a2 s2. totalAndDate sh today payer a2 s2
+    rest payer a1 s1 = gap a1 s1 λ a2 s2. totalAndDate sh today here payer a2 s2
 
-    with-payer : readGroup sh today s ≡ field read 2 (drop 2 s) rest
+    with-payer : readGroup sh today here s ≡ field read 2 (drop 2 s) rest
     unfolding readGroup
     with-payer = pick-true _ _ (sym h ∙ y)
 
-    pub payer-refused : (c : ℕ) → p ≡ payers.Refused c → Tells (readGroup sh today s) (Refused c 2)
+    pub payer-refused : (c : ℕ) → p ≡ payers.Refused c → Tells (readGroup sh today here s) (Refused c 2)
     unfolding counted
     payer-refused c f = record { payer = nobody; says = ap counted (sym (with-payer ∙ missed-kept isNobody read s 2 c (rw f at g) rest)); single = tt }
 
     -- the payer, and e where its field ends
     module _ (t : Bool) (e : ℕ) (f : p ≡ payers.At t e) where
-      there : (a : Account) × (readGroup sh today s ≡ gap e (drop e s) (λ a2 s2. totalAndDate sh today a a2 s2)) × (t ≡ isNobody a)
+      there : (a : Account) × (readGroup sh today here s ≡ gap e (drop e s) (λ a2 s2. totalAndDate sh today here a a2 s2)) × (t ≡ isNobody a)
       there =
           let v = was-found isNobody (fieldAt read s 2) t e (rw f at g) in
           (v .0, with-payer ∙ found-field read s 2 (v .0) e (v .1) rest, v .2)
 
-      pub payer-last : length s ≤ e → Tells (readGroup sh today s) (Refused 4 e)
+      pub payer-last : length s ≤ e → Tells (readGroup sh today here s) (Refused 4 e)
       unfolding counted
       payer-last l = record { payer = nobody; says = ap counted (step-no-gap (no 4 e) s e l _ refl ∙ sym (there .1)); single = tt }
 
-      pub payer-first : e < length s → (x : GroupRead) → ((payer : Account) → told payer x ≡ counted (totalAndDate sh today payer (e + 1) (drop (e + 1) s))) → Marked t x → Tells (readGroup sh today s) x
+      pub payer-first : e < length s → (x : GroupRead) → ((payer : Account) → told payer x ≡ counted (totalAndDate sh today here payer (e + 1) (drop (e + 1) s))) → Marked t x → Tells (readGroup sh today here s) x
       payer-first l x q m =
-          let on = step-gap (totalAndDate sh today (there .0) (e + 1) (drop (e + 1) s)) s e l (λ a2 s2. totalAndDate sh today (there .0) a2 s2) refl in
+          let on = step-gap (totalAndDate sh today here (there .0) (e + 1) (drop (e + 1) s)) s e l (λ a2 s2. totalAndDate sh today here (there .0) a2 s2) refl in
           record { payer = there .0; says = q (there .0) ∙ ap counted (on ∙ sym (there .1)); single = rw (there .2) at m }
 
 pub ruleset lines = (line-single, payer-refused, payer-last, payer-first)

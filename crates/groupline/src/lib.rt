@@ -87,11 +87,11 @@ fn has_payer(s: &[u8], always: bool) -> bool
     3 <= scan::line::spaces(s)
 }
 
-// TOTAL, at `at`, and DATE, behind the payer.
-fn total_and_date(s: &[u8], at: usize, sh: Sheet, today: u64, single: bool) -> GroupRead
+// TOTAL, at `at`, and DATE, behind the payer; the day may be judged here.
+fn total_and_date(s: &[u8], at: usize, sh: Sheet, today: u64, here: bool, single: bool) -> GroupRead
     requires { ⌜ realDay today ≡ true ⌝ }
     requires { ⌜ at ≤ length (now s) ⌝ }
-    ensures { λ r. ⌜ ((payer : Account) → told payer r ≡ counted (totalAndDate sh today payer at (drop at (now (s .entry))))) ⌝ }
+    ensures { λ r. ⌜ ((payer : Account) → told payer r ≡ counted (totalAndDate sh today here payer at (drop at (now (s .entry))))) ⌝ }
     ensures { λ r. ⌜ Marked single r ⌝ }
     ensures { λ r. ⌜ Low r ⌝ }
 {
@@ -103,13 +103,13 @@ fn total_and_date(s: &[u8], at: usize, sh: Sheet, today: u64, single: bool) -> G
             }
             let from = end + 1;
             let limits = sh.limits();
-            match calendar::at::due_at(s, from, sh.longdate, sh.early, limits.ahead, today) {
+            match calendar::at::due_at(s, from, sh.longdate, here, sh.early, limits.ahead, today) {
                 NumAt::Refused(n) => GroupRead::Refused(n, from),
                 NumAt::Value(date, last) => {
                     if last < s.len() {
                         return GroupRead::Refused(4, last);
                     }
-                    let warnings = calendar::due_warnings(sh.warnpast, today, date);
+                    let warnings = calendar::due_warnings(here, sh.warnpast, today, date);
                     GroupRead::Group {
                         single,
                         total,
@@ -123,11 +123,11 @@ fn total_and_date(s: &[u8], at: usize, sh: Sheet, today: u64, single: bool) -> G
     }
 }
 
-// The whole line, which is known to begin with `2 `.
-pub fn group_line(s: &[u8], sh: Sheet, today: u64) -> GroupRead
+// The whole line, which is known to begin with `2 `; its day is judged here, or elsewhere.
+pub fn group_line(s: &[u8], sh: Sheet, today: u64, here: bool) -> GroupRead
     requires { ⌜ realDay today ≡ true ⌝ }
     requires { ⌜ 2 ≤ length (now s) ⌝ }
-    ensures { λ r. ⌜ Tells (readGroup sh today (now (s .entry))) r ⌝ }
+    ensures { λ r. ⌜ Tells (readGroup sh today here (now (s .entry))) r ⌝ }
     ensures { λ r. ⌜ Low r ⌝ }
 {
     if has_payer(s, sh.emptypayer) {
@@ -137,10 +137,10 @@ pub fn group_line(s: &[u8], sh: Sheet, today: u64) -> GroupRead
                 if s.len() <= end {
                     return GroupRead::Refused(4, end);
                 }
-                total_and_date(s, end + 1, sh, today, single)
+                total_and_date(s, end + 1, sh, today, here, single)
             }
         }
     } else {
-        total_and_date(s, 2, sh, today, true)
+        total_and_date(s, 2, sh, today, here, true)
     }
 }

@@ -103,9 +103,9 @@ module _ {A : Type 0} (g : Said A → Counted) (keeps : Keeps g) where
   spaced-passes read at s k j h = field-passes g keeps read at s _ _ λ v a1 s1. gap-passes g keeps a1 s1 _ _ λ a2 s2. h v a2 s2
 
 -- document 01's reading of the line, with its warnings counted, is the walk that makes an item
-payee-walk : (sh : Sheet) (payer : Account) (at : ℕ) (s : List ℕ) → counted (lines.fromPayee sh payer at s) ≡ fromPayee sh (itemSaid payer) at s
+payee-walk : (sh : Sheet) (due : ℕ → Bool) (payer : Account) (at : ℕ) (s : List ℕ) → counted (lines.fromPayee sh due payer at s) ≡ fromPayee sh due (itemSaid payer) at s
 unfolding lines.fromPayee tail fromPayee fromAmount fromVariable fromBank itemSaid counted
-payee-walk sh payer at s =
+payee-walk sh due payer at s =
     spaced-passes counted counted-keeps _ at s _ _ λ payee a1 s1.
     spaced-passes counted counted-keeps _ a1 s1 _ _ λ amount a2 s2.
     spaced-passes counted counted-keeps _ a2 s2 _ _ λ variable a3 s3.
@@ -116,9 +116,9 @@ payee-walk sh payer at s =
     (length-append (notices lowPriority a3 (bank .warnings)) (texts .warnings) ∙ ap (λ (n : ℕ). n + length (texts .warnings)) (notices-length lowPriority a3 (bank .warnings))))
     (sh .fixedtail) (sh .bare) a4 s4
 
-pub item-walk : (sh : Sheet) (single : Bool) (s : List ℕ) → counted (readItem sh single s) ≡ walk sh single itemSaid s
+pub item-walk : (sh : Sheet) (due : ℕ → Bool) (single : Bool) (s : List ℕ) → counted (readItem sh due single s) ≡ walk sh due single itemSaid s
 unfolding readItem walk payerFirst
-item-walk sh single s =
+item-walk sh due single s =
     pick-passes counted counted-keeps single _ _ _ _
-    (spaced-passes counted counted-keeps _ 0 s _ _ λ payer a1 s1. payee-walk sh payer a1 s1)
-    (payee-walk sh nobody 0 s)
+    (spaced-passes counted counted-keeps _ 0 s _ _ λ payer a1 s1. payee-walk sh due payer a1 s1)
+    (payee-walk sh due nobody 0 s)

@@ -1,5 +1,6 @@
 // An item's line as judging needs it: all its fields are tested, its amount and its warnings are kept.
 use crate::tail::TailRead;
+use calendar::term::Banks;
 use numeral::field::NumAt;
 use numeral::field::Passed;
 use sheet::Sheet;
@@ -11,6 +12,7 @@ ghost use Prim.Native.Nat.{ℕ, _+_, _≤_};
 ghost use lib.ListN.{length, drop};
 ghost use Rattle.paper.specs.Entries.{Counted, counted};
 ghost use Rattle.paper.specs.ItemLine.{readItem};
+ghost use Rattle.calendar.specs.term.Allows.{allows};
 ghost use Rattle.itemline.specs.tail.Told.{tailOf};
 ghost use Rattle.itemline.specs.Walk.{fromBank, fromVariable, fromAmount, payerFirst};
 ghost use Rattle.itemline.specs.judge.Brief.{kept, keptTexts, keptBank, keptVariable, anyPayer, brief};
@@ -65,12 +67,12 @@ fn with_tail(
 }
 
 // The bank field at `at` and the tail, behind the variable symbol.
-fn from_bank(s: &[u8], at: usize, sh: Sheet, amount: u64) -> Judged
+fn from_bank(s: &[u8], at: usize, sh: Sheet, banks: Banks, amount: u64) -> Judged
     requires { ⌜ sh .text .most ≤ 4 ⌝ }
     requires { ⌜ at ≤ length (now s) ⌝ }
-    ensures { λ r. ⌜ told r ≡ fromBank sh (keptBank amount) at (drop at (now (s .entry))) ⌝ }
+    ensures { λ r. ⌜ told r ≡ fromBank sh (allows banks (sh .bank)) (keptBank amount) at (drop at (now (s .entry))) ⌝ }
 {
-    match bank::at::judge_bank(s, at, sh.priority) {
+    match bank::at::judge_bank(s, at, sh.priority, sh.bank_code(), banks) {
         NumAt::Refused(n) => Judged::Refused(n, at),
         NumAt::Value(warnings, end) => {
             with_tail(s, end, sh.text, sh.fixedtail, sh.bare, amount, warnings)
@@ -79,10 +81,10 @@ fn from_bank(s: &[u8], at: usize, sh: Sheet, amount: u64) -> Judged
 }
 
 // The variable symbol at `at`, and what follows.
-fn from_variable(s: &[u8], at: usize, sh: Sheet, amount: u64) -> Judged
+fn from_variable(s: &[u8], at: usize, sh: Sheet, banks: Banks, amount: u64) -> Judged
     requires { ⌜ sh .text .most ≤ 4 ⌝ }
     requires { ⌜ at ≤ length (now s) ⌝ }
-    ensures { λ r. ⌜ told r ≡ fromVariable sh (keptVariable amount) at (drop at (now (s .entry))) ⌝ }
+    ensures { λ r. ⌜ told r ≡ fromVariable sh (allows banks (sh .bank)) (keptVariable amount) at (drop at (now (s .entry))) ⌝ }
 {
     match numeral::field::pass_symbol(s, at, 1) {
         Passed::Refused(n) => Judged::Refused(n, at),
@@ -90,16 +92,16 @@ fn from_variable(s: &[u8], at: usize, sh: Sheet, amount: u64) -> Judged
             if s.len() <= end {
                 return Judged::Refused(4, end);
             }
-            from_bank(s, end + 1, sh, amount)
+            from_bank(s, end + 1, sh, banks, amount)
         }
     }
 }
 
 // The amount at `at`, and what follows.
-fn from_amount(s: &[u8], at: usize, sh: Sheet) -> Judged
+fn from_amount(s: &[u8], at: usize, sh: Sheet, banks: Banks) -> Judged
     requires { ⌜ (sh .text .most ≤ 4) × (sh .itemdigits ≤ 19) ⌝ }
     requires { ⌜ at ≤ length (now s) ⌝ }
-    ensures { λ r. ⌜ told r ≡ fromAmount sh keptVariable at (drop at (now (s .entry))) ⌝ }
+    ensures { λ r. ⌜ told r ≡ fromAmount sh (allows banks (sh .bank)) keptVariable at (drop at (now (s .entry))) ⌝ }
 {
     let limits = sh.limits();
     match amount::at::amount_at(s, at, sh.comma, limits.digits, limits.amount) {
@@ -108,7 +110,7 @@ fn from_amount(s: &[u8], at: usize, sh: Sheet) -> Judged
             if s.len() <= end {
                 return Judged::Refused(4, end);
             }
-            from_variable(s, end + 1, sh, amount)
+            from_variable(s, end + 1, sh, banks, amount)
         }
     }
 }
@@ -133,10 +135,10 @@ fn payer_first(s: &[u8], joined: bool, least: usize, single: bool) -> PayeeFrom
     }
 }
 
-// The whole line; the payer's account comes first where the group is single.
-pub fn judge_item(s: &[u8], sh: Sheet, single: bool) -> Judged
+// The whole line; the payer's account comes first where the group is single. `banks` may be due on the group's day.
+pub fn judge_item(s: &[u8], sh: Sheet, banks: Banks, single: bool) -> Judged
     requires { ⌜ (sh .text .most ≤ 4) × (sh .itemdigits ≤ 19) ⌝ }
-    ensures { λ r. ⌜ told r ≡ brief (counted (readItem sh single (now (s .entry)))) ⌝ }
+    ensures { λ r. ⌜ told r ≡ brief (counted (readItem sh (allows banks (sh .bank)) single (now (s .entry)))) ⌝ }
 {
     match payer_first(s, sh.joined, sh.basemin, single) {
         PayeeFrom::Refused(n, place) => Judged::Refused(n, place),
@@ -146,7 +148,7 @@ pub fn judge_item(s: &[u8], sh: Sheet, single: bool) -> Judged
                 if s.len() <= end {
                     return Judged::Refused(4, end);
                 }
-                from_amount(s, end + 1, sh)
+                from_amount(s, end + 1, sh, banks)
             }
         },
     }

@@ -35,7 +35,7 @@ ghost use Rattle.text.specs.division.Unnamed.{unnamed};
 ghost use Rattle.text.specs.Told.{countText};
 ghost use Rattle.itemline.specs.tail.Told.{tailOf};
 ghost use Rattle.itemline.specs.Told.{noSpans, told, Sound};
-ghost use Rattle.itemline.specs.Walk.{fromBank, fromVariable, fromAmount, fromPayee, payerFirst, itemSaid};
+ghost use Rattle.itemline.specs.Walk.{anyBank, fromBank, fromVariable, fromAmount, fromPayee, payerFirst, itemSaid};
 ghost use Rattle.numeral.specs.field.At.{fieldAt};
 ghost use Rattle.numeral.specs.placed.Known.{There};
 ghost use Rattle.numeral.specs.placed.Told.{toldNumber};
@@ -274,8 +274,8 @@ fn from_bank(s: &[u8], at: usize, sh: Sheet, paid: Paid, variable: u64) -> Field
     requires { ⌜ sh .text .most ≤ 4 ⌝ }
     requires { ⌜ at ≤ length (now s) ⌝ }
     requires { ⌜ paid .amount ≤ most14 ⌝ }
-    requires { ⌜ isSaid (fromBank sh (madePaid paid variable) at (drop at (now s))) ≡ true ⌝ }
-    ensures { λ r. ⌜ told (now (s .entry)) r ≡ fromBank sh (madePaid paid variable) at (drop at (now (s .entry))) ⌝ }
+    requires { ⌜ isSaid (fromBank sh anyBank (madePaid paid variable) at (drop at (now s))) ≡ true ⌝ }
+    ensures { λ r. ⌜ told (now (s .entry)) r ≡ fromBank sh anyBank (madePaid paid variable) at (drop at (now (s .entry))) ⌝ }
     ensures { λ r. ⌜ Sound (now (s .entry)) r ⌝ }
 {
     let bank = bank::at::take_bank(s, at, sh.priority);
@@ -294,8 +294,8 @@ fn from_bank(s: &[u8], at: usize, sh: Sheet, paid: Paid, variable: u64) -> Field
 fn from_variable(s: &[u8], at: usize, sh: Sheet, paid: Paid) -> Fields
     requires { ⌜ sh .text .most ≤ 4 ⌝ }
     requires { ⌜ paid .amount ≤ most14 ⌝ }
-    requires { ⌜ isSaid (fromVariable sh (madePaid paid) at (drop at (now s))) ≡ true ⌝ }
-    ensures { λ r. ⌜ told (now (s .entry)) r ≡ fromVariable sh (madePaid paid) at (drop at (now (s .entry))) ⌝ }
+    requires { ⌜ isSaid (fromVariable sh anyBank (madePaid paid) at (drop at (now s))) ≡ true ⌝ }
+    ensures { λ r. ⌜ told (now (s .entry)) r ≡ fromVariable sh anyBank (madePaid paid) at (drop at (now (s .entry))) ⌝ }
     ensures { λ r. ⌜ Sound (now (s .entry)) r ⌝ }
 {
     let variable = numeral::placed::take_symbol(s, at);
@@ -315,8 +315,8 @@ fn item_amount(s: &[u8], at: usize, sh: Sheet) -> Run
 // The amount at `at`, and what follows.
 fn from_amount(s: &[u8], at: usize, sh: Sheet, payer: Account, payee: Account) -> Fields
     requires { ⌜ (sh .text .most ≤ 4) × (sh .itemdigits ≤ 19) × (sh .itemmax ≤ most14) ⌝ }
-    requires { ⌜ isSaid (fromAmount sh (itemSaid (taken payer) (taken payee)) at (drop at (now s))) ≡ true ⌝ }
-    ensures { λ r. ⌜ told (now (s .entry)) r ≡ fromAmount sh (itemSaid (taken payer) (taken payee)) at (drop at (now (s .entry))) ⌝ }
+    requires { ⌜ isSaid (fromAmount sh anyBank (itemSaid (taken payer) (taken payee)) at (drop at (now s))) ≡ true ⌝ }
+    ensures { λ r. ⌜ told (now (s .entry)) r ≡ fromAmount sh anyBank (itemSaid (taken payer) (taken payee)) at (drop at (now (s .entry))) ⌝ }
     ensures { λ r. ⌜ Sound (now (s .entry)) r ⌝ }
 {
     let amount = item_amount(s, at, sh);
@@ -333,8 +333,8 @@ fn from_amount(s: &[u8], at: usize, sh: Sheet, payer: Account, payee: Account) -
 // The payee at `at`, and what follows.
 fn from_payee(s: &[u8], at: usize, sh: Sheet, payer: Account) -> Fields
     requires { ⌜ (sh .text .most ≤ 4) × (sh .itemdigits ≤ 19) × (sh .itemmax ≤ most14) ⌝ }
-    requires { ⌜ isSaid (fromPayee sh (itemSaid (taken payer)) at (drop at (now s))) ≡ true ⌝ }
-    ensures { λ r. ⌜ told (now (s .entry)) r ≡ fromPayee sh (itemSaid (taken payer)) at (drop at (now (s .entry))) ⌝ }
+    requires { ⌜ isSaid (fromPayee sh anyBank (itemSaid (taken payer)) at (drop at (now s))) ≡ true ⌝ }
+    ensures { λ r. ⌜ told (now (s .entry)) r ≡ fromPayee sh anyBank (itemSaid (taken payer)) at (drop at (now (s .entry))) ⌝ }
     ensures { λ r. ⌜ Sound (now (s .entry)) r ⌝ }
 {
     let payee = account::at::take_account(s, at, sh.joined, sh.basemin);
@@ -364,8 +364,8 @@ fn take_payer(s: &[u8], joined: bool, least: usize, single: bool) -> Account
 // The whole line, which is known to be an item's.
 pub fn take_item(s: &[u8], sh: Sheet, single: bool) -> Fields
     requires { ⌜ (sh .text .most ≤ 4) × (sh .itemdigits ≤ 19) × (sh .itemmax ≤ most14) ⌝ }
-    requires { ⌜ isSaid (readItem sh single (now s)) ≡ true ⌝ }
-    ensures { λ r. ⌜ told (now (s .entry)) r ≡ counted (readItem sh single (now (s .entry))) ⌝ }
+    requires { ⌜ isSaid (readItem sh anyBank single (now s)) ≡ true ⌝ }
+    ensures { λ r. ⌜ told (now (s .entry)) r ≡ counted (readItem sh anyBank single (now (s .entry))) ⌝ }
     ensures { λ r. ⌜ Sound (now (s .entry)) r ⌝ }
 {
     let payer = take_payer(s, sh.joined, sh.basemin, single);

@@ -46,15 +46,15 @@ day-dated b s from d l h =
     (λ t. let e : longDay (drop from s) ≡ value d = simp t at h in long (long-long s from d e l) e)
     (λ t. let e : shortDay (drop from s) ≡ value d = simp t at h in short (short-long s from d l e) e)
 
-module _ (sh : Sheet) (today : ℕ) (payer : Account) (s : List ℕ) (at : ℕ) (h : isSaid (totalAndDate sh today payer at (drop at s)) ≡ true) where
+module _ (sh : Sheet) (today : ℕ) (here : Bool) (payer : Account) (s : List ℕ) (at : ℕ) (h : isSaid (totalAndDate sh today here payer at (drop at s)) ≡ true) where
   abbrev totalOf : List ℕ → Field ℕ
   totalOf = readTotal (sh .comma)
 
   abbrev dateOf : List ℕ → Field ℕ
-  dateOf = readDue (sh .longdate) (sh .early) (sh .ahead) today
+  dateOf = readDue (sh .longdate) here (sh .early) (sh .ahead) today
 
   abbrev opens : ℕ → ℕ → ℕ → Listed
-  opens due total date = said (group payer total date) (notices pastDay due (dueWarnings (sh .warnpast) today date)) (totalAt at)
+  opens due total date = said (group payer total date) (notices pastDay due (dueWarnings here (sh .warnpast) today date)) (totalAt at)
 
   abbrev fromDate : ℕ → ℕ → List ℕ → Listed
   fromDate total a2 s2 = field dateOf a2 s2 λ date a3 s3. lineEnd a3 s3 (opens a2 total date)
@@ -72,7 +72,7 @@ module _ (sh : Sheet) (today : ℕ) (payer : Account) (s : List ℕ) (at : ℕ) 
   abbrev end : ℕ
   end = at + seek space (drop at s)
 
-  to-date : totalAndDate sh today payer at (drop at s) ≡ fromDate total (end + 1) (drop (end + 1) s)
+  to-date : totalAndDate sh today here payer at (drop at s) ≡ fromDate total (end + 1) (drop (end + 1) s)
   unfolding totalAndDate
   to-date = next-goes totalOf s at fromDate h total end (at-value totalOf s at total total end (total-some .1) refl refl)
 
@@ -85,14 +85,14 @@ module _ (sh : Sheet) (today : ℕ) (payer : Account) (s : List ℕ) (at : ℕ) 
   abbrev date : ℕ
   date = date-some .0
 
-  says : totalAndDate sh today payer at (drop at s) ≡ opens (end + 1) total date
+  says : totalAndDate sh today here payer at (drop at s) ≡ opens (end + 1) total date
   unfolding date-some
   says = to-date ∙ last-is dateOf s (end + 1) (opens (end + 1) total) said-date
 
   day-there : readDay (sh .longdate) (drop (end + 1) s) ≡ value date
   unfolding readDue
   day-there =
-      tested (dueAllowed (sh .early) (sh .ahead) today) 11 (readDay (sh .longdate) (drop (end + 1) s)) date
+      tested (dueAllowed here (sh .early) (sh .ahead) today) 11 (readDay (sh .longdate) (drop (end + 1) s)) date
       (rw (last-whole dateOf s (end + 1) (opens (end + 1) total) said-date) at (date-some .1))
 
   dated : Dated s (end + 1) date
@@ -146,17 +146,17 @@ module _ (sh : Sheet) (today : ℕ) (payer : Account) (s : List ℕ) (at : ℕ) 
   pub date-byte : length s - 7 < length s
   date-byte = omega (arith, date-room)
 
-  opened : (v : ℕ) → date ≡ v → (g : Group) → g ≡ record { prefix = payer .prefix; base = payer .base; date = v } → Opens (totalAndDate sh today payer at (drop at s)) g
-  opened v e g q = record { total = total; warnings = notices pastDay (end + 1) (dueWarnings (sh .warnpast) today date); places = totalAt at; says = says ∙ rw (q, e) }
+  opened : (v : ℕ) → date ≡ v → (g : Group) → g ≡ record { prefix = payer .prefix; base = payer .base; date = v } → Opens (totalAndDate sh today here payer at (drop at s)) g
+  opened v e g q = record { total = total; warnings = notices pastDay (end + 1) (dueWarnings here (sh .warnpast) today date); places = totalAt at; says = says ∙ rw (q, e) }
 
-module _ (sh : Sheet) (today prefix base : ℕ) (s : List ℕ) (at : ℕ) (h : isSaid (totalAndDate sh today (account prefix base) at (drop at s)) ≡ true) where
+module _ (sh : Sheet) (today : ℕ) (here : Bool) (prefix base : ℕ) (s : List ℕ) (at : ℕ) (h : isSaid (totalAndDate sh today here (account prefix base) at (drop at s)) ≡ true) where
   abbrev with : ℕ → Group
   with v = record { prefix = prefix; base = base; date = v }
 
-  pub short-opens : getD s (length s - 7) 0 ≡ 32 → (v : ℕ) → value v ≡ shortDay (drop (length s - 6) s) → Opens (totalAndDate sh today (account prefix base) at (drop at s)) (with v)
-  short-opens b v e = opened sh today (account prefix base) s at h v (short-date sh today (account prefix base) s at h b v e) (with v) refl
+  pub short-opens : getD s (length s - 7) 0 ≡ 32 → (v : ℕ) → value v ≡ shortDay (drop (length s - 6) s) → Opens (totalAndDate sh today here (account prefix base) at (drop at s)) (with v)
+  short-opens b v e = opened sh today here (account prefix base) s at h v (short-date sh today here (account prefix base) s at h b v e) (with v) refl
 
-  pub long-opens : (getD s (length s - 7) 0 ≡ 32 → ⊥) → (v : ℕ) → value v ≡ longDay (drop (length s - 8) s) → Opens (totalAndDate sh today (account prefix base) at (drop at s)) (with v)
-  long-opens b v e = opened sh today (account prefix base) s at h v (long-date sh today (account prefix base) s at h b v e) (with v) refl
+  pub long-opens : (getD s (length s - 7) 0 ≡ 32 → ⊥) → (v : ℕ) → value v ≡ longDay (drop (length s - 8) s) → Opens (totalAndDate sh today here (account prefix base) at (drop at s)) (with v)
+  long-opens b v e = opened sh today here (account prefix base) s at h v (long-date sh today here (account prefix base) s at h b v e) (with v) refl
 
 pub ruleset dates = (date-room, date-byte, short-room, short-there, short-opens, long-room, long-there, long-opens)

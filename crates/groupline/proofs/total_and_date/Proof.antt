@@ -14,7 +14,7 @@ enum-known-total : tie.Need-enum-known-total
 enum-known-total c = search needs
 
 returns : tie.Need-returns
-returns c = ((λ payer. total-counted _ _ payer _ _ _ (search groups depth 12)), (search (bounds, needs), search (bounds, needs)))
+returns c = ((λ payer. total-counted _ _ _ payer _ _ _ (search groups depth 12)), (search (bounds, needs), search (bounds, needs)))
 
 add-from : tie.Need-add-from
 add-from c = search needs
@@ -32,19 +32,19 @@ enum-known-date : tie.Need-enum-known-date
 enum-known-date c = search needs
 
 returns-2 : tie.Need-returns-2
-returns-2 c = ((λ payer. total-counted _ _ payer _ _ _ (search groups depth 12)), (search (bounds, needs), search (bounds, needs)))
+returns-2 c = ((λ payer. total-counted _ _ _ payer _ _ _ (search groups depth 12)), (search (bounds, needs), search (bounds, needs)))
 
 due-warnings-requires : tie.Need-due-warnings-requires
 due-warnings-requires c κs = search (bounds, needs)
 
 returns-3 : tie.Need-returns-3
-returns-3 c = ((λ payer. total-counted _ _ payer _ _ _ (search groups depth 12)), (search (bounds, needs), search (bounds, needs)))
+returns-3 c = ((λ payer. total-counted _ _ _ payer _ _ _ (search groups depth 12)), (search (bounds, needs), search (bounds, needs)))
 
 returns-4 : tie.Need-returns-4
-returns-4 c = ((λ payer. total-counted _ _ payer _ _ _ (search groups depth 12)), (search (bounds, needs), search (bounds, needs)))
+returns-4 c = ((λ payer. total-counted _ _ _ payer _ _ _ (search groups depth 12)), (search (bounds, needs), search (bounds, needs)))
 
 returns-5 : tie.Need-returns-5
-returns-5 c = ((λ payer. total-counted _ _ payer _ _ _ (search groups depth 12)), (search (bounds, needs), search (bounds, needs)))
+returns-5 c = ((λ payer. total-counted _ _ _ payer _ _ _ (search groups depth 12)), (search (bounds, needs), search (bounds, needs)))
 
 pub total-and-date-spec : {M : Type 1} → statement M
 total-and-date-spec =

@@ -32,22 +32,23 @@ value-brief : (payer payee : Account) (amount variable : ℕ) (bank : Bank) (spe
 unfolding itemSaid keptBank keptTexts brief onEntry onItem
 value-brief payer payee amount variable bank specific texts = refl
 
-payee-brief : (sh : Sheet) (payer : Account) (at : ℕ) (s : List ℕ) → brief (fromPayee sh (itemSaid payer) at s) ≡ fromPayee sh keptPayee at s
+payee-brief : (sh : Sheet) (due : ℕ → Bool) (payer : Account) (at : ℕ) (s : List ℕ) → brief (fromPayee sh due (itemSaid payer) at s) ≡ fromPayee sh due keptPayee at s
 unfolding fromPayee fromAmount fromVariable fromBank spaced tailOf keptPayee keptVariable
-payee-brief sh payer at s =
+payee-brief sh due payer at s =
     spaced-passes brief brief-keeps _ at s _ _ λ payee a1 s1.
     spaced-passes brief brief-keeps _ a1 s1 _ _ λ amount a2 s2.
     spaced-passes brief brief-keeps _ a2 s2 _ _ λ variable a3 s3.
     field-passes brief brief-keeps _ a3 s3 _ _ λ bank a4 s4.
     tail-passes brief brief-keeps (sh .text) _ _ (λ specific texts. value-brief payer payee amount variable bank specific texts) (sh .fixedtail) (sh .bare) a4 s4
 
-walk-brief : (sh : Sheet) (single : Bool) (s : List ℕ) → brief (walk sh single itemSaid s) ≡ payerFirst (sh .joined) (sh .basemin) single s (anyPayer (fromPayee sh keptPayee))
+walk-brief : (sh : Sheet) (due : ℕ → Bool) (single : Bool) (s : List ℕ)
+    → brief (walk sh due single itemSaid s) ≡ payerFirst (sh .joined) (sh .basemin) single s (anyPayer (fromPayee sh due keptPayee))
 unfolding walk payerFirst spaced anyPayer
-walk-brief sh single s =
+walk-brief sh due single s =
     pick-passes brief brief-keeps single _ _ _ _
-    (spaced-passes brief brief-keeps _ 0 s _ _ λ payer a1 s1. payee-brief sh payer a1 s1)
-    (payee-brief sh nobody 0 s)
+    (spaced-passes brief brief-keeps _ 0 s _ _ λ payer a1 s1. payee-brief sh due payer a1 s1)
+    (payee-brief sh due nobody 0 s)
 
-pub line-brief : (sh : Sheet) (single : Bool) (s : List ℕ)
-    → brief (counted (readItem sh single s)) ≡ payerFirst (sh .joined) (sh .basemin) single s (anyPayer (fromPayee sh keptPayee))
-line-brief sh single s = rw (item-walk sh single s) (walk-brief sh single s)
+pub line-brief : (sh : Sheet) (due : ℕ → Bool) (single : Bool) (s : List ℕ)
+    → brief (counted (readItem sh due single s)) ≡ payerFirst (sh .joined) (sh .basemin) single s (anyPayer (fromPayee sh due keptPayee))
+line-brief sh due single s = rw (item-walk sh due single s) (walk-brief sh due single s)

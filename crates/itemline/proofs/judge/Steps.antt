@@ -11,7 +11,7 @@ use Rattle.sheet.specs.declared.Limits.{Limits}
 use Rattle.sheet.specs.Sheets.{LimitsOf}
 use Rattle.paper.specs.Accounts.{readAccount}
 use Rattle.paper.specs.Amounts.{readItemAmount}
-use Rattle.paper.specs.BankField.{readBank}
+use Rattle.paper.specs.BankField.{readDueBank}
 use Rattle.paper.specs.Texts.{Noted, readText}
 use Rattle.paper.specs.Entries.{Counted, no, counted, gap}
 use Rattle.paper.specs.ItemLine.{readSymbol, readItem}
@@ -32,6 +32,8 @@ use Rattle.text.specs.declared.TextRead.{TextRead}
 use Rattle.text.specs.declared.TextRead.the-variants as text
 use Rattle.text.specs.Told as texts
 use Rattle.text.specs.Told.{countText}
+use Rattle.calendar.specs.declared.term.Banks.{Banks}
+use Rattle.calendar.specs.term.Allows.{allows}
 use Rattle.bank.specs.at.Warned.{warningsOf}
 use Rattle.bank.proofs.at.Steps.{bank-within, bank-low}
 use Rattle.itemline.proofs.tail.Steps.{step-plain, step-text, step-no-tail, text-within}
@@ -69,35 +71,42 @@ amount-limit sh l of may s at n g = rw (of .digits, of .amount) at g
 
 -- ---- the bank field: n is what its judge answered
 
-module _ (sh : Sheet) (amount : ℕ) (s : List ℕ) (at : ℕ) (n : NumAt) (g : number.told n ≡ keeping warningsOf (fieldAt (readBank (sh .priority)) s at)) (r : Counted) where
-  pub step-bank : (w e : ℕ) → n ≡ Value w e → r ≡ tailOf (sh .text) (sh .fixedtail) (sh .bare) (keptTexts amount w) e (drop e s) → r ≡ fromBank sh (keptBank amount) at (drop at s)
-  unfolding fromBank keptBank
-  step-bank w e f q = q ∙ sym (kept-field warningsOf (readBank (sh .priority)) s at w e (rw f at g) (λ w a t. tailOf (sh .text) (sh .fixedtail) (sh .bare) (keptTexts amount w) a t))
+-- .. by the code that the sheet gave
+pub own-code : (sh : Sheet) (own : ℕ) → own ≡ sh .bank → (banks : Banks) (s : List ℕ) (at : ℕ) (n : NumAt)
+    → number.told n ≡ keeping warningsOf (fieldAt (readDueBank (sh .priority) (allows banks own)) s at)
+    → number.told n ≡ keeping warningsOf (fieldAt (readDueBank (sh .priority) (allows banks (sh .bank))) s at)
+own-code sh own e banks s at n g = rw e at g
 
-  pub step-no-bank : (c : ℕ) → n ≡ Refused c → r ≡ no c at → r ≡ fromBank sh (keptBank amount) at (drop at s)
+module _ (sh : Sheet) (due : ℕ → Bool) (amount : ℕ) (s : List ℕ) (at : ℕ) (n : NumAt)
+    (g : number.told n ≡ keeping warningsOf (fieldAt (readDueBank (sh .priority) due) s at)) (r : Counted) where
+  pub step-bank : (w e : ℕ) → n ≡ Value w e → r ≡ tailOf (sh .text) (sh .fixedtail) (sh .bare) (keptTexts amount w) e (drop e s) → r ≡ fromBank sh due (keptBank amount) at (drop at s)
+  unfolding fromBank keptBank
+  step-bank w e f q = q ∙ sym (kept-field warningsOf (readDueBank (sh .priority) due) s at w e (rw f at g) (λ w a t. tailOf (sh .text) (sh .fixedtail) (sh .bare) (keptTexts amount w) a t))
+
+  pub step-no-bank : (c : ℕ) → n ≡ Refused c → r ≡ no c at → r ≡ fromBank sh due (keptBank amount) at (drop at s)
   unfolding fromBank
-  step-no-bank c f q = q ∙ sym (missed-kept warningsOf (readBank (sh .priority)) s at c (rw f at g) _)
+  step-no-bank c f q = q ∙ sym (missed-kept warningsOf (readDueBank (sh .priority) due) s at c (rw f at g) _)
 
 -- ---- the variable symbol: n is what its judge answered
 
-module _ (sh : Sheet) (amount : ℕ) (s : List ℕ) (at : ℕ) (n : Passed) (g : passed n ≡ keeping nothing (fieldAt readSymbol s at)) (r : Counted) where
-  pub step-variable : (e : ℕ) → n ≡ pass.At e → r ≡ gap e (drop e s) (λ a t. fromBank sh (keptBank amount) a t) → r ≡ fromVariable sh (keptVariable amount) at (drop at s)
+module _ (sh : Sheet) (due : ℕ → Bool) (amount : ℕ) (s : List ℕ) (at : ℕ) (n : Passed) (g : passed n ≡ keeping nothing (fieldAt readSymbol s at)) (r : Counted) where
+  pub step-variable : (e : ℕ) → n ≡ pass.At e → r ≡ gap e (drop e s) (λ a t. fromBank sh due (keptBank amount) a t) → r ≡ fromVariable sh due (keptVariable amount) at (drop at s)
   unfolding fromVariable spaced keptVariable
-  step-variable e f q = q ∙ sym (passed-field readSymbol s at n g e f (λ a t. gap a t (λ b u. fromBank sh (keptBank amount) b u)))
+  step-variable e f q = q ∙ sym (passed-field readSymbol s at n g e f (λ a t. gap a t (λ b u. fromBank sh due (keptBank amount) b u)))
 
-  pub step-no-variable : (c : ℕ) → n ≡ pass.Refused c → r ≡ no c at → r ≡ fromVariable sh (keptVariable amount) at (drop at s)
+  pub step-no-variable : (c : ℕ) → n ≡ pass.Refused c → r ≡ no c at → r ≡ fromVariable sh due (keptVariable amount) at (drop at s)
   unfolding fromVariable spaced keptVariable
   step-no-variable c f q = q ∙ sym (refused-field readSymbol s at n g c f _)
 
 -- ---- accounts: n is what their judge answered
 
 module _ (n : Passed) (s : List ℕ) (r : Counted) where
-  module _ (sh : Sheet) (at : ℕ) (g : passed n ≡ keeping nothing (fieldAt (readAccount (sh .joined) (sh .basemin)) s at)) where
-    pub step-payee : (e : ℕ) → n ≡ pass.At e → r ≡ gap e (drop e s) (λ a t. fromAmount sh keptVariable a t) → r ≡ fromPayee sh keptPayee at (drop at s)
+  module _ (sh : Sheet) (due : ℕ → Bool) (at : ℕ) (g : passed n ≡ keeping nothing (fieldAt (readAccount (sh .joined) (sh .basemin)) s at)) where
+    pub step-payee : (e : ℕ) → n ≡ pass.At e → r ≡ gap e (drop e s) (λ a t. fromAmount sh due keptVariable a t) → r ≡ fromPayee sh due keptPayee at (drop at s)
     unfolding fromPayee spaced keptPayee
-    step-payee e f q = q ∙ sym (passed-field (readAccount (sh .joined) (sh .basemin)) s at n g e f (λ a t. gap a t (λ b u. fromAmount sh keptVariable b u)))
+    step-payee e f q = q ∙ sym (passed-field (readAccount (sh .joined) (sh .basemin)) s at n g e f (λ a t. gap a t (λ b u. fromAmount sh due keptVariable b u)))
 
-    pub step-no-payee : (c : ℕ) → n ≡ pass.Refused c → r ≡ no c at → r ≡ fromPayee sh keptPayee at (drop at s)
+    pub step-no-payee : (c : ℕ) → n ≡ pass.Refused c → r ≡ no c at → r ≡ fromPayee sh due keptPayee at (drop at s)
     unfolding fromPayee spaced keptPayee
     step-no-payee c f q = q ∙ sym (refused-field (readAccount (sh .joined) (sh .basemin)) s at n g c f _)
 
@@ -132,9 +141,9 @@ payer-within s t i at f = rw f at i
 
 -- ---- the whole line
 
-pub by-stages : (sh : Sheet) (single : Bool) (s : List ℕ) (r : Counted) → r ≡ payerFirst (sh .joined) (sh .basemin) single s (anyPayer (fromPayee sh keptPayee)) → r ≡ brief (counted (readItem sh single s))
-by-stages sh single s r q = q ∙ sym (line-brief sh single s)
+pub by-stages : (sh : Sheet) (due : ℕ → Bool) (single : Bool) (s : List ℕ) (r : Counted) → r ≡ payerFirst (sh .joined) (sh .basemin) single s (anyPayer (fromPayee sh due keptPayee)) → r ≡ brief (counted (readItem sh due single s))
+by-stages sh due single s r q = q ∙ sym (line-brief sh due single s)
 
-pub ruleset items = (amount-limit, step-payee, step-no-payee, step-first, step-no-first, step-variable, step-no-variable, step-bank, step-no-bank, tail-texts, tail-no-texts, step-plain, step-no-tail, kept-plain, step-payer, step-no-payer, no-payer, by-stages, steps)
+pub ruleset items = (amount-limit, own-code, step-payee, step-no-payee, step-first, step-no-first, step-variable, step-no-variable, step-bank, step-no-bank, tail-texts, tail-no-texts, step-plain, step-no-tail, kept-plain, step-payer, step-no-payer, no-payer, by-stages, steps)
 
-pub ruleset bounds = (passed-within, number-within, bank-within, text-within, payer-within, bank-low, texts-few)
+pub ruleset bounds = (own-code, passed-within, number-within, bank-within, text-within, payer-within, bank-low, texts-few)

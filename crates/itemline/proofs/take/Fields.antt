@@ -21,14 +21,15 @@ use Rattle.paper.specs.BankField as banks
 use Rattle.paper.specs.BankField.{readBank}
 use Rattle.paper.specs.Batch.{most14}
 use Rattle.paper.specs.Bytes.{fieldOf}
-use Rattle.paper.specs.Entries.{Counted, counted, gap}
+use Rattle.paper.specs.Entries.{Counted, counted, field, gap}
 use Rattle.paper.specs.ItemLine.{isValue, readItem}
 use Rattle.amount.proofs.Sound.{amount-within}
 use Rattle.bank.proofs.Sound.{bank-warnings}
+use Rattle.bank.proofs.Due.{any-due-bank}
 use Rattle.numeral.specs.field.At.{found, fieldAt}
 use Rattle.numeral.proofs.field.Steps.{found-value, found-end, found-within, found-field, step-gap}
 use Rattle.itemline.specs.tail.Told.{tailOf}
-use Rattle.itemline.specs.Walk.{spaced, fromBank, fromPayee, payerFirst, walk, itemSaid}
+use Rattle.itemline.specs.Walk.{anyBank, spaced, fromBank, fromPayee, payerFirst, walk, itemSaid}
 use Rattle.itemline.proofs.Steps.{item-walk}
 use Rattle.numeral.specs.placed.Known.{There}
 use Rattle.account.specs.at.Told.{toldAccount}
@@ -81,19 +82,23 @@ module _ (sh : Sheet) (paid : Paid) (variable : ℕ) (s : List ℕ) (at : ℕ) w
   abbrev rest : banks.Bank → ℕ → List ℕ → Counted
   rest b a1 s1 = tailOf (sh .text) (sh .fixedtail) (sh .bare) (madePaid paid variable b) a1 s1
 
-  pub bank-value : isSaid (fromBank sh (madePaid paid variable) at (drop at s)) ≡ true → isValue (readBank (sh .priority) (fieldOf (drop at s))) ≡ true
-  unfolding fromBank
-  bank-value h = field-value (readBank (sh .priority)) s at (λ b a1 s1. rest b a1 s1) h
+  -- where every bank may be due, the field is as it stands
+  bank-any : fromBank sh anyBank (madePaid paid variable) at (drop at s) ≡ field (readBank (sh .priority)) at (drop at s) (λ b a1 s1. rest b a1 s1)
+  unfolding fromBank field
+  bank-any = rw (any-due-bank anyBank (λ b. refl) (sh .priority) (fieldOf (drop at s)))
+
+  pub bank-value : isSaid (fromBank sh anyBank (madePaid paid variable) at (drop at s)) ≡ true → isValue (readBank (sh .priority) (fieldOf (drop at s))) ≡ true
+  bank-value h = field-value (readBank (sh .priority)) s at (λ b a1 s1. rest b a1 s1) (said-as _ _ h bank-any)
 
   module _ (b : Bank) (g : toldBank b ≡ fieldAt (readBank (sh .priority)) s at) where
-    to-tail : fromBank sh (madePaid paid variable) at (drop at s) ≡ tailOf (sh .text) (sh .fixedtail) (sh .bare) (made (front paid variable b)) (b .end) (drop (b .end) s)
-    unfolding fromBank made
-    to-tail = found-field (readBank (sh .priority)) s at (valueOf b) (b .end) g (λ b a1 s1. rest b a1 s1)
+    to-tail : fromBank sh anyBank (madePaid paid variable) at (drop at s) ≡ tailOf (sh .text) (sh .fixedtail) (sh .bare) (made (front paid variable b)) (b .end) (drop (b .end) s)
+    unfolding made
+    to-tail = bank-any ∙ found-field (readBank (sh .priority)) s at (valueOf b) (b .end) g (λ b a1 s1. rest b a1 s1)
 
-    pub bank-said : isSaid (fromBank sh (madePaid paid variable) at (drop at s)) ≡ true → isSaid (tailOf (sh .text) (sh .fixedtail) (sh .bare) (made (front paid variable b)) (b .end) (drop (b .end) s)) ≡ true
+    pub bank-said : isSaid (fromBank sh anyBank (madePaid paid variable) at (drop at s)) ≡ true → isSaid (tailOf (sh .text) (sh .fixedtail) (sh .bare) (made (front paid variable b)) (b .end) (drop (b .end) s)) ≡ true
     bank-said h = said-as _ _ h to-tail
 
-    pub bank-is : (r : Counted) → r ≡ tailOf (sh .text) (sh .fixedtail) (sh .bare) (made (front paid variable b)) (b .end) (drop (b .end) s) → r ≡ fromBank sh (madePaid paid variable) at (drop at s)
+    pub bank-is : (r : Counted) → r ≡ tailOf (sh .text) (sh .fixedtail) (sh .bare) (made (front paid variable b)) (b .end) (drop (b .end) s) → r ≡ fromBank sh anyBank (madePaid paid variable) at (drop at s)
     bank-is r e = e ∙ sym to-tail
 
 pub ruleset bankings = (bank-value, bank-within, front-small, bank-said, bank-is)
@@ -131,22 +136,22 @@ pub ruleset payers = (payer-there, payer-room, payer-is, no-payer, refl)
 
 -- ---- the whole line
 
-module _ (sh : Sheet) (single : Bool) (s : List ℕ) (h : isSaid (readItem sh single s) ≡ true) where
+module _ (sh : Sheet) (single : Bool) (s : List ℕ) (h : isSaid (readItem sh anyBank single s) ≡ true) where
   pub first-there : single ≡ true → There (readAccount (sh .joined) (sh .basemin)) s 0
   unfolding walk payerFirst
   first-there y =
-      stage-there (readAccount (sh .joined) (sh .basemin)) s 0 (λ payer at rest. fromPayee sh (itemSaid payer) at rest)
-      (said-as _ _ (said-counted _ ∙ h) (item-walk sh single s ∙ (pick-true _ _ y ∙ sym (at-first (readAccount (sh .joined) (sh .basemin)) s (λ payer at rest. fromPayee sh (itemSaid payer) at rest)))))
+      stage-there (readAccount (sh .joined) (sh .basemin)) s 0 (λ payer at rest. fromPayee sh anyBank (itemSaid payer) at rest)
+      (said-as _ _ (said-counted _ ∙ h) (item-walk sh anyBank single s ∙ (pick-true _ _ y ∙ sym (at-first (readAccount (sh .joined) (sh .basemin)) s (λ payer at rest. fromPayee sh anyBank (itemSaid payer) at rest)))))
 
   module _ (p : Account) (g : (k : paper.Account → ℕ → List ℕ → Counted) → k (taken p) (p .end) (drop (p .end) s) ≡ payerFirst (sh .joined) (sh .basemin) single s k) where
-    to-payee : counted (readItem sh single s) ≡ fromPayee sh (itemSaid (taken p)) (p .end) (drop (p .end) s)
+    to-payee : counted (readItem sh anyBank single s) ≡ fromPayee sh anyBank (itemSaid (taken p)) (p .end) (drop (p .end) s)
     unfolding walk
-    to-payee = item-walk sh single s ∙ sym (g (λ payer at rest. fromPayee sh (itemSaid payer) at rest))
+    to-payee = item-walk sh anyBank single s ∙ sym (g (λ payer at rest. fromPayee sh anyBank (itemSaid payer) at rest))
 
-    pub payee-said : isSaid (fromPayee sh (itemSaid (taken p)) (p .end) (drop (p .end) s)) ≡ true
+    pub payee-said : isSaid (fromPayee sh anyBank (itemSaid (taken p)) (p .end) (drop (p .end) s)) ≡ true
     payee-said = said-as _ _ (said-counted _ ∙ h) to-payee
 
-    pub item-is : (r : Counted) → r ≡ fromPayee sh (itemSaid (taken p)) (p .end) (drop (p .end) s) → r ≡ counted (readItem sh single s)
+    pub item-is : (r : Counted) → r ≡ fromPayee sh anyBank (itemSaid (taken p)) (p .end) (drop (p .end) s) → r ≡ counted (readItem sh anyBank single s)
     item-is r e = e ∙ sym to-payee
 
 pub ruleset lines = (first-there, payee-said, item-is)

@@ -4,6 +4,9 @@ use Rattle.itemline.proofs.judge.Steps.{items, bounds}
 use Rattle.itemline.proofs.judge.from_bank.Statement.{statement}
 use Rattle.itemline.proofs.judge.from_bank.Tie as tie
 
+bank-code-requires : tie.Need-bank-code-requires
+bank-code-requires c κs = search needs
+
 judge-bank-requires : tie.Need-judge-bank-requires
 judge-bank-requires c κs = search needs
 
@@ -25,4 +28,11 @@ returns-2 c = search items depth 12
 pub from-bank-spec : {M : Type 1} → statement M
 from-bank-spec =
     tie.close
-    (tie.spec judge-bank-requires enum-known-n enum-known-warnings with-tail-requires returns returns-2)
+    (tie.spec
+    bank-code-requires
+    judge-bank-requires
+    enum-known-n
+    enum-known-warnings
+    with-tail-requires
+    returns
+    returns-2)
