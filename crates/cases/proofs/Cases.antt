@@ -26,7 +26,7 @@ abbrev pub bankOn : Sheet → String → Field Bank
 bankOn sh s = readBank (sh .priority) (bytes s)
 
 abbrev pub dueOn : Sheet → ℕ → String → Field ℕ
-dueOn sh today s = readDue (sh .longdate) (sh .early) (sh .ahead) today (bytes s)
+dueOn sh today s = readDue (sh .longdate) true (sh .early) (sh .ahead) today (bytes s)
 
 -- no message, and a name at a place of its text
 abbrev pub named : ℕ → String → Noted

@@ -8,3 +8,4 @@ pub mod Warned
 pub mod WholeRun
 pub mod Writing
 pub mod Previous
+pub mod Collections

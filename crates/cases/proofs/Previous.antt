@@ -10,8 +10,8 @@ use Rattle.paper.specs.Writing.{drafted, refusal, draft}
 use Rattle.paper.specs.Rewriting.{rewriting}
 use Rattle.sheet.specs.Sheets.{sheetC as C, sheetP as P}
 use Rattle.cases.specs.Asked.{today, judged, written, rewrites}
-use Rattle.cases.specs.Frame.{frame, endedBy, first, opening, group, single, item, payment, closing, ending, headed, header, paid, parts, plainItem, plain, filed, dueOn, texts, alone, _gives_at_, _reads_warned_, _heads_}
-use Rattle.cases.proofs.Writing.{rows, row3, told}
+use Rattle.cases.specs.Frame.{frame, endedBy, first, opening, group, single, item, payment, closing, ending, headed, header, paid, parts, plainItem, plain, filed, dueOn, texts, rows, alone, _gives_at_, _reads_warned_, _heads_}
+use Rattle.cases.proofs.Writing.{row3, told}
 
 -- The first line is S's: 58 bytes, and a start above the end is no fault. `#` and `~` may stand in it. Numbers of account files may come twice.
 pub first-lines :

@@ -14,13 +14,9 @@ use Rattle.paper.specs.Carried.{rowsCarried}
 use Rattle.paper.specs.Writing.{drafted, refusal, draft, writtenIn, outputAfter}
 use Rattle.sheet.specs.Sheets.{sheetK as K, sheetS as S, sheetC as C, sheetE as E}
 use Rattle.cases.specs.Asked.{today, written, rewrites}
-use Rattle.cases.specs.Frame.{headed, header, paid, parts, plainItem, plain, dueOn, ranked, texts, alone}
+use Rattle.cases.specs.Frame.{headed, header, paid, parts, plainItem, plain, dueOn, ranked, texts, rows, alone}
 
--- the frame's rows: an account file with this kind and number, a group with this day and payer, an item
-abbrev pub rows : ℕ → ℕ → ℕ → Account → Item → List Thing
-rows kind number date payer x = aFile kind number ∷ aGroup date payer ∷ anItem x ∷ []
-
--- .. with this item
+-- the frame's rows with this item
 abbrev pub row3 : Item → List Thing
 row3 x = rows 1501 0 20180102 (account 19 19) x
 
@@ -80,7 +76,7 @@ pub proper-rows :
     × (rowsProper 1001 (record { stage = any; files = 1000; items = 1; single = false; sum = 0 }) (aFile 1505 0 ∷ []) ≡ wrong 1001 0)
     × (rowsProper 7 (record { stage = any; files = 1; items = 99999; single = false; sum = 0 }) (anItem plainItem ∷ []) ≡ wrong 7 0)
     × (rowsProper 7 (record { stage = any; files = 1; items = 99997; single = false; sum = 0 }) (anItem plainItem ∷ anItem plainItem ∷ anItem plainItem ∷ []) ≡ wrong 9 0)
-    × (rowsCarried S today noHeader 1003 1000 [] (anItem plainItem ∷ []) ≡ wrong 1003 0)
+    × (rowsCarried S today noHeader 1003 (record { items = 1000; seen = []; kind = 1501; date = 20180102 }) (anItem plainItem ∷ []) ≡ wrong 1003 0)
 unfolding written
 proper-rows = (refl, refl, refl, refl, refl, refl, refl, refl, refl, refl, refl, refl)
 

@@ -9,7 +9,7 @@ use Rattle.sheet.specs.declared.Sheet.{Sheet}
 use Rattle.paper.specs.Bytes.{bytes}
 use Rattle.paper.specs.Numerals.{fixed}
 use Rattle.paper.specs.Accounts.{Account, account, nobody}
-use Rattle.paper.specs.Batch.{Item, Batch, Header, noHeader}
+use Rattle.paper.specs.Batch.{Item, Batch, Header, noHeader, Thing, aFile, aGroup, anItem}
 use Rattle.paper.specs.Judge.{Refused, Accepted}
 use Rattle.cases.specs.Asked.{judged}
 
@@ -158,6 +158,10 @@ ranked p = batch 1501 0 20180102 (account 19 19) (paid nobody 300 5001 0 p (part
 -- .. with a specific symbol, message parts and a name
 abbrev pub texts : ℕ → List String → String → Batch
 texts specific ps name = batch 1501 0 20180102 (account 19 19) (paid nobody 300 5001 specific 5 (parts 4 ps) (bytes name) ∷ [])
+
+-- the frame's rows: an account file with this kind and number, a group with this day and payer, an item
+abbrev pub rows : ℕ → ℕ → ℕ → Account → Item → List Thing
+rows kind number date payer x = aFile kind number ∷ aGroup date payer ∷ anItem x ∷ []
 
 -- .. of a single group
 abbrev pub alone : Batch

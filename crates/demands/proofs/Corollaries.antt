@@ -1,6 +1,6 @@
 -- What users quote of the demands. Assumes nothing.
 use mathlib.Core.Path.{_≡_}
-use mathlib.Core.Bool.{true}
+use mathlib.Core.Bool.{Bool, true}
 use mathlib.Core.List.{List}
 use mathlib.Core.Logic.{_↔_}
 use Prim.Native.Nat.{ℕ, suc, _/_, _≤_, _<_}
@@ -9,7 +9,7 @@ use Rattle.sheet.specs.declared.Sheet.{Sheet}
 use Rattle.sheet.specs.declared.Known.the-variants as known
 use Rattle.sheet.specs.Sheets.{sheetC, sheetP, sheetOf}
 use Rattle.sheet.proofs.Laws as sheets
-use Rattle.paper.specs.Days.{realDay}
+use Rattle.paper.specs.Days.{realDay, monthAhead, collectAllowed}
 use Rattle.paper.specs.Batch.{Batch, Header, noHeader, things}
 use Rattle.paper.specs.Lines.{linesOf}
 use Rattle.paper.specs.Spells.{Spells, dues}
@@ -21,6 +21,8 @@ use Rattle.paper.specs.Canonical.{canon}
 use Rattle.paper.specs.Writing.{drafted, draftOf, draft, writtenIn}
 use Rattle.paper.specs.Explaining.{refusedLine, acceptedLine, explanation}
 use Rattle.paper.specs.Rewriting.{rewritten, rewriting}
+use Rattle.calendar.specs.Ahead.{Ahead}
+use Rattle.calendar.proofs.Month as months
 use Rattle.exact.proofs.Main as exact
 use Rattle.exact.proofs.faults.Main as faults
 use Rattle.exact.proofs.named.Main as places
@@ -185,3 +187,18 @@ module _ (sheet : ℕ) (sh : Sheet) (named : sheetOf sheet ≡ known.Sheet sh) (
     pub accepted-line : (f : List ℕ) (h : Header) (b : Batch) (w : ℕ) → judge sh today f ≡ Accepted h b w
         → explanation sheet today f ≡ drafted (acceptedLine (rowCount b) w)
     accepted-line f = explain.accepted-line sheet today f sh named real
+
+-- ---- the days of collections
+
+module _ (today : ℕ) (real : realDay today ≡ true) where
+  -- One month ahead of a day before December 2099 is a real day of the next month: today's day number, or the month's last where that is below it.
+  pub a-month-ahead : today < 20991201 → (realDay (monthAhead today) ≡ true) × Ahead today (monthAhead today)
+  a-month-ahead = months.month-ahead today real
+
+  -- From then on a collection may be due on every real day that is left: from the own bank today too,
+  pub own-bank-2099 : (d : ℕ) → realDay d ≡ true → 20991201 ≤ today → today ≤ d → collectAllowed true today d ≡ true
+  own-bank-2099 d r from = months.own-later today d real r from
+
+  -- from any bank later.
+  pub any-bank-2099 : (d : ℕ) → realDay d ≡ true → 20991201 ≤ today → today < d → (own : Bool) → collectAllowed own today d ≡ true
+  any-bank-2099 d r from = months.any-later today d real r from

@@ -1,6 +1,5 @@
 -- What a line of each kind says, where it is not refused. Assumes nothing.
 use mathlib.Core.Path.{_≡_, refl}
-use mathlib.Core.Bool.{Bool}
 use mathlib.Core.List.{List}
 use Prim.Native.Nat.{ℕ}
 use Rattle.sheet.specs.declared.Sheet.{Sheet}
@@ -8,7 +7,7 @@ use Rattle.paper.specs.Batch.{Item, Header}
 use Rattle.paper.specs.Accounts.{Account}
 use Rattle.paper.specs.Entries.{head, file, group, item, closeGroup, closeFile, Places, Listed, Counted, said, no, counted, Kind, headLine, fileLine, groupLine, itemLine, groupEnd, fileEnd, kindOf}
 use Rattle.paper.specs.Spells.{Context, readAs, readLine}
-use Rattle.paper.proofs.LineSays.{LineSays, no-header, a-header, a-file, a-group, an-item, a-group-end, a-file-end, refused, says}
+use Rattle.paper.proofs.LineSays.{Asked, LineSays, no-header, a-header, a-file, a-group, an-item, a-group-end, a-file-end, refused, says}
 
 -- the line's kind is that of its entry
 pub data Told : Kind → Counted → Type 0 where
@@ -42,7 +41,7 @@ kind-file-end of-file-end = refl
 
 -- ---- a line that is read as of a kind says an entry of that kind
 
-told-by : {sh : Sheet} {today : ℕ} {test : ℕ → ℕ} {single : Bool} {w : List ℕ} {kind : Kind} {r : Listed} → LineSays sh today test single w kind r → Told kind (counted r)
+told-by : {sh : Sheet} {today : ℕ} {a : Asked} {w : List ℕ} {kind : Kind} {r : Listed} → LineSays sh today a w kind r → Told kind (counted r)
 unfolding counted
 told-by (no-header _) = of-head
 told-by (a-header _ _ _ _ _ _ _) = of-head

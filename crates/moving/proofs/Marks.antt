@@ -24,8 +24,8 @@ module _ (sh : Sheet) (named : sh .text .names ≡ true) (today : ℕ) where
   parts-unmarked [] none = tt
   parts-unmarked (p ∷ ps) (more f fs) = (f .marks named, parts-unmarked ps fs)
 
-  item-unmarked : (single : _) (x : Item) → ItemFits sh single x → Unmarked (x .parts)
-  item-unmarked single x f =
+  item-unmarked : (due : _) (single : _) (x : Item) → ItemFits sh due single x → Unmarked (x .parts)
+  item-unmarked due single x f =
       parts-unmarked (x .parts) (parts-fit (sh .text) 0 (x .parts) (f .texts .parts-proper) (f .texts .parts-carried))
 
   -- each entry was told by a line
@@ -35,7 +35,7 @@ module _ (sh : Sheet) (named : sh .text .names ≡ true) (today : ℕ) where
   items-unmarked : (c : Context) (xs : List Item) (r : List Due) → Told (itemDues c xs r) → ItemsUnmarked xs × Told r
   unfolding itemDues
   items-unmarked c [] r (t, ts) = (tt, ts)
-  items-unmarked c (x ∷ xs) r (t, ts) = let (u, rest) = items-unmarked c xs r ts in ((item-unmarked _ x t, u), rest)
+  items-unmarked c (x ∷ xs) r (t, ts) = let (u, rest) = items-unmarked c xs r ts in ((item-unmarked _ _ x t, u), rest)
 
   groups-unmarked : (kind : ℕ) (gs : List Group) (r : List Due) → Told (groupDues kind gs r) → GroupsUnmarked gs × Told r
   unfolding groupDues

@@ -17,15 +17,15 @@ use Rattle.uncut.specs.Wider.{Wider, Throughout}
 use Rattle.uncut.proofs.Kept.{turned}
 use Rattle.uncut.proofs.Lines.{turnedIn, line-kept}
 
--- a line that is accepted says the same with no context of its own
+-- a line that is accepted says the same with no context of its own, a group's perhaps with other warnings
 again : (sh : Sheet) (today : ℕ) (c : Context) (b : Bool) (s : List ℕ) (v : ℕ) (q : Places) (e : Entry) → Meets b c e
-    → readLine sh today c s ≡ said e v q → readLine sh today (accepted b) s ≡ said e v q
-again sh today c b s v q (head h) m r = head-again sh today c b s v q h r
-again sh today c b s v q (file k n) m r = file-line-again sh today c b s v q k n r
+    → readLine sh today c s ≡ said e v q → (u : ℕ) × (readLine sh today (accepted b) s ≡ said e u q)
+again sh today c b s v q (head h) m r = (v, head-again sh today c b s v q h r)
+again sh today c b s v q (file k n) m r = (v, file-line-again sh today c b s v q k n r)
 again sh today c b s v q (group p t d) m r = group-again sh today c b s v q p t d r
-again sh today c b s v q (item x) m r = item-again sh today c b s v q x m r
-again sh today c b s v q closeGroup m r = group-end-again sh today c b s v q r
-again sh today c b s v q closeFile m r = file-end-again sh today c b s v q r
+again sh today c b s v q (item x) m r = (v, item-again sh today c b s v q x m r)
+again sh today c b s v q closeGroup m r = (v, group-end-again sh today c b s v q r)
+again sh today c b s v q closeFile m r = (v, file-end-again sh today c b s v q r)
 
 module _ (turn : Header → Header) where
   meets-turned : (b : Bool) (c : Context) (e : Entry) → Meets b c e → Meets b (turnedIn turn c) (turned turn e)
@@ -66,8 +66,8 @@ module _ (Only : Entry → ℕ → Type 0) (turn : Header → Header) (a b : She
     reads-alike : (e : Entry) (w : ℕ) → Only e w → Meets single c e → Reads a today (t .bytes) c e w → Alike t single e
     unfolding lineRow singleBehind
     reads-alike e w o m (q, r) =
-        let i = again a today c single (t .bytes) w q e m r in
-        let j =
+        let (_, i) = again a today c single (t .bytes) w q e m r in
+        let (_, j) =
         again b today (turnedIn turn c) single (t .bytes) w q (turned turn e) (meets-turned turn single c e m)
         (line-kept Only turn a b wider today c (t .bytes) e w q o r) in
         record {

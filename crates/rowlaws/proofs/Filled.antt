@@ -66,14 +66,14 @@ module _ (sh : Sheet) (today : ℕ) (f : List ℕ) where
     unfolding readLine readAs
     line-group-row p t d e =
         let i = kind-group (told-line sh today c s _ e) in
-        let m = kept-group sh s v q today p t d (rw i at e) in
+        let m = kept-group sh s v q today _ p t d (rw i at e) in
         group-row f d p (m .0) (m .1)
 
     pub line-item-row : (start : ℕ) (x : Item) → Here f start s → readLine sh today c s ≡ said (item x) v q → Row f (itemRow start (textSpots q) x) (anItem x)
     unfolding readLine readAs
     line-item-row start x h e =
         let i = kind-item (told-line sh today c s _ e) in
-        item-row f start s h x q (kept-item sh s v q _ x (rw i at e))
+        item-row f start s h x q (kept-item sh s v q _ _ x (rw i at e))
 
   -- a line's row stands in front of those of the lines behind it
   module _ (t : Line) (stands : Stands f t) (b : Bool) (m : Bool → List (List ℕ)) (ts : List Thing) where
@@ -88,7 +88,7 @@ module _ (sh : Sheet) (today : ℕ) (f : List ℕ) where
     one c (file k n) w _ (p, q) r =
         rw (file-line-again sh today c b (t .bytes) w p k n q) (next (line-file-row c (t .bytes) w p k n q) r)
     one c (group a exact d) w _ (total, v, (p, q), _, _) r =
-        rw (group-again sh today c b (t .bytes) v p a total d q) (next (line-group-row c (t .bytes) v p a total d q) r)
+        rw (group-again sh today c b (t .bytes) v p a total d q .1) (next (line-group-row c (t .bytes) v p a total d q) r)
     one c (item x) w i (p, q) r =
         rw (item-again sh today c b (t .bytes) w p x i q) (next (line-item-row c (t .bytes) w p (t .start) x (stands .here) q) r)
     one c closeGroup w _ (p, q) r = rw (group-end-again sh today c b (t .bytes) w p q) r

@@ -1,6 +1,6 @@
 -- What an accepted line says, with its places: an item's texts stand in the line, and its numbers are small. Assumes nothing.
 use mathlib.Core.Path.{_≡_, refl}
-use mathlib.Core.Bool.{Bool, false}
+use mathlib.Core.Bool.{Bool, true, false}
 use mathlib.Core.List.{List}
 use Prim.Native.Nat.{ℕ, _<_}
 use lib.ListN.{drop}
@@ -14,7 +14,7 @@ use Rattle.paper.specs.Entries.{Entry, head, file, group, item, closeGroup, clo
 use Rattle.paper.specs.FileLine.{readFile}
 use Rattle.paper.specs.GroupLine.{readGroup}
 use Rattle.paper.specs.ItemLine.{partBytes, places, readItem}
-use Rattle.paper.proofs.LineSays.{Payer, stands, lacks, a-symbol, Text, no-text, a-text, LineSays, no-header, a-header, a-file, a-group, an-item, a-group-end, a-file-end, refused, file-says, group-says, item-says}
+use Rattle.paper.proofs.LineSays.{Asked, asking, askingNumber, Payer, stands, lacks, a-symbol, Text, no-text, a-text, LineSays, no-header, a-header, a-file, a-group, an-item, a-group-end, a-file-end, refused, file-says, group-says, item-says}
 use Rattle.numeral.proofs.given.Sound.{symbol-sound}
 use Rattle.rowlaws.specs.Places.{Placed}
 use Rattle.rowlaws.proofs.Pieces.{text-places}
@@ -63,15 +63,15 @@ account-kept : (joined : Bool) (least : ℕ) {named : Bool} {a : Account} → Pa
 account-kept joined least (stands {a} f) = account-short (f .0) joined least a (f .1)
 account-kept joined least lacks = nobody-short
 
-keeps : (sh : Sheet) {today : ℕ} {test : ℕ → ℕ} {single : Bool} {w : List ℕ} {kind : Kind} {r : Listed} → LineSays sh today test single w kind r → Kept w (counted r)
+keeps : (sh : Sheet) {today : ℕ} {a : Asked} {w : List ℕ} {kind : Kind} {r : Listed} → LineSays sh today a w kind r → Kept w (counted r)
 unfolding counted
 keeps sh (no-header _) = tt
 keeps sh (a-header _ _ _ _ _ _ _) = tt
-keeps sh {test = test} (a-file {kind = k} {number = n} f g _ _) = (kind-below (f .0) sh k (f .1), number-below (g .0) test n (g .1))
-keeps sh {today} (a-group {date = date} _ p _ d _ _) =
-    (payer-kept (sh .emptypayer) (sh .zeropayer) (sh .joined) (sh .basemin) p, due-below (d .0) (sh .longdate) (sh .early) (sh .ahead) today date (d .1))
-keeps sh (an-item {payee = payee} {variable = variable} {bank = bank} {texts = texts} _ p f a v b _ s t) =
-    let k = bank-below (b .0) (sh .priority) bank (b .1) in
+keeps sh {a = a} (a-file {kind = k} {number = n} f g _ _) = (kind-below (f .0) sh k (f .1), number-below (g .0) (a .number) n (g .1))
+keeps sh {today} {a} (a-group {date = date} _ p _ d _ _) =
+    (payer-kept (sh .emptypayer) (sh .zeropayer) (sh .joined) (sh .basemin) p, due-below (d .0) (sh .longdate) (a .here) (sh .early) (sh .ahead) today date (d .1))
+keeps sh {a = a} (an-item {payee = payee} {variable = variable} {bank = bank} {texts = texts} _ p f _ v b _ s t) =
+    let k = bank-below (b .0) (sh .priority) (a .due) bank (b .1) in
     record {
       payerIs = account-kept (sh .joined) (sh .basemin) p;
       payeeIs = account-short (f .0) (sh .joined) (sh .basemin) payee (f .1);
@@ -94,10 +94,11 @@ keeps sh (refused _ _) = tt
 
 module _ (sh : Sheet) (w : List ℕ) (v : ℕ) (q : Places) where
   pub kept-file : (test : ℕ → ℕ) (k n : ℕ) → counted (readFile sh test w) ≡ said (file k n) v q → (k < 10000) × (n < 1000000)
-  kept-file test k n e = rw e at (keeps sh (file-says sh 0 test false w))
+  kept-file test k n e = rw e at (keeps sh (file-says sh 0 (askingNumber test) w))
 
-  pub kept-group : (today : ℕ) (p : Account) (t d : ℕ) → counted (readGroup sh today w) ≡ said (group p t d) v q → Short p × (d < 100000000)
-  kept-group today p t d e = rw e at (keeps sh (group-says sh today (λ _. 0) false w))
+  pub kept-group : (today : ℕ) (here : Bool) (p : Account) (t d : ℕ) → counted (readGroup sh today here w) ≡ said (group p t d) v q
+      → Short p × (d < 100000000)
+  kept-group today here p t d e = rw e at (keeps sh (group-says sh today (asking (λ _. 0) here (λ _. true) false) w))
 
-  pub kept-item : (single : Bool) (x : Item) → counted (readItem sh single w) ≡ said (item x) v q → KeptItem w x q
-  kept-item single x e = rw e at (keeps sh (item-says sh 0 (λ _. 0) single w))
+  pub kept-item : (due : ℕ → Bool) (single : Bool) (x : Item) → counted (readItem sh due single w) ≡ said (item x) v q → KeptItem w x q
+  kept-item due single x e = rw e at (keeps sh (item-says sh 0 (λ _. 0) false due single w))

@@ -47,7 +47,7 @@ module _ (sh : Sheet) (today : ℕ) (c : Context) (start : ℕ) (s : List ℕ) w
   entry-long (group p t d) v q e = (refl, tt)
   entry-long (item x) v q e =
       let i = kind-item (told-line sh today c s _ e) in
-      (item-long start (textSpots q) x (item-four s x q (kept-item sh s v q _ x (rw i at e))), tt)
+      (item-long start (textSpots q) x (item-four s x q (kept-item sh s v q _ _ x (rw i at e))), tt)
   entry-long closeGroup v q e = tt
   entry-long closeFile v q e = tt
 

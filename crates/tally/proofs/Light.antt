@@ -17,9 +17,10 @@ use Rattle.paper.specs.Entries.{head, file, group, item, closeGroup, closeFile,
 use Rattle.paper.specs.Spells.{Context, readAs}
 use Rattle.paper.proofs.Passing.{notices-length}
 use Rattle.paper.proofs.LineSays as lines
-use Rattle.paper.proofs.LineSays.{LineSays, Text, no-text, a-text}
+use Rattle.paper.proofs.LineSays.{Asked, LineSays, Text, no-text, a-text}
 use Rattle.amount.proofs.Sound.{amount-within}
 use Rattle.bank.proofs.Sound.{bank-warnings}
+use Rattle.bank.proofs.Due.{due-bank}
 use Rattle.text.proofs.wording.Warnings.{text-warnings}
 
 pub data Light : Kind → Counted → Type 0 where
@@ -36,9 +37,9 @@ unfolding pick
 pick-le true a b m p q = p
 pick-le false a b m p q = q
 
-due-few : (warns : Bool) (today d : ℕ) → dueWarnings warns today d ≤ 1
+due-few : (here warns : Bool) (today d : ℕ) → dueWarnings here warns today d ≤ 1
 unfolding dueWarnings
-due-few warns today d = pick-le _ _ 0 1 (pick-le warns 1 0 1 (omega arith) (omega arith)) (omega arith)
+due-few here warns today d = pick-le here _ 0 1 (pick-le _ _ 0 1 (pick-le warns 1 0 1 (omega arith) (omega arith)) (omega arith)) (omega arith)
 
 -- ---- each line
 
@@ -47,19 +48,20 @@ module _ (sh : Sheet) (sane : Sane sh) where
   texts-light no-text = omega arith
   texts-light {w} (a-text at {t} e) = text-warnings (sh .text) (sane .parts-few) at (drop at w) t e
 
-  light : {today : ℕ} {test : ℕ → ℕ} {single : Bool} {w : List ℕ} {kind : Kind} {r : Listed} → LineSays sh today test single w kind r → Light kind (counted r)
+  light : {today : ℕ} {a : Asked} {w : List ℕ} {kind : Kind} {r : Listed} → LineSays sh today a w kind r → Light kind (counted r)
   unfolding counted
   light (lines.no-header _) = a-head
   light (lines.a-header _ _ _ _ _ _ _) = a-head
   light (lines.a-file _ _ _ _) = a-file
-  light {today} (lines.a-group {date = date} due _ _ _ _ _) =
-      let past = dueWarnings (sh .warnpast) today date in
-      a-group {v = length (notices pastDay due past)} (omega (arith, notices-length pastDay due past, due-few (sh .warnpast) today date))
-  light (lines.an-item {amount = amount} {bank = bank} {texts = texts} at _ _ a _ b _ _ t) =
+  light {today} {a} (lines.a-group {date = date} spot _ _ _ _ _) =
+      let past = dueWarnings (a .here) (sh .warnpast) today date in
+      a-group {v = length (notices pastDay spot past)} (omega (arith, notices-length pastDay spot past, due-few (a .here) (sh .warnpast) today date))
+  light {a = a} (lines.an-item {amount = amount} {bank = bank} {texts = texts} at _ _ m _ b _ _ t) =
       let low = notices lowPriority at (bank .warnings) in
+      let low-few = bank-warnings (sh .priority) (b .0) bank (due-bank (a .due) (sh .priority) (b .0) bank (b .1) .0) in
       let few : length (low ++ texts .warnings) ≤ 6 =
-      omega (arith, length-append low (texts .warnings), notices-length lowPriority at (bank .warnings), bank-warnings (sh .priority) (b .0) bank (b .1), texts-light t) in
-      let within = (amount-within (sh .comma) (sh .itemdigits) (sh .itemmax) (a .0) amount (a .1)) .within in
+      omega (arith, length-append low (texts .warnings), notices-length lowPriority at (bank .warnings), low-few, texts-light t) in
+      let within = (amount-within (sh .comma) (sh .itemdigits) (sh .itemmax) (m .0) amount (m .1)) .within in
       let small : amount ≤ 99999999999999 = omega (arith, within, sane .item-low) in
       an-item few small
   light lines.a-group-end = a-group-end

@@ -7,8 +7,8 @@ use lib.ListN.{length}
 use Rattle.sheet.specs.declared.Sheet.{Sheet}
 use Rattle.paper.specs.Batch.{sum, things}
 use Rattle.paper.specs.Lines.{Line, linesOf}
-use Rattle.paper.specs.Entries.{Entry, head, file, group, item, closeGroup, closeFile, Places, saying, Counted, got, no, counted, Kind, headLine, fileLine, groupLine, itemLine, groupEnd, fileEnd, kindOf, onHead, onFile, onGroup, onItem, onEntry}
-use Rattle.paper.specs.Spells.{Context, readAs, differs, groupItems, fileItems}
+use Rattle.paper.specs.Entries.{Entry, head, file, group, item, closeGroup, closeFile, Places, saying, Counted, got, no, counted, Kind, kindOf, onHead, onFile, onGroup, onItem, onEntry}
+use Rattle.paper.specs.Spells.{readAs, differs, groupItems, fileItems}
 use Rattle.paper.specs.Judge.{InGroup, State, atFirst, atFile, atGroup, atItem, stop, seen, revOn}
 use Rattle.paper.specs.Judge as judge
 use Rattle.paper.proofs.Lists.{empty-null, length-rev, items-rev}
@@ -17,27 +17,15 @@ use Rattle.tally.specs.Tally as numbers
 use Rattle.tally.specs.Abs.{groupRows, fileRows, openBook, openShelf, openGroup, abs}
 use Rattle.tally.proofs.Abs.{map-pick, sum-rev, groupRows-rev, fileRows-rev, things-rows}
 
--- ---- what is due, and when it is full
+-- ---- the context, what is due, and when it is full
 
--- a line is read alike in a context of which two fields that its reading does not look at are left out
-alike : (sh : Sheet) (today : ℕ) (c d : Context) → c .numbers ≡ d .numbers → c .single ≡ d .single
-    → (kind : Kind) (s : List ℕ) → readAs sh today c kind s ≡ readAs sh today d kind s
-unfolding readAs
-alike sh today c d m n headLine s = refl
-alike sh today c d m n fileLine s = rw m
-alike sh today c d m n groupLine s = refl
-alike sh today c d m n itemLine s = rw n
-alike sh today c d m n groupEnd s = refl
-alike sh today c d m n fileEnd s = refl
-
-contexts : (sh : Sheet) (today : ℕ) (kind : Kind) (s : List ℕ) (st : State)
-    → readAs sh today (judge.contextOf st) kind s ≡ readAs sh today (numbers.contextOf (abs st)) kind s
+contexts : (st : State) → judge.contextOf st ≡ numbers.contextOf (abs st)
 unfolding abs judge.contextOf numbers.contextOf
-contexts sh today kind s atFirst = refl
-contexts sh today kind s (atFile x) = refl
-contexts sh today kind s (atGroup x) = alike sh today _ _ refl refl kind s
-contexts sh today kind s (atItem x) = alike sh today _ _ refl refl kind s
-contexts sh today kind s (stop a) = refl
+contexts atFirst = refl
+contexts (atFile x) = refl
+contexts (atGroup x) = refl
+contexts (atItem x) = refl
+contexts (stop a) = refl
 
 dues : (kind : Kind) (st : State) → judge.isDue st kind ≡ numbers.isDue (abs st) kind
 unfolding abs judge.isDue numbers.isDue
@@ -66,7 +54,7 @@ module _ (sh : Sheet) (k at : ℕ) where
       → abs (judge.closed sh y v)
       ≡ numbers.closed sh
       (openBook (y .header) (y .files) (y .opening) (length (y .items) + groupItems (y .groups)) (groupRows (y .groups) + 1 + length (y .items)) (y .warnings))
-      (openShelf (length (y .items) + groupItems (y .groups)) (y .groups)) (openGroup (y .head) (y .items)) v
+      (openShelf (y .opening) (length (y .items) + groupItems (y .groups)) (y .groups)) (openGroup (y .head) (y .items)) v
   unfolding abs judge.closed numbers.closed brief sum groupItems groupRows
   closes y v =
       let xs = y .items in
@@ -141,7 +129,7 @@ module _ (sh : Sheet) (today k : ℕ) (t : Line) where
         saids sh k (t .start) (counted (readAs sh today (judge.contextOf st) kind (t .bytes))) st,
         stops 15,
         stops 3,
-        contexts sh today kind (t .bytes) st,
+        contexts st,
         dues kind st,
         fulls sh kind st,
       )

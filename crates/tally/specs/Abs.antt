@@ -35,13 +35,13 @@ openBook h fs f i r w =
     }
 
 -- .. and its closed groups
-abbrev pub openShelf : ℕ → List Group → Shelf
-openShelf i gs = record { items = i; groups = length gs }
+abbrev pub openShelf : FileHead → ℕ → List Group → Shelf
+openShelf f i gs = record { kind = f .kind; items = i; groups = length gs }
 
 -- the open group
 abbrev pub openGroup : GroupHead → List Item → Open
 openGroup g xs =
-    record { single = isNobody (g .payer); total = g .total; line = g .line; byte = g .byte; sum = sum xs; count = length xs }
+    record { single = isNobody (g .payer); date = g .date; total = g .total; line = g .line; byte = g .byte; sum = sum xs; count = length xs }
 
 unfoldable pub abs : State → Tally
 abs atFirst = tFirst
@@ -49,10 +49,10 @@ abs (atFile x) = tFile (closedBook (x .header) (x .files) (x .warnings))
 abs (atGroup x) =
     tGroup
     (openBook (x .header) (x .files) (x .opening) (groupItems (x .groups)) (groupRows (x .groups)) (x .warnings))
-    (openShelf (groupItems (x .groups)) (x .groups))
+    (openShelf (x .opening) (groupItems (x .groups)) (x .groups))
 abs (atItem x) =
     tItem
     (openBook (x .header) (x .files) (x .opening) (length (x .items) + groupItems (x .groups)) (groupRows (x .groups) + 1 + length (x .items)) (x .warnings))
-    (openShelf (length (x .items) + groupItems (x .groups)) (x .groups))
+    (openShelf (x .opening) (length (x .items) + groupItems (x .groups)) (x .groups))
     (openGroup (x .head) (x .items))
 abs (stop a) = tStop (brief a)

@@ -33,14 +33,16 @@ pub record Book : Type 0 where
   pub rows : ℕ
   pub warnings : ℕ
 
--- of the open account file: items and closed groups
+-- of the open account file: its kind, items and closed groups
 pub record Shelf : Type 0 where
+  pub kind : ℕ
   pub items : ℕ
   pub groups : ℕ
 
--- of the open group: whether it is single, its total with its place, the sum and count of its items
+-- of the open group: whether it is single, its due date, its total with its place, the sum and count of its items
 pub record Open : Type 0 where
   pub single : Bool
+  pub date : ℕ
   pub total : ℕ
   pub line : ℕ
   pub byte : ℕ
@@ -71,28 +73,27 @@ moreItem b v = record { head = b .head; seen = b .seen; files = b .files; items 
 abbrev pub warned : Book → ℕ → Book
 warned b v = record { head = b .head; seen = b .seen; files = b .files; items = b .items; rows = b .rows; warnings = b .warnings + v }
 
-abbrev pub noShelf : Shelf
-noShelf = record { items = 0; groups = 0 }
+abbrev pub newShelf : ℕ → Shelf
+newShelf kind = record { kind = kind; items = 0; groups = 0 }
 
 abbrev pub itemMore : Shelf → Shelf
-itemMore s = record { items = s .items + 1; groups = s .groups }
+itemMore s = record { kind = s .kind; items = s .items + 1; groups = s .groups }
 
 abbrev pub groupMore : Shelf → Shelf
-groupMore s = record { items = s .items; groups = s .groups + 1 }
+groupMore s = record { kind = s .kind; items = s .items; groups = s .groups + 1 }
 
-abbrev pub opened : Bool → ℕ → ℕ → ℕ → Open
-opened single total line byte = record { single = single; total = total; line = line; byte = byte; sum = 0; count = 0 }
+abbrev pub opened : Bool → ℕ → ℕ → ℕ → ℕ → Open
+opened single date total line byte = record { single = single; date = date; total = total; line = line; byte = byte; sum = 0; count = 0 }
 
 abbrev pub added : Open → ℕ → Open
 added o amount =
-    record { single = o .single; total = o .total; line = o .line; byte = o .byte; sum = o .sum + amount; count = o .count + 1 }
+    record { single = o .single; date = o .date; total = o .total; line = o .line; byte = o .byte; sum = o .sum + amount; count = o .count + 1 }
 
--- kinds and dates are not kept: no line's reading goes by them
 unfoldable pub contextOf : Tally → Context
 contextOf tFirst = forHead
 contextOf (tFile b) = forFile (b .head) (b .seen)
-contextOf (tGroup b s) = forGroup 0
-contextOf (tItem b s o) = forItem 0 0 (o .single)
+contextOf (tGroup b s) = forGroup (s .kind)
+contextOf (tItem b s o) = forItem (s .kind) (o .date) (o .single)
 contextOf (tStop a) = forHead
 
 unfoldable pub isDue : Tally → Kind → Bool
@@ -117,10 +118,10 @@ closed sh b s o v =
 
 unfoldable pub meet : Sheet → ℕ → ℕ → Saying ℕ → Tally → Tally
 meet sh k at t tFirst = onHead (t .entry) (λ h. tFile (newBook h (t .warnings))) (tStop (No 3 k at))
-meet sh k at t (tFile b) = onFile (t .entry) (λ kind number. tGroup (moreFile b number (t .warnings)) noShelf) (tStop (No 3 k at))
+meet sh k at t (tFile b) = onFile (t .entry) (λ kind number. tGroup (moreFile b number (t .warnings)) (newShelf kind)) (tStop (No 3 k at))
 meet sh k at t (tGroup b s) =
     onGroup (t .entry)
-    (λ payer total date. tItem (moreGroup b (t .warnings)) s (opened (isNobody payer) total k (at + t .places .total)))
+    (λ payer total date. tItem (moreGroup b (t .warnings)) s (opened (isNobody payer) date total k (at + t .places .total)))
     (tFile (warned b (t .warnings)))
     (tStop (No 3 k at))
 meet sh k at t (tItem b s o) =

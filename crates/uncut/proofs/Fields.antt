@@ -1,5 +1,5 @@
 -- Each field of a line: what the narrower sheet reads the wider one reads as the same value. Assumes nothing.
-use mathlib.Core.Path.{_≡_, refl, _∙_}
+use mathlib.Core.Path.{_≡_, refl, sym, _∙_}
 use mathlib.Core.Bool.{Bool, true, false}
 use mathlib.Core.List.{List, [], _∷_}
 use Prim.Native.Nat.{ℕ, _+_, _-_, _*_, _≤_, _<_}
@@ -18,7 +18,9 @@ use Rattle.paper.specs.Bytes.{isDigit, comma}
 use Rattle.paper.specs.Numerals.{digitsOn, digits}
 use Rattle.paper.specs.Accounts.{Account, twoParts, onePart, readAccount, readPayer}
 use Rattle.paper.specs.Days.{dayNumber, shortDay, readDay, past, dueAllowed, readDue}
+use Rattle.paper.specs.Terms.{collection, dayHere, bankDue}
 use Rattle.paper.specs.Amounts.{readAmount, amountProper, readItemAmount}
+use Rattle.paper.specs.BankField.{readDueBank}
 use Rattle.paper.specs.FileLine.{readKind, readNumber, readCode}
 use Rattle.uncut.proofs.Tests.{besides}
 use Rattle.uncut.proofs.Takes.{Takes, alike, refused, read-on, not-on}
@@ -120,15 +122,27 @@ day-takes may can l s =
     besides Takes may can (eqb (length s) 8) l alike alike (λ e. short-long s (omega (arith, eqb-true (length s) 8 e)))
 
 module _ (early sooner : Bool) (p : early ≡ true → sooner ≡ true) (ahead further : ℕ) (l : ahead ≤ further) (today : ℕ) where
-  due-more : (d : ℕ) → dueAllowed early ahead today d ≡ true → dueAllowed sooner further today d ≡ true
+  due-more : (here : Bool) (d : ℕ) → dueAllowed here early ahead today d ≡ true → dueAllowed here sooner further today d ≡ true
   unfolding dueAllowed pick
-  due-more d =
+  due-more true d =
       by-test (past today d) (λ e. rw e p)
       (λ e. rw e (λ h. let days = dayNumber d - dayNumber today in le-leb days further (omega (arith, leb-true days ahead h))))
+  due-more false d = λ h. h
 
-  pub due-takes : (may can : Bool) → (may ≡ true → can ≡ true) → (s : List ℕ) → Takes (readDue may early ahead today s) (readDue can sooner further today s)
+  pub due-takes : (may can : Bool) → (may ≡ true → can ≡ true) → (here : Bool) (s : List ℕ)
+      → Takes (readDue may here early ahead today s) (readDue can here sooner further today s)
   unfolding readDue
-  due-takes may can m s = read-on _ _ (day-takes may can m s) λ d. checked _ _ _ _ _ (due-more d)
+  due-takes may can m here s = read-on _ _ (day-takes may can m s) λ d. checked _ _ _ _ _ (due-more here d)
+
+-- two sheets that judge the days of collections alike judge a day at the same field, and by the same own bank
+module _ (a b : Sheet) (c : a .collects ≡ b .collects) (kind : ℕ) where
+  pub same-here : dayHere a kind ≡ dayHere b kind
+  unfolding dayHere
+  same-here = rw c
+
+  pub same-due : a .bank ≡ b .bank → (today date bank : ℕ) → bankDue a today kind date bank ≡ bankDue b today kind date bank
+  unfolding bankDue collection
+  same-due o today date bank = rw (c, o)
 
 -- ---- amounts
 
@@ -148,3 +162,10 @@ module _ (may can : Bool) (c : may ≡ true → can ≡ true) (most more : ℕ) 
   item-amount-takes max max′ l =
       read-on _ _ amount-takes λ v.
       checked _ _ _ _ _ λ e. let (some, low) = pick-not (ltb v 1) _ e in pick-false _ _ some ∙ le-leb v max′ (omega (arith, leb-true v max low))
+
+-- ---- the bank field
+
+module _ (due due′ : ℕ → Bool) (d : (bank : ℕ) → due bank ≡ due′ bank) where
+  pub bank-takes : (ranked ranked′ : Bool) → ranked ≡ ranked′ → (s : List ℕ) → Takes (readDueBank ranked due s) (readDueBank ranked′ due′ s)
+  unfolding readDueBank
+  bank-takes ranked ranked′ e s = rw e (read-on _ _ alike λ b. checked _ _ _ _ _ λ y. sym (d (b .bank)) ∙ y)

@@ -13,7 +13,6 @@ use Rattle.sheet.specs.declared.Sheet.{Sheet}
 use Rattle.paper.specs.Read.{Field, value, fault}
 use Rattle.paper.specs.Accounts.{Account, nobody}
 use Rattle.paper.specs.Amounts.{readTotal}
-use Rattle.paper.specs.BankField.{readBank}
 use Rattle.paper.specs.Warnings.{pastDay, lowPriority, Notice, notices}
 use Rattle.paper.specs.Days.{dueWarnings}
 use Rattle.paper.specs.Batch.{Header, noHeader}
@@ -29,7 +28,7 @@ use Rattle.uncut.specs.Wider.{Heads, read-alike, read-none, TextsOf, Wid
 use Rattle.paper.proofs.Passing.{same-parts}
 use Rattle.uncut.proofs.Tests.{same-test, easier, besides}
 use Rattle.uncut.proofs.Takes.{Takes, alike}
-use Rattle.uncut.proofs.Fields.{kind-takes, code-takes, number-takes, account-takes, payer-takes, due-takes, amount-takes, item-amount-takes}
+use Rattle.uncut.proofs.Fields.{kind-takes, code-takes, number-takes, account-takes, payer-takes, due-takes, same-here, same-due, bank-takes, amount-takes, item-amount-takes}
 use Rattle.uncut.proofs.Texts.{text-takes}
 use Rattle.uncut.proofs.Kept.{turned, Kept, said-kept, refused-kept, same-kept, field-kept, on-gone, place-gone, gap-kept, end-kept, counted-kept}
 
@@ -41,9 +40,6 @@ turnedNumbers turn (after h seen) = after (turn h) seen
 -- .. and of a context
 abbrev pub turnedIn : (Header → Header) → Context → Context
 turnedIn turn c = record { numbers = turnedNumbers turn (c .numbers); kind = c .kind; date = c .date; single = c .single }
-
-bank-takes : (ranked ranked′ : Bool) → ranked ≡ ranked′ → (s : List ℕ) → Takes (readBank ranked s) (readBank ranked′ s)
-bank-takes ranked ranked′ e s = rw e alike
 
 total-takes : (may can : Bool) → (may ≡ true → can ≡ true) → (s : List ℕ) → Takes (readTotal may s) (readTotal can s)
 unfolding readTotal
@@ -100,22 +96,22 @@ module _ (Only : Entry → ℕ → Type 0) (turn : Header → Header) (a b : She
 
   -- ---- the line that begins a group
 
-  total-kept : (today : ℕ) (payer : Account) (at : ℕ) (s : List ℕ) → K (totalAndDate a today payer at s) (totalAndDate b today payer at s)
+  total-kept : (today : ℕ) (here : Bool) (payer : Account) (at : ℕ) (s : List ℕ) → K (totalAndDate a today here payer at s) (totalAndDate b today here payer at s)
   unfolding totalAndDate
-  total-kept today payer at s =
+  total-kept today here payer at s =
       field-kept _ _ (total-takes (a .comma) (b .comma) (wider .comma)) at s λ total a1 s1.
       gap-kept a1 s1 λ a2 s2.
-      field-kept _ _ (due-takes _ _ (wider .early) _ _ (wider .ahead) today _ _ (wider .long)) a2 s2 λ date a3 s3.
-      end-kept a3 s3 (said-kept (group payer total date) (ap (λ (warns : Bool). notices pastDay a2 (dueWarnings warns today date)) (wider .past)))
+      field-kept _ _ (due-takes _ _ (wider .early) _ _ (wider .ahead) today _ _ (wider .long) here) a2 s2 λ date a3 s3.
+      end-kept a3 s3 (said-kept (group payer total date) (ap (λ (warns : Bool). notices pastDay a2 (dueWarnings here warns today date)) (wider .past)))
 
-  group-kept : (today : ℕ) (s : List ℕ) → K (readGroup a today s) (readGroup b today s)
+  group-kept : (today : ℕ) (here : Bool) (s : List ℕ) → K (readGroup a today here s) (readGroup b today here s)
   unfolding readGroup
-  group-kept today s =
+  group-kept today here s =
       same-test K _ _ (ap (λ (always : Bool). hasPayer always s) (wider .empty))
       (field-kept _ _ (λ t. payer-takes _ _ (wider .base) _ _ (wider .joined) t _ _ _ _ (wider .empty) (wider .zero)) _ _ λ payer a1 s1.
       gap-kept a1 s1 λ a2 s2.
-      total-kept today payer a2 s2)
-      (total-kept today nobody _ _)
+      total-kept today here payer a2 s2)
+      (total-kept today here nobody _ _)
 
   -- ---- an item
 
@@ -162,16 +158,17 @@ module _ (Only : Entry → ℕ → Type 0) (turn : Header → Header) (a b : She
     unfolding tail
     tail-kept at s = same-test K _ _ (wider .fixed) (fixed-kept at s) (open-kept at s)
 
-  payee-kept : (payer : Account) (at : ℕ) (s : List ℕ) → K (fromPayee a payer at s) (fromPayee b payer at s)
+  payee-kept : (due due′ : ℕ → Bool) → ((bank : ℕ) → due bank ≡ due′ bank) → (payer : Account) (at : ℕ) (s : List ℕ)
+      → K (fromPayee a due payer at s) (fromPayee b due′ payer at s)
   unfolding fromPayee
-  payee-kept payer at s =
+  payee-kept due due′ d payer at s =
       field-kept _ _ (account-takes _ _ (wider .base) _ _ (wider .joined)) at s λ payee a1 s1.
       gap-kept a1 s1 λ a2 s2.
       field-kept _ _ (λ t. item-amount-takes _ _ (wider .comma) _ _ (wider .digits) t _ _ (wider .amount)) a2 s2 λ amount a3 s3.
       gap-kept a3 s3 λ a4 s4.
       field-kept _ _ (λ t. alike) a4 s4 λ variable a5 s5.
       gap-kept a5 s5 λ a6 s6.
-      field-kept _ _ (bank-takes _ _ (wider .priority)) a6 s6 λ bank a7 s7.
+      field-kept _ _ (bank-takes due due′ d _ _ (wider .priority)) a6 s6 λ bank a7 s7.
       tail-kept
       (λ specific t. said-kept (item (itemOf payer payee amount variable specific bank t)) refl)
       (λ specific t e w p o q.
@@ -186,12 +183,12 @@ module _ (Only : Entry → ℕ → Type 0) (turn : Header → Header) (a b : She
       })
       a7 s7
 
-  item-kept : (single : Bool) (s : List ℕ) → K (readItem a single s) (readItem b single s)
+  item-kept : (due due′ : ℕ → Bool) → ((bank : ℕ) → due bank ≡ due′ bank) → (single : Bool) (s : List ℕ) → K (readItem a due single s) (readItem b due′ single s)
   unfolding readItem
-  item-kept single s =
+  item-kept due due′ d single s =
       either-way K single
-      (field-kept _ _ (account-takes _ _ (wider .base) _ _ (wider .joined)) 0 s λ payer a1 s1. gap-kept a1 s1 λ a2 s2. payee-kept payer a2 s2)
-      (payee-kept nobody 0 s)
+      (field-kept _ _ (account-takes _ _ (wider .base) _ _ (wider .joined)) 0 s λ payer a1 s1. gap-kept a1 s1 λ a2 s2. payee-kept due due′ d payer a2 s2)
+      (payee-kept due due′ d nobody 0 s)
 
   -- ---- closing lines
 
@@ -211,8 +208,8 @@ module _ (Only : Entry → ℕ → Type 0) (turn : Header → Header) (a b : She
     unfolding readAs
     as-kept headLine s = first-kept (wider .heads) s
     as-kept fileLine s = file-kept (c .numbers) s
-    as-kept groupLine s = group-kept today s
-    as-kept itemLine s = item-kept (c .single) s
+    as-kept groupLine s = rw (same-here a b (wider .collects) (c .kind)) (group-kept today _ s)
+    as-kept itemLine s = item-kept _ _ (same-due a b (wider .collects) (c .kind) (wider .own) today (c .date)) (c .single) s
     as-kept groupEnd s = close-kept closeGroup s
     as-kept fileEnd s = close-kept closeFile s
 

@@ -11,6 +11,7 @@ use Rattle.sheet.specs.declared.Style.{Style}
 use Rattle.sheet.specs.Sheets.{kindAllowed, bankAllowed}
 use Rattle.paper.specs.Read.{Field, value, fault}
 use Rattle.paper.specs.Warnings.{Notice}
+use Rattle.paper.specs.Terms.{collection, dayHere, bankDue}
 use Rattle.paper.specs.Accounts.{Account, nobody}
 use Rattle.paper.specs.Batch.{Item}
 use Rattle.paper.specs.Texts.{Noted, readText}
@@ -145,9 +146,10 @@ module _ (sh : Sheet) (y z : Style) (strict : Bool) (looser : Looser y z) where
     unfolding tail
     tail-loose at s = either-way Loose _ (fixed-loose at s) (open-loose _ at s)
 
-  payee-loose : (payer : Account) (at : ℕ) (s : List ℕ) → Loose (fromPayee (restyled sh y strict) payer at s) (fromPayee (restyled sh z strict) payer at s)
+  payee-loose : (due : ℕ → Bool) (payer : Account) (at : ℕ) (s : List ℕ)
+      → Loose (fromPayee (restyled sh y strict) due payer at s) (fromPayee (restyled sh z strict) due payer at s)
   unfolding fromPayee
-  payee-loose payer at s =
+  payee-loose due payer at s =
       field-loose _ at s λ payee a1 s1.
       gap-loose a1 s1 λ a2 s2.
       field-loose _ a2 s2 λ amount a3 s3.
@@ -157,10 +159,10 @@ module _ (sh : Sheet) (y z : Style) (strict : Bool) (looser : Looser y z) where
       field-loose _ a6 s6 λ bank a7 s7.
       tail-loose (λ specific t u. item-loose _ (record { parts = partBytes u; name = u .name .bytes })) a7 s7
 
-  item-line : (single : Bool) (s : List ℕ) → Loose (readItem (restyled sh y strict) single s) (readItem (restyled sh z strict) single s)
+  item-line : (due : ℕ → Bool) (single : Bool) (s : List ℕ) → Loose (readItem (restyled sh y strict) due single s) (readItem (restyled sh z strict) due single s)
   unfolding readItem
-  item-line single s =
-      either-way Loose single (field-loose _ 0 s λ payer a1 s1. gap-loose a1 s1 λ a2 s2. payee-loose payer a2 s2) (payee-loose nobody 0 s)
+  item-line due single s =
+      either-way Loose single (field-loose _ 0 s λ payer a1 s1. gap-loose a1 s1 λ a2 s2. payee-loose due payer a2 s2) (payee-loose due nobody 0 s)
 
   -- ---- any line: no other kind has a text
 
@@ -172,11 +174,11 @@ module _ (sh : Sheet) (y z : Style) (strict : Bool) (looser : Looser y z) where
 
   module _ (today : ℕ) (c : Context) where
     as-loose : (kind : Kind) (s : List ℕ) → Loose (readAs (restyled sh y strict) today c kind s) (readAs (restyled sh z strict) today c kind s)
-    unfolding readAs readFirst readGroup totalAndDate
+    unfolding readAs readFirst readGroup totalAndDate dayHere bankDue collection
     as-loose headLine s = same-loose
     as-loose fileLine s = file-loose (c .numbers) s
     as-loose groupLine s = same-loose
-    as-loose itemLine s = item-line (c .single) s
+    as-loose itemLine s = item-line _ (c .single) s
     as-loose groupEnd s = same-loose
     as-loose fileEnd s = same-loose
 

@@ -27,6 +27,7 @@ restyled sh y strict =
       ahead = sh .ahead;
       early = sh .early;
       warnpast = sh .warnpast;
+      collects = sh .collects;
       near = sh .near;
       itemdigits = sh .itemdigits;
       itemmax = sh .itemmax;

@@ -62,6 +62,9 @@ pub record Wider (Only : Entry → ℕ → Type 0) (turn : Header → Header) (a
   pub early : a .early ≡ true → b .early ≡ true
   pub ahead : a .ahead ≤ b .ahead
   pub past : a .warnpast ≡ b .warnpast
+  -- the days of collections, which are judged for each item, by whether its payee bank is the sheet's own
+  pub collects : a .collects ≡ b .collects
+  pub own : a .bank ≡ b .bank
   -- totals, and an item's amount
   pub comma : a .comma ≡ true → b .comma ≡ true
   pub digits : a .itemdigits ≤ b .itemdigits

@@ -15,7 +15,7 @@ use Rattle.paper.specs.Numerals.{digitsOn, digits}
 use Rattle.paper.specs.Days.{real, shortDay, longDay, readDay, readDue}
 use Rattle.paper.specs.Accounts.{ruled, twoParts, onePart, readAccount, readPayer}
 use Rattle.paper.specs.Amounts.{withComma, readAmount, readTotal, readItemAmount}
-use Rattle.paper.specs.BankField.{ninth, readBank}
+use Rattle.paper.specs.BankField.{ninth, readBank, readDueBank}
 use Rattle.paper.specs.Texts.{Piece, fitted, finish, message, marked, readText}
 use Rattle.paper.specs.Batch.{Header}
 use Rattle.paper.specs.FirstLine.{textField, readTo, readRest}
@@ -208,22 +208,26 @@ day-named : (long : Bool) (s : List ℕ) → Numbered (readDay long s)
 unfolding readDay
 day-named long s = either Numbered _ (λ _. long-named s) (λ _. short-named s)
 
-pub due-named : (long early : Bool) (ahead today : ℕ) (s : List ℕ) → Numbered (readDue long early ahead today s)
+pub due-named : (long here early : Bool) (ahead today : ℕ) (s : List ℕ) → Numbered (readDue long here early ahead today s)
 unfolding readDue
-due-named long early ahead today s = given-on (day-named long s) λ d. tested _ d 11 own11
+due-named long here early ahead today s = given-on (day-named long s) λ d. tested _ d 11 own11
 
--- ---- 12 and 13: the bank field
+-- ---- 12 and 13, and then 11: the bank field
 
 ninth-named : (ranked : Bool) (d b c : ℕ) → Numbered (ninth ranked d b c)
 unfolding ninth
 ninth-named true d b c = is-value
 ninth-named false d b c = tested _ _ 13 own13
 
-pub bank-named : (ranked : Bool) (s : List ℕ) → Numbered (readBank ranked s)
+bank-named : (ranked : Bool) (s : List ℕ) → Numbered (readBank ranked s)
 unfolding readBank
 bank-named ranked s =
     given-on (digits-named 8 10 s) λ n.
     either Numbered _ (λ _. is-fault own12) (λ _. either Numbered _ (λ _. is-fault own13) (λ _. ninth-named ranked _ _ _))
+
+pub due-bank-named : (ranked : Bool) (due : ℕ → Bool) (s : List ℕ) → Numbered (readDueBank ranked due s)
+unfolding readDueBank
+due-bank-named ranked due s = given-on (bank-named ranked s) λ b. tested _ b 11 own11
 
 -- ---- 14: texts
 

@@ -77,42 +77,42 @@ two : (t d : ℕ) → spaceCount (50 ∷ 32 ∷ totals t d) ≡ 2
 unfolding spaceCount pick
 two t d = ap suc (count-totals t d)
 
-module _ (sh : Sheet) (sane : Sane sh) (today : ℕ) (p : Account) (t d : ℕ) (f : GroupFits sh today p t d) where
+module _ (sh : Sheet) (sane : Sane sh) (today : ℕ) (here : Bool) (p : Account) (t d : ℕ) (f : GroupFits sh today here p t d) where
   -- what is read; the total stands at `at`, and the date behind it
   abbrev reads : ℕ → Listed
-  reads at = said (group p t d) (notices pastDay (at + length (decimal t) + 1) (dueWarnings (sh .warnpast) today d)) (totalAt at)
+  reads at = said (group p t d) (notices pastDay (at + length (decimal t) + 1) (dueWarnings here (sh .warnpast) today d)) (totalAt at)
 
-  totals-back : (at : ℕ) → totalAndDate sh today p at (totals t d) ≡ reads at
+  totals-back : (at : ℕ) → totalAndDate sh today here p at (totals t d) ≡ reads at
   unfolding totalAndDate gap lineEnd
   totals-back at =
       field-back (readTotal (sh .comma)) at (decimal t) t _ _ (total-field t) at-space (total-back (sh .comma) t (f .total-low))
-      ∙ last-back (readDue (sh .longdate) (sh .early) (sh .ahead) today) _ (spellDay d) d _ (date-field d)
-      (due-back d (f .date-real) (sh .longdate) (sh .early) (sh .ahead) today (f .date-allowed))
+      ∙ last-back (readDue (sh .longdate) here (sh .early) (sh .ahead) today) _ (spellDay d) d _ (date-field d)
+      (due-back d (f .date-real) (sh .longdate) here (sh .early) (sh .ahead) today (f .date-allowed))
 
   -- the payer's field d
   with-field : (s : List ℕ) → Free space s → readPayer (sh .emptypayer) (sh .zeropayer) (sh .joined) (sh .basemin) s ≡ value p
       → hasPayer (sh .emptypayer) (50 ∷ 32 ∷ (s ++ (32 ∷ totals t d))) ≡ true
-      → readGroup sh today (50 ∷ 32 ∷ (s ++ (32 ∷ totals t d))) ≡ reads (2 + length s + 1)
+      → readGroup sh today here (50 ∷ 32 ∷ (s ++ (32 ∷ totals t d))) ≡ reads (2 + length s + 1)
   unfolding readGroup gap
   with-field s free e h =
       pick-true _ _ h
       ∙ field-back (readPayer (sh .emptypayer) (sh .zeropayer) (sh .joined) (sh .basemin)) 2 s p _ _ free at-space e
       ∙ totals-back _
 
-  some-back : isNobody p ≡ false → readGroup sh today (spellGroup sh p t d) ≡ reads (2 + length (spellAccount p) + 1)
+  some-back : isNobody p ≡ false → readGroup sh today here (spellGroup sh p t d) ≡ reads (2 + length (spellAccount p) + 1)
   unfolding payerProper hasPayer
   some-back e =
       let proper : accountProper p ≡ true = sym (pick-false true (accountProper p) e) ∙ f .payer-proper in
-      ap (readGroup sh today) (some-is sh p t d e)
+      ap (readGroup sh today here) (some-is sh p t d e)
       ∙ with-field (spellAccount p) (spell-account-field p)
       (payer-back p proper (sh .joined) (sh .basemin) (sane .base-few) (sh .emptypayer) (sh .zeropayer))
       (either (λ b. b ≡ true) (sh .emptypayer) (λ _. refl) (λ _. le-leb 3 (spaceCount (someLine p t d)) (omega (arith, three p t d))))
 
   module _ (e : isNobody p ≡ true) where
-    empty-back : sh .emptypayer ≡ true → readGroup sh today (spellGroup sh p t d) ≡ reads 3
+    empty-back : sh .emptypayer ≡ true → readGroup sh today here (spellGroup sh p t d) ≡ reads 3
     unfolding hasPayer seek
     empty-back on =
-        ap (readGroup sh today)
+        ap (readGroup sh today here)
         (nobody-line sh p t d e ∙ ap (λ (l : List ℕ). 50 ∷ 32 ∷ (l ++ totals t d)) (pick-true (32 ∷ []) [] on))
         ∙ with-field [] refl
         (ap (λ (b : Bool). readPayer b (sh .zeropayer) (sh .joined) (sh .basemin) []) on
@@ -120,13 +120,13 @@ module _ (sh : Sheet) (sane : Sane sh) (today : ℕ) (p : Account) (t d : ℕ) (
         ∙ ap value (sym (nobody-is p e)))
         (pick-true _ _ on)
 
-    missing-back : sh .emptypayer ≡ false → readGroup sh today (spellGroup sh p t d) ≡ reads 2
+    missing-back : sh .emptypayer ≡ false → readGroup sh today here (spellGroup sh p t d) ≡ reads 2
     unfolding readGroup hasPayer
     missing-back off =
-        ap (readGroup sh today)
+        ap (readGroup sh today here)
         (nobody-line sh p t d e ∙ ap (λ (l : List ℕ). 50 ∷ 32 ∷ (l ++ totals t d)) (pick-false (32 ∷ []) [] off))
         ∙ pick-false _ _ (pick-false _ _ off ∙ lt-leb 3 (spaceCount (50 ∷ 32 ∷ totals t d)) (omega (arith, two t d)))
-        ∙ ap (λ (a : Account). totalAndDate sh today a 2 (totals t d)) (sym (nobody-is p e))
+        ∙ ap (λ (a : Account). totalAndDate sh today here a 2 (totals t d)) (sym (nobody-is p e))
         ∙ totals-back 2
 
 pub kind-group : (sh : Sheet) (p : Account) (t d : ℕ) → kindOf (spellGroup sh p t d) ≡ groupLine
@@ -134,10 +134,11 @@ unfolding kindOf starts spellGroup pick
 kind-group sh p t d = refl
 
 -- .. and where its total stands
-pub group-back : (sh : Sheet) → Sane sh → (today : ℕ) (p : Account) (t d : ℕ) → GroupFits sh today p t d
-    → (at : ℕ) × (due : ℕ) × (readGroup sh today (spellGroup sh p t d) ≡ said (group p t d) (notices pastDay due (dueWarnings (sh .warnpast) today d)) (totalAt at))
-group-back sh sane today p t d f =
+pub group-back : (sh : Sheet) → Sane sh → (today : ℕ) (here : Bool) (p : Account) (t d : ℕ) → GroupFits sh today here p t d
+    → (at : ℕ) × (due : ℕ)
+    × (readGroup sh today here (spellGroup sh p t d) ≡ said (group p t d) (notices pastDay due (dueWarnings here (sh .warnpast) today d)) (totalAt at))
+group-back sh sane today here p t d f =
     by-test (isNobody p)
     (λ e.
-    by-test (sh .emptypayer) (λ on. (3, _, empty-back sh sane today p t d f e on)) (λ off. (2, _, missing-back sh sane today p t d f e off)))
-    (λ e. (2 + length (spellAccount p) + 1, _, some-back sh sane today p t d f e))
+    by-test (sh .emptypayer) (λ on. (3, _, empty-back sh sane today here p t d f e on)) (λ off. (2, _, missing-back sh sane today here p t d f e off)))
+    (λ e. (2 + length (spellAccount p) + 1, _, some-back sh sane today here p t d f e))

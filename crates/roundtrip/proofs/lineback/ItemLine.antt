@@ -13,7 +13,7 @@ use Rattle.paper.specs.Numerals.{decimal}
 use Rattle.paper.specs.Warnings.{lowPriority, Notice, notices}
 use Rattle.paper.specs.Accounts.{Account, nobody, accountProper, isNobody, readAccount, spellAccount}
 use Rattle.paper.specs.Amounts.{readItemAmount}
-use Rattle.paper.specs.BankField.{Bank, readBank, spellBank}
+use Rattle.paper.specs.BankField.{Bank, readDueBank, spellBank}
 use Rattle.paper.specs.Texts.{Noted}
 use Rattle.paper.specs.Batch.{Item}
 use Rattle.paper.specs.Proper.{itemPayerProper}
@@ -23,7 +23,8 @@ use Rattle.account.proofs.Plain.{spell-account-field}
 use Rattle.account.proofs.Proper.{proper-somebody}
 use Rattle.account.proofs.Back.{account-back}
 use Rattle.amount.proofs.Back.{amount-back}
-use Rattle.bank.proofs.Back.{bank-back, spell-bank-plain}
+use Rattle.bank.proofs.Back.{spell-bank-plain}
+use Rattle.bank.proofs.Due.{due-bank-back}
 use Rattle.roundtrip.specs.linesound.Fits.{ItemFits}
 use Rattle.roundtrip.proofs.linesound.Items.{fits-nobody}
 use Rattle.roundtrip.proofs.lineback.Fields.{at-space, digits-field, field-back, onward}
@@ -61,7 +62,7 @@ same-item x payer t e f g = rw (e, f, g)
 said-same : (i x : Item) (w : List Notice) (p : Places) → i ≡ x → w ≡ [] → _≡_ {A = Listed} (said (item i) w p) (said (item x) [] p)
 said-same i x w p e f = rw (e, f)
 
-module _ (sh : Sheet) (sane : Sane sh) (single : Bool) (x : Item) (f : ItemFits sh single x) where
+module _ (sh : Sheet) (sane : Sane sh) (due : ℕ → Bool) (single : Bool) (x : Item) (f : ItemFits sh due single x) where
   abbrev Reads : Listed → Type 0
   Reads r = (p : Places) × (r ≡ said (item x) [] p)
 
@@ -76,7 +77,7 @@ module _ (sh : Sheet) (sane : Sane sh) (single : Bool) (x : Item) (f : ItemFits 
             ∙ said-same _ x _ _ (same-item x payer (t .texts) e (t .parts-back) (t .name-back)) (t .no-warning),
       )
 
-  payee-said : (payer : Account) → payer ≡ x .payer → (at : ℕ) → Reads (fromPayee sh payer at (behindPayer sh x))
+  payee-said : (payer : Account) → payer ≡ x .payer → (at : ℕ) → Reads (fromPayee sh due payer at (behindPayer sh x))
   unfolding fromPayee gap
   payee-said payer e at =
       onward
@@ -87,10 +88,10 @@ module _ (sh : Sheet) (sane : Sane sh) (single : Bool) (x : Item) (f : ItemFits 
       (f .amount-carried))
       ∙ field-back readSymbol _ (decimal (x .variable)) (x .variable) _ _ (symbol-field (x .variable)) at-space
       (symbol-back (x .variable) (ltb-true (x .variable) 10000000000 (f .variable-low)))
-      ∙ field-back (readBank (sh .priority)) _ (spellBank (x .bank) (x .constant) (x .priority)) (bankOf x) _ _
+      ∙ field-back (readDueBank (sh .priority) due) _ (spellBank (x .bank) (x .constant) (x .priority)) (bankOf x) _ _
       (digits-field _ (spell-bank-plain (x .bank) (x .constant) (x .priority))) (tail-stops sh (x .specific) (x .parts) (x .name))
-      (bank-back (sh .priority) (x .bank) (x .constant) (x .priority) (f .bank-proper) (ltb-true (x .constant) 10000 (f .constant-low)) (f .priority-proper)
-      (f .priority-carried)))
+      (due-bank-back due (sh .priority) (x .bank) (x .constant) (x .priority) (f .bank-due) (f .bank-proper)
+      (ltb-true (x .constant) 10000 (f .constant-low)) (f .priority-proper) (f .priority-carried)))
       (tail-said payer e _ _)
 
 payer-is : (a : Account) → itemPayerProper true a ≡ true → accountProper a ≡ true
@@ -101,23 +102,23 @@ payer-none : (a : Account) → itemPayerProper false a ≡ true → isNobody a �
 unfolding itemPayerProper pick
 payer-none a h = h
 
-pub kind-of : (sh : Sheet) (single : Bool) (x : Item) → ItemFits sh single x → kindOf (spellItem sh x) ≡ itemLine
-kind-of sh true x f =
+pub kind-of : (sh : Sheet) (due : ℕ → Bool) (single : Bool) (x : Item) → ItemFits sh due single x → kindOf (spellItem sh x) ≡ itemLine
+kind-of sh due true x f =
     let p = payer-is (x .payer) (f .payer-proper) in
     ap kindOf (single-is sh x (proper-somebody (x .payer) p)) ∙ kind-account (x .payer) p _
-kind-of sh false x f = ap kindOf (collective-is sh x (payer-none (x .payer) (f .payer-proper))) ∙ kind-account (x .payee) (f .payee-proper) _
+kind-of sh due false x f = ap kindOf (collective-is sh x (payer-none (x .payer) (f .payer-proper))) ∙ kind-account (x .payee) (f .payee-proper) _
 
-pub item-back : (sh : Sheet) → Sane sh → (single : Bool) (x : Item) → ItemFits sh single x
-    → (p : Places) × (readItem sh single (spellItem sh x) ≡ said (item x) [] p)
+pub item-back : (sh : Sheet) → Sane sh → (due : ℕ → Bool) (single : Bool) (x : Item) → ItemFits sh due single x
+    → (p : Places) × (readItem sh due single (spellItem sh x) ≡ said (item x) [] p)
 unfolding readItem gap pick
-item-back sh sane true x f =
+item-back sh sane due true x f =
     let p = payer-is (x .payer) (f .payer-proper) in
     onward
-    (ap (readItem sh true) (single-is sh x (proper-somebody (x .payer) p))
+    (ap (readItem sh due true) (single-is sh x (proper-somebody (x .payer) p))
     ∙ field-back (readAccount (sh .joined) (sh .basemin)) 0 (spellAccount (x .payer)) (x .payer) _ _ (spell-account-field (x .payer)) at-space
     (account-back (x .payer) p (sh .joined) (sh .basemin) (sane .base-few)))
-    (payee-said sh sane true x f (x .payer) refl _)
-item-back sh sane false x f =
+    (payee-said sh sane due true x f (x .payer) refl _)
+item-back sh sane due false x f =
     onward
-    (ap (readItem sh false) (collective-is sh x (payer-none (x .payer) (f .payer-proper))))
-    (payee-said sh sane false x f nobody (sym (fits-nobody sh false x f refl)) 0)
+    (ap (readItem sh due false) (collective-is sh x (payer-none (x .payer) (f .payer-proper))))
+    (payee-said sh sane due false x f nobody (sym (fits-nobody sh due false x f refl)) 0)

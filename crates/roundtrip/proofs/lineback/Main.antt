@@ -11,6 +11,7 @@ use Rattle.sheet.specs.declared.Sheet.{Sheet}
 use Rattle.sheet.proofs.Laws.{Sane}
 use Rattle.paper.specs.Warnings.{pastDay}
 use Rattle.paper.specs.Days.{dueWarnings}
+use Rattle.paper.specs.Terms.{dayHere, bankDue}
 use Rattle.paper.specs.Batch.{Header}
 use Rattle.paper.specs.Proper.{fine, headerProper}
 use Rattle.paper.specs.Entries.{Entry, head, file, group, item, closeGroup, closeFile, nowhere, totalAt, said, plain, counted, Kind, headLine, fileLine, groupLine, itemLine, groupEnd, fileEnd, kindOf, lineEnd}
@@ -49,7 +50,7 @@ module _ (sh : Sheet) (today : ℕ) (c : Context) where
   close-back near e digit = refl
 
   module _ (sane : Sane sh) where
-    pub line-back : (e : Entry) → Fits sh today c e → Reads sh today (spell sh e) c e (warnings sh today e)
+    pub line-back : (e : Entry) → Fits sh today c e → Reads sh today (spell sh e) c e (warnings sh today (dayHere sh (c .kind)) e)
     unfolding spell readAs kindOf starts pick counted
     line-back (head h) f =
         by-test (sh .header)
@@ -57,11 +58,14 @@ module _ (sh : Sheet) (today : ℕ) (c : Context) where
         (λ off. (nowhere, as-kind _ headLine (kind-first sh h) ∙ ap counted (none-back sh off h ∙ ap (λ (x : Header). plain (head x)) (sym (f .is-none off)))))
     line-back (file k n) f = (nowhere, as-kind _ fileLine (kind-file sh k n) ∙ ap counted (file-back sh sane (numberTest sh (c .numbers)) k n f))
     line-back (group p t d) f =
-        let (at, due, e) = group-back sh sane today p t d f in
-        (totalAt at, as-kind _ groupLine (kind-group sh p t d) ∙ ap counted e ∙ ap (λ (n : ℕ). said (group p t d) n (totalAt at)) (notices-length pastDay due (dueWarnings (sh .warnpast) today d)))
+        let (at, spot, e) = group-back sh sane today (dayHere sh (c .kind)) p t d f in (
+          totalAt at,
+          as-kind _ groupLine (kind-group sh p t d) ∙ ap counted e
+              ∙ ap (λ (n : ℕ). said (group p t d) n (totalAt at)) (notices-length pastDay spot (dueWarnings (dayHere sh (c .kind)) (sh .warnpast) today d)),
+        )
     line-back (item x) f =
-        let (p, e) = item-back sh sane (c .single) x f in
-        (p, as-kind _ itemLine (kind-of sh (c .single) x f) ∙ ap counted e)
+        let (p, e) = item-back sh sane (bankDue sh today (c .kind) (c .date)) (c .single) x f in
+        (p, as-kind _ itemLine (kind-of sh (bankDue sh today (c .kind) (c .date)) (c .single) x f) ∙ ap counted e)
     line-back closeGroup f = (nowhere, as-kind _ groupEnd refl ∙ ap counted (close-back (sh .near) closeGroup 51))
     line-back closeFile f = (nowhere, as-kind _ fileEnd refl ∙ ap counted (close-back (sh .near) closeFile 53))
 
@@ -70,6 +74,6 @@ module _ (sh : Sheet) (today : ℕ) (c : Context) where
     line-plain (head h) f = head-plain sh h (f .is-proper)
     line-plain (file k n) f = file-plain sh k n
     line-plain (group p t d) f = group-plain sh p t d
-    line-plain (item x) f = item-plain sh sane (c .single) x f
+    line-plain (item x) f = item-plain sh sane (bankDue sh today (c .kind) (c .date)) (c .single) x f
     line-plain closeGroup f = refl
     line-plain closeFile f = refl

@@ -115,9 +115,9 @@ tail-plain sh sane specific parts name g =
     text : Plain (spellText (sh .text) parts name)
     text = texts-plain _ (spell-text-plain (sh .text) (sane .parts-some) (sane .names-av) parts name g)
 
-pub item-plain : (sh : Sheet) → Sane sh → (single : Bool) (x : Item) → ItemFits sh single x → Plain (spellItem sh x)
+pub item-plain : (sh : Sheet) → Sane sh → (due : ℕ → Bool) (single : Bool) (x : Item) → ItemFits sh due single x → Plain (spellItem sh x)
 unfolding spellItem
-item-plain sh sane single x f =
+item-plain sh sane due single x f =
     both-plain _ _ (either Plain (isNobody (x .payer)) (λ _. nil-plain) (λ _. payer-is (x .payer)))
     (both-plain _ _ (account-is (x .payee))
     (space-plain _

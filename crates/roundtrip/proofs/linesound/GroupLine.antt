@@ -30,9 +30,9 @@ module _ (sh : Sheet) where
   payer-fits (stands {a} f) = payer-in a (payer-sound (sh .joined) (sh .basemin) (f .0) (sh .emptypayer) (sh .zeropayer) a (f .1))
   payer-fits lacks = nobody-in
 
-  pub group-fits : {today : ℕ} {named : Bool} {payer : Account} {total date : ℕ}
+  pub group-fits : {today : ℕ} {here named : Bool} {payer : Account} {total date : ℕ}
       → Payer (readPayer (sh .emptypayer) (sh .zeropayer) (sh .joined) (sh .basemin)) named payer → Read (readTotal (sh .comma)) total
-      → Read (readDue (sh .longdate) (sh .early) (sh .ahead) today) date → GroupFits sh today payer total date
-  group-fits {today} {total = total} {date} p t f =
-      let d = due-sound (sh .longdate) (f .0) (sh .early) (sh .ahead) today date (f .1) in
+      → Read (readDue (sh .longdate) here (sh .early) (sh .ahead) today) date → GroupFits sh today here payer total date
+  group-fits {today} {here} {total = total} {date} p t f =
+      let d = due-sound (sh .longdate) (f .0) here (sh .early) (sh .ahead) today date (f .1) in
       record { payer-proper = payer-fits p; total-low = total-sound (sh .comma) (t .0) total (t .1); date-real = d .0; date-allowed = d .1 }

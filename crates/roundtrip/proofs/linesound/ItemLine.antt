@@ -16,7 +16,7 @@ use Rattle.sheet.proofs.Laws.{Sane}
 use Rattle.paper.specs.Bytes.{null}
 use Rattle.paper.specs.Accounts.{Account, nobody, accountProper, isNobody, readAccount}
 use Rattle.paper.specs.Amounts.{readItemAmount}
-use Rattle.paper.specs.BankField.{Bank, readBank}
+use Rattle.paper.specs.BankField.{Bank, readDueBank}
 use Rattle.paper.specs.Texts.{Noted, lacks as without, nameProper, partProper, taken, wordsCarried, partCarried, nameCarried, partsProper, partsCarried}
 use Rattle.paper.specs.Batch.{most14}
 use Rattle.paper.specs.Proper.{itemPayerProper}
@@ -27,6 +27,7 @@ use Rattle.numeral.proofs.given.Sound.{symbol-sound}
 use Rattle.account.proofs.Sound.{account-sound}
 use Rattle.amount.proofs.Sound.{Payable, amount-sound, amount-within, payable-proper}
 use Rattle.bank.proofs.Sound.{Proper, bank-sound}
+use Rattle.bank.proofs.Due.{due-bank}
 use Rattle.text.specs.wording.Wording.{Sendable}
 use Rattle.text.proofs.wording.Laws.{text-sound}
 use Rattle.roundtrip.specs.linesound.Fits.{ItemFits}
@@ -76,17 +77,20 @@ module _ (sh : Sheet) where
   payer-fits (stands {a} f) = payer-single a (account-sound (sh .joined) (sh .basemin) (f .0) a (f .1))
   payer-fits lacks = payer-none
 
-  pub item-fits : Sane sh → {single : Bool} {w : List ℕ} {payer payee : Account} {amount variable specific : ℕ} {bank : Bank} {texts : Noted}
+  pub item-fits : Sane sh → (due : ℕ → Bool)
+      → {single : Bool} {w : List ℕ} {payer payee : Account} {amount variable specific : ℕ} {bank : Bank} {texts : Noted}
       → Payer (readAccount (sh .joined) (sh .basemin)) single payer → Read (readAccount (sh .joined) (sh .basemin)) payee
-      → Read (readItemAmount (sh .comma) (sh .itemdigits) (sh .itemmax)) amount → Read readSymbol variable → Read (readBank (sh .priority)) bank
-      → Symbol specific → Text (sh .text) w texts → ItemFits sh single (itemOf payer payee amount variable specific bank texts)
-  item-fits sane {payee = payee} {amount = amount} {variable = variable} {specific = specific} {bank = bank} p f a v b s t =
+      → Read (readItemAmount (sh .comma) (sh .itemdigits) (sh .itemmax)) amount → Read readSymbol variable → Read (readDueBank (sh .priority) due) bank
+      → Symbol specific → Text (sh .text) w texts → ItemFits sh due single (itemOf payer payee amount variable specific bank texts)
+  item-fits sane due {payee = payee} {amount = amount} {variable = variable} {specific = specific} {bank = bank} p f a v b s t =
       let m : Payable (sh .itemmax) amount = amount-within (sh .comma) (sh .itemdigits) (sh .itemmax) (a .0) amount (a .1) in
-      let k : Proper (sh .priority) bank = bank-sound (sh .priority) (b .0) bank (b .1) in
+      let (i, d) = due-bank due (sh .priority) (b .0) bank (b .1) in
+      let k : Proper (sh .priority) bank = bank-sound (sh .priority) (b .0) bank i in
       record {
         payer-proper = payer-fits p;
         payee-proper = account-sound (sh .joined) (sh .basemin) (f .0) payee (f .1);
         bank-proper = k .bankIs;
+        bank-due = d;
         amount-proper = payable-proper most14 amount (m .some) (omega (arith, m .within, sane .item-low));
         amount-carried = amount-sound (sh .comma) (sh .itemdigits) (sh .itemmax) (a .0) amount (a .1);
         variable-low = lt-ltb variable 10000000000 (digits-sound 1 10 (v .0) variable (v .1));

@@ -19,7 +19,7 @@ use Rattle.account.proofs.Proper.{nobody-is}
 use Rattle.roundtrip.specs.linesound.Fits.{ItemFits}
 use Rattle.roundtrip.proofs.linesound.Checks.{parts-on, parts-only, carried-on, carried-only}
 
-module _ (sh : Sheet) (single : Bool) (x : Item) (f : ItemFits sh single x) where
+module _ (sh : Sheet) (due : ℕ → Bool) (single : Bool) (x : Item) (f : ItemFits sh due single x) where
   -- row k, behind items of the group that amount to `before`
   pub fits-proper : (k before : ℕ) (rest : Verdict) → leb (before + x .amount) most14 ≡ true → itemProper k single before x rest ≡ rest
   unfolding itemProper
@@ -120,15 +120,16 @@ pub carried-rest : (sh : Sheet) (k : ℕ) (x : Item) (rest : Verdict) → itemCa
 carried-rest sh k x rest e = (held sh k x rest e) .1
 
 -- four parts, and every test passed
-pub tests-fit : (sh : Sheet) (single : Bool) (x : Item) → length (x .parts) ≡ 4 → (k before : ℕ) (r : Verdict) → itemProper k single before x r ≡ fine
-    → (j : ℕ) (q : Verdict) → itemCarried sh j x q ≡ fine → ItemFits sh single x
-tests-fit sh single x four k before r e j q g =
+pub tests-fit : (sh : Sheet) (due : ℕ → Bool) (single : Bool) (x : Item) → length (x .parts) ≡ 4 → (k before : ℕ) (r : Verdict)
+    → itemProper k single before x r ≡ fine → due (x .bank) ≡ true → (j : ℕ) (q : Verdict) → itemCarried sh j x q ≡ fine → ItemFits sh due single x
+tests-fit sh due single x four k before r e d j q g =
     let t = (tested k single before x r e) .0 in
     let h = (held sh j x q g) .0 in
     record {
       payer-proper = t .payer;
       payee-proper = t .payee;
       bank-proper = t .bank;
+      bank-due = d;
       amount-proper = t .amount;
       amount-carried = h .amount;
       variable-low = t .variable;

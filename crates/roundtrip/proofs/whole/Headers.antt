@@ -10,7 +10,7 @@ use Rattle.paper.specs.Batch.{Item, Group, AccountFile, Batch, Header, noHeader
 use Rattle.paper.specs.FileLine.{series}
 use Rattle.paper.specs.Entries.{item, closeGroup, closeFile}
 use Rattle.paper.specs.FirstLine.{spellFirst}
-use Rattle.paper.specs.Carried.{rowsCarried, batchCarried}
+use Rattle.paper.specs.Carried.{Place, atStart, behindFile, behindGroup, behindItem, rowsCarried, batchCarried}
 use Rattle.paper.specs.Spells.{Context, Due, itemDues, groupDues, fileDues, dues}
 use Rattle.paper.specs.Canonical.{spell, textOf, canon}
 use Rattle.roundtrip.proofs.linesound.FirstLine.{headless}
@@ -46,14 +46,14 @@ module _ (sh : Sheet) where
   -- ---- the tests
 
   module _ (q : Sane sh) (off : sh .header ≡ false) (today : ℕ) (h h′ : Header) where
-    rows-same : (k n : ℕ) (seen : List ℕ) (ts : List Thing) → rowsCarried sh today h k n seen ts ≡ rowsCarried sh today h′ k n seen ts
+    rows-same : (k : ℕ) (p : Place) (ts : List Thing) → rowsCarried sh today h k p ts ≡ rowsCarried sh today h′ k p ts
     unfolding rowsCarried
-    rows-same k n seen [] = refl
-    rows-same k n seen (aFile kind number ∷ ts) =
-        rw (number-any sh q off h seen number, number-any sh q off h′ seen number, rows-same (suc k) n (series number ∷ seen) ts) refl
-    rows-same k n seen (aGroup date payer ∷ ts) = rw (rows-same (suc k) n seen ts) refl
-    rows-same k n seen (anItem x ∷ ts) = rw (rows-same (suc k) (suc n) seen ts) refl
-    rows-same k n seen (strange ∷ ts) = refl
+    rows-same k p [] = refl
+    rows-same k p (aFile kind number ∷ ts) =
+        rw (number-any sh q off h (p .seen) number, number-any sh q off h′ (p .seen) number, rows-same (suc k) (behindFile p kind number) ts) refl
+    rows-same k p (aGroup date payer ∷ ts) = rw (rows-same (suc k) (behindGroup p date) ts) refl
+    rows-same k p (anItem x ∷ ts) = rw (rows-same (suc k) (behindItem p) ts) refl
+    rows-same k p (strange ∷ ts) = refl
 
     passes-same : (ts : List Thing) → Passes sh today h ts → Passes sh today h′ ts
     unfolding batchCarried
@@ -62,7 +62,7 @@ module _ (sh : Sheet) where
           header-proper = pick-false _ _ off;
           rows-proper = p .rows-proper;
           header-carried = pick-false _ _ off;
-          rows-carried = sym (rows-same 1 0 [] ts) ∙ p .rows-carried;
+          rows-carried = sym (rows-same 1 atStart ts) ∙ p .rows-carried;
           four-parts = p .four-parts;
         }
 

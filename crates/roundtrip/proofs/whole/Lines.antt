@@ -9,6 +9,7 @@ use Rattle.base.proofs.Cases.{pick-true}
 use Rattle.sheet.specs.declared.Sheet.{Sheet}
 use Rattle.sheet.proofs.Laws.{Sane}
 use Rattle.paper.specs.Lines.{Line, linesOf}
+use Rattle.paper.specs.Terms.{dayHere}
 use Rattle.paper.specs.Entries.{Entry, head, file, group, item, closeGroup, closeFile}
 use Rattle.paper.specs.Spells.{Context, Due, Reads, differs, SaysEntry, Each}
 use Rattle.paper.specs.Canonical.{spell, textOf}
@@ -26,7 +27,7 @@ Every P (d ∷ ds) = P (d .context) (d .entry) × Every P ds
 module _ (sh : Sheet) (today : ℕ) where
   -- an entry that a line says fits; but a group's line may give another total
   abbrev pub Told : Context → Entry → Type 0
-  Told c (group payer exact date) = (total : ℕ) × GroupFits sh today payer total date
+  Told c (group payer exact date) = (total : ℕ) × GroupFits sh today (dayHere sh (c .kind)) payer total date
   Told c (head h) = Fits sh today c (head h)
   Told c (file kind number) = Fits sh today c (file kind number)
   Told c (item x) = Fits sh today c (item x)
@@ -36,12 +37,12 @@ module _ (sh : Sheet) (today : ℕ) where
   -- how many warnings the canonical lines give
   unfoldable pub warned : List Due → ℕ
   warned [] = 0
-  warned (d ∷ ds) = warnings sh today (d .entry) + warned ds
+  warned (d ∷ ds) = warnings sh today (dayHere sh (d .context .kind)) (d .entry) + warned ds
 
   -- ---- what lines say
 
   module _ (sane : Sane sh) where
-    says-told : (s : List ℕ) (c : Context) (e : Entry) (w : ℕ) → SaysEntry sh today s c e w → Told c e × (warnings sh today e ≤ w)
+    says-told : (s : List ℕ) (c : Context) (e : Entry) (w : ℕ) → SaysEntry sh today s c e w → Told c e × (warnings sh today (dayHere sh (c .kind)) e ≤ w)
     says-told s c (group payer exact date) w (total, v, (p, r), same, i) =
         let (f, u) = line-sound sh sane today c s (group payer total date) v p r in
         ((total, f), omega arith)
@@ -85,7 +86,7 @@ module _ (sh : Sheet) (today : ℕ) where
   same-total n = pick-true _ _ (eq-eqb n n refl)
 
   module _ (sane : Sane sh) where
-    fits-says : (c : Context) (e : Entry) → Fits sh today c e → SaysEntry sh today (spell sh e) c e (warnings sh today e)
+    fits-says : (c : Context) (e : Entry) → Fits sh today c e → SaysEntry sh today (spell sh e) c e (warnings sh today (dayHere sh (c .kind)) e)
     fits-says c (group payer exact date) f =
         (exact, _, line-back sh today c sane (group payer exact date) f, λ _. refl, omega (arith, same-total exact))
     fits-says c (head h) f = line-back sh today c sane (head h) f

@@ -9,42 +9,64 @@ use Rattle.paper.specs.Accounts.{Account}
 use Rattle.paper.specs.Batch.{Item, Group, AccountFile, Header, sum, most14, Thing, itemThings, groupThings, things}
 use Rattle.paper.specs.FileLine.{series}
 use Rattle.paper.specs.Proper.{Before, afterFile, afterGroup, afterItem}
+use Rattle.paper.specs.Carried.{Place}
 use Rattle.paper.specs.Spells.{forItem, Due, itemDues, groupDues, fileDues, groupItems, fileItems, GroupRules, FileRules}
 use Rattle.roundtrip.specs.linesound.Fits.{Fits}
 use Rattle.roundtrip.proofs.whole.Lines.{Every}
-use Rattle.roundtrip.proofs.whole.Good.{Good, file-only, group-only, item-only, none-item, none-group}
+use Rattle.roundtrip.proofs.whole.Good.{placed, Good, file-only, group-only, item-only, none-item, none-group}
 
 module _ (sh : Sheet) (today : ℕ) (h : Header) where
   abbrev Fit : List Due → Type 0
   Fit ds = Every (Fits sh today) ds
 
-  -- n items passed, and the rows r behind them pass too
-  record Left (b : Before) (m n : ℕ) (seen : List ℕ) (r : List Thing) : Type 0 where
+  -- n items passed, and the rows r behind them pass too, in the same account file
+  record Left (b : Before) (m n : ℕ) (seen : List ℕ) (kind : ℕ) (r : List Thing) : Type 0 where
     row : ℕ
     after : Before
     count : ℕ
+    day : ℕ
     same-files : after .files ≡ b .files
     more : after .items ≡ b .items + n
     all-more : count ≡ m + n
     few : b .items + n ≤ max (b .items) 99999
     all-few : m + n ≤ max m (sh .fileitems)
-    good : Good sh today h row after count seen r
+    good : Good sh today h row after (placed count seen kind day) r
 
-  items-only : (kind date : ℕ) (seen : List ℕ) (xs : List Item) (r : List Thing) (k : ℕ) (b : Before) (m : ℕ) → Good sh today h k b m seen (itemThings xs r)
-      → Left b m (length xs) seen r × (b .sum + sum xs ≤ max (b .sum) most14) × ((ds : List Due) → Fit ds → Fit (itemDues (forItem kind date (b .single)) xs ds))
+  -- none passed
+  none : (k : ℕ) (b : Before) (m : ℕ) (seen : List ℕ) (kind date : ℕ) (r : List Thing)
+      → Good sh today h k b (placed m seen kind date) r → Left b m 0 seen kind r
+  none k b m seen kind date r g =
+      record {
+        row = k;
+        after = b;
+        count = m;
+        day = date;
+        same-files = refl;
+        more = omega arith;
+        all-more = omega arith;
+        few = omega arith;
+        all-few = omega arith;
+        good = g;
+      }
+
+  items-only : (kind date : ℕ) (seen : List ℕ) (xs : List Item) (r : List Thing) (k : ℕ) (b : Before) (m : ℕ)
+      → Good sh today h k b (placed m seen kind date) (itemThings xs r)
+      → Left b m (length xs) seen kind r × (b .sum + sum xs ≤ max (b .sum) most14)
+      × ((ds : List Due) → Fit ds → Fit (itemDues (forItem kind date (b .single)) xs ds))
   unfolding itemThings itemDues sum
   items-only kind date seen [] r k b m g = (
-    record { row = k; after = b; count = m; same-files = refl; more = omega arith; all-more = omega arith; few = omega arith; all-few = omega arith; good = g },
+    none k b m seen kind date _ g,
     omega arith,
     λ ds e. (tt, e),
   )
   items-only kind date seen (x ∷ xs) r k b m g =
-      let (i, s, a, f, rest) = item-only sh today h k b m seen x (itemThings xs r) g in
+      let (i, s, a, f, rest) = item-only sh today h k b (placed m seen kind date) x (itemThings xs r) g in
       let (l, t, u) = items-only kind date seen xs r (suc k) (afterItem b x) (suc m) rest in (
         record {
           row = l .row;
           after = l .after;
           count = l .count;
+          day = l .day;
           same-files = l .same-files;
           more = omega (arith, l .more);
           all-more = omega (arith, l .all-more);
@@ -56,29 +78,31 @@ module _ (sh : Sheet) (today : ℕ) (h : Header) where
         λ ds e. (f, u ds e),
       )
 
-  items-some : (seen : List ℕ) (xs : List Item) (gs : List Group) (fs : List AccountFile) (k : ℕ) (b : Before) (payer : Account) (m : ℕ)
-      → Good sh today h k (afterGroup b payer) m seen (itemThings xs (groupThings gs (things fs))) → 1 ≤ length xs
+  items-some : (xs : List Item) (gs : List Group) (fs : List AccountFile) (k : ℕ) (b : Before) (payer : Account) (p : Place)
+      → Good sh today h k (afterGroup b payer) p (itemThings xs (groupThings gs (things fs))) → 1 ≤ length xs
   unfolding itemThings
-  items-some seen [] gs fs k b payer m g = absurd (none-item sh today h k (afterGroup b payer) m seen gs fs refl g)
-  items-some seen (x ∷ xs) gs fs k b payer m g = omega arith
+  items-some [] gs fs k b payer p g = absurd (none-item sh today h k (afterGroup b payer) p gs fs refl g)
+  items-some (x ∷ xs) gs fs k b payer p g = omega arith
 
-  groups-only : (kind : ℕ) (seen : List ℕ) (gs : List Group) (fs : List AccountFile) (k : ℕ) (b : Before) (m : ℕ) → Good sh today h k b m seen (groupThings gs (things fs))
-      → Left b m (groupItems gs) seen (things fs) × GroupRules gs × ((ds : List Due) → Fit ds → Fit (groupDues kind gs ds))
+  groups-only : (kind date : ℕ) (seen : List ℕ) (gs : List Group) (fs : List AccountFile) (k : ℕ) (b : Before) (m : ℕ)
+      → Good sh today h k b (placed m seen kind date) (groupThings gs (things fs))
+      → Left b m (groupItems gs) seen kind (things fs) × GroupRules gs × ((ds : List Due) → Fit ds → Fit (groupDues kind gs ds))
   unfolding groupThings groupDues groupItems
-  groups-only kind seen [] fs k b m g = (
-    record { row = k; after = b; count = m; same-files = refl; more = omega arith; all-more = omega arith; few = omega arith; all-few = omega arith; good = g },
+  groups-only kind date seen [] fs k b m g = (
+    none k b m seen kind date _ g,
     tt,
     λ ds e. (tt, e),
   )
-  groups-only kind seen (g ∷ gs) fs k b m i =
-      let (d, f, rest) = group-only sh today h k b m seen (g .date) (g .payer) (itemThings (g .items) (groupThings gs (things fs))) i in
+  groups-only kind date seen (g ∷ gs) fs k b m i =
+      let (d, f, rest) = group-only sh today h k b (placed m seen kind date) (g .date) (g .payer) (itemThings (g .items) (groupThings gs (things fs))) i in
       let (l, s, u) = items-only kind (g .date) seen (g .items) (groupThings gs (things fs)) (suc k) (afterGroup b (g .payer)) m rest in
-      let (n, r, v) = groups-only kind seen gs fs (l .row) (l .after) (l .count) (l .good) in
+      let (n, r, v) = groups-only kind (l .day) seen gs fs (l .row) (l .after) (l .count) (l .good) in
       let small : sum (g .items) ≤ most14 = omega arith in (
         record {
           row = n .row;
           after = n .after;
           count = n .count;
+          day = n .day;
           same-files = n .same-files ∙ l .same-files;
           more = omega (arith, l .more, n .more);
           all-more = omega (arith, l .all-more, n .all-more);
@@ -86,26 +110,28 @@ module _ (sh : Sheet) (today : ℕ) (h : Header) where
           all-few = omega (arith, l .all-few, l .all-more, n .all-few);
           good = n .good;
         },
-        (items-some seen (g .items) gs fs (suc k) b (g .payer) m rest, small, r),
+        (items-some (g .items) gs fs (suc k) b (g .payer) (placed m seen kind (g .date)) rest, small, r),
         λ ds e. (f (sum (g .items)) small, u (groupDues kind gs ds) (v ds e)),
       )
 
-  groups-some : (seen : List ℕ) (gs : List Group) (fs : List AccountFile) (k : ℕ) (b : Before) (m : ℕ)
-      → Good sh today h k (afterFile b) m seen (groupThings gs (things fs)) → 1 ≤ length gs
+  groups-some : (gs : List Group) (fs : List AccountFile) (k : ℕ) (b : Before) (p : Place)
+      → Good sh today h k (afterFile b) p (groupThings gs (things fs)) → 1 ≤ length gs
   unfolding groupThings
-  groups-some seen [] fs k b m g = absurd (none-group sh today h k (afterFile b) m seen fs refl g)
-  groups-some seen (x ∷ gs) fs k b m g = omega arith
+  groups-some [] fs k b p g = absurd (none-group sh today h k (afterFile b) p fs refl g)
+  groups-some (x ∷ gs) fs k b p g = omega arith
 
-  pub files-only : (seen : List ℕ) (fs : List AccountFile) (k : ℕ) (b : Before) (m : ℕ) → Good sh today h k b m seen (things fs)
+  -- behind an account file of any kind and a group of any day
+  pub files-only : (kind date : ℕ) (seen : List ℕ) (fs : List AccountFile) (k : ℕ) (b : Before) (m : ℕ)
+      → Good sh today h k b (placed m seen kind date) (things fs)
       → FileRules fs × (b .files + length fs ≤ max (b .files) 1000) × (m + fileItems fs ≤ max m (sh .fileitems)) × Fit (fileDues h seen fs)
   unfolding things fileDues fileItems
-  files-only seen [] k b m g = (tt, omega arith, omega arith, tt)
-  files-only seen (f ∷ fs) k b m g =
+  files-only kind date seen [] k b m g = (tt, omega arith, omega arith, tt)
+  files-only kind date seen (f ∷ fs) k b m g =
       let others = series (f .number) ∷ seen in
-      let (d, n, e, rest) = file-only sh today h k b m seen (f .kind) (f .number) (groupThings (f .groups) (things fs)) g in
-      let (l, r, u) = groups-only (f .kind) others (f .groups) fs (suc k) (afterFile b) m rest in
-      let (q, a, c, v) = files-only others fs (l .row) (l .after) (l .count) (l .good) in (
-        (groups-some others (f .groups) fs (suc k) b m rest, omega (arith, l .few), r, q),
+      let (d, n, e, rest) = file-only sh today h k b (placed m seen kind date) (f .kind) (f .number) (groupThings (f .groups) (things fs)) g in
+      let (l, r, u) = groups-only (f .kind) 0 others (f .groups) fs (suc k) (afterFile b) m rest in
+      let (q, a, c, v) = files-only (f .kind) (l .day) others fs (l .row) (l .after) (l .count) (l .good) in (
+        (groups-some (f .groups) fs (suc k) b (placed m others (f .kind) 0) rest, omega (arith, l .few), r, q),
         omega (arith, l .same-files),
         omega (arith, l .all-few, l .all-more),
         (e, u (fileDues h others fs) v),

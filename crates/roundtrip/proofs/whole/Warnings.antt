@@ -1,4 +1,5 @@
--- The warnings of a canonical file: one for each group that is due on a past day, where the sheet warns of it. Assumes nothing.
+-- The warnings of a canonical file: one for each group that is due on a past day, where the sheet warns of it, but none in a collection.
+-- Assumes nothing.
 use mathlib.Core.Path.{_≡_, refl}
 use mathlib.Core.List.{List, [], _∷_}
 use Prim.Native.Nat.{ℕ, _+_}
@@ -17,7 +18,7 @@ module _ (sh : Sheet) (today : ℕ) where
   warned-items c [] r = omega arith
   warned-items c (x ∷ xs) r = omega (arith, warned-items c xs r)
 
-  warned-groups : (kind : ℕ) (gs : List Group) (r : List Due) → warned sh today (groupDues kind gs r) ≡ pastGroups sh today gs + warned sh today r
+  warned-groups : (kind : ℕ) (gs : List Group) (r : List Due) → warned sh today (groupDues kind gs r) ≡ pastGroups sh today kind gs + warned sh today r
   unfolding groupDues warned pastGroups
   warned-groups kind [] r = omega arith
   warned-groups kind (g ∷ gs) r = omega (arith, warned-items (forItem kind (g .date) (isNobody (g .payer))) (g .items) (groupDues kind gs r), warned-groups kind gs r)

@@ -12,7 +12,7 @@ use Rattle.sheet.proofs.Laws.{Sane}
 use Rattle.paper.specs.Batch.{Batch, Header, noHeader, things}
 use Rattle.paper.specs.Lines.{linesOf}
 use Rattle.paper.specs.Proper.{Verdict, fine, fileDue, mayStop, atTop, batchProper}
-use Rattle.paper.specs.Carried.{batchCarried}
+use Rattle.paper.specs.Carried.{atStart, batchCarried}
 use Rattle.paper.specs.Spells.{fileDues, dues, Spells}
 use Rattle.paper.specs.Canonical.{canon}
 use Rattle.roundtrip.specs.linesound.Fits.{HeadFits, Fits}
@@ -37,7 +37,7 @@ module _ (sh : Sheet) (today : ℕ) (h : Header) (b : Batch) where
     spelled-carries =
         let (top, tell) = told in
         let (some, few, less, r) = s .rules in
-        let g = some-files sh today h [] b 1 atTop 0 refl some (omega arith) (omega arith) r tell in
+        let g = some-files sh today h 0 0 [] b 1 atTop 0 refl some (omega arith) (omega arith) r tell in
         record {
           header-proper = either (λ (v : Verdict). v ≡ fine) (sh .header) (top .is-proper) (λ _. refl);
           rows-proper = g .is-proper;
@@ -54,9 +54,9 @@ module _ (sh : Sheet) (today : ℕ) (h : Header) (b : Batch) where
     pub spelled-warnings : pastWarnings sh today b ≤ w
     spelled-warnings = omega (arith, warned-batch sh today h b, each-told sh today sane (linesOf 0 f) (dues h b) w (s .lines) .1)
 
-  files-some : (fs : Batch) → Good sh today h 1 atTop 0 [] (things fs) → 1 ≤ length fs
+  files-some : (fs : Batch) → Good sh today h 1 atTop atStart (things fs) → 1 ≤ length fs
   unfolding things mayStop
-  files-some [] g = never (sym (end-only sh today h 1 atTop 0 [] g))
+  files-some [] g = never (sym (end-only sh today h 1 atTop atStart g))
   files-some (f ∷ fs) g = omega arith
 
   module _ (sane : Sane sh) (p : Carries sh today h b) (none : sh .header ≡ false → h ≡ noHeader) where
@@ -68,19 +68,19 @@ module _ (sh : Sheet) (today : ℕ) (h : Header) (b : Batch) where
           is-none = none;
         }
 
-    rows-good : Good sh today h 1 atTop 0 [] (things b)
+    rows-good : Good sh today h 1 atTop atStart (things b)
     unfolding batchProper batchCarried
     rows-good = record { is-proper = p .rows-proper; is-carried = p .rows-carried; has-parts = p .four-parts }
 
     all-fit : Every (Fits sh today) (dues h b)
     unfolding dues
-    all-fit = (top-fits, files-only sh today h [] b 1 atTop 0 rows-good .3)
+    all-fit = (top-fits, files-only sh today h 0 0 [] b 1 atTop 0 rows-good .3)
 
     -- the canonical file of a batch that passes the tests of writing spells it
     pub carries-spells : Spells sh today (canon sh h b) h b (pastWarnings sh today b)
     unfolding canon
     carries-spells =
-        let (r, few, less, fit) = files-only sh today h [] b 1 atTop 0 rows-good in
+        let (r, few, less, fit) = files-only sh today h 0 0 [] b 1 atTop 0 rows-good in
         record {
           lines = rw (← warned-batch sh today h b) (lines-back sh today sane 0 (dues h b) all-fit);
           rules = (files-some b rows-good, omega arith, omega arith, r);

@@ -6,6 +6,7 @@ use lib.ListN.{length}
 use Rattle.base.specs.Pick.{pick}
 use Rattle.sheet.specs.declared.Sheet.{Sheet}
 use Rattle.paper.specs.Days.{dueWarnings}
+use Rattle.paper.specs.Terms.{dayHere}
 use Rattle.paper.specs.Batch.{Group, Batch, Header, noHeader, Thing, aFile, aGroup, anItem, strange, things}
 use Rattle.paper.specs.Lines.{Line}
 use Rattle.paper.specs.Proper.{fine, headerProper, batchProper}
@@ -36,14 +37,15 @@ Carries sh today h b = Passes sh today h (things b)
 unfoldable pub headRead : Sheet → Header → Header
 headRead sh h = pick (sh .header) h noHeader
 
--- how many groups are due on a past day, where the sheet warns of it (C, P): the warnings of a canonical file
-unfoldable pub pastGroups : Sheet → ℕ → List Group → ℕ
-pastGroups sh today [] = 0
-pastGroups sh today (g ∷ gs) = dueWarnings (sh .warnpast) today (g .date) + pastGroups sh today gs
+-- How many groups are due on a past day, where the sheet warns of it (C, P): the warnings of a canonical file. A collection's day is not warned
+-- of: there a past one is refused.
+unfoldable pub pastGroups : Sheet → ℕ → ℕ → List Group → ℕ
+pastGroups sh today kind [] = 0
+pastGroups sh today kind (g ∷ gs) = dueWarnings (dayHere sh kind) (sh .warnpast) today (g .date) + pastGroups sh today kind gs
 
 unfoldable pub pastWarnings : Sheet → ℕ → Batch → ℕ
 pastWarnings sh today [] = 0
-pastWarnings sh today (f ∷ fs) = pastGroups sh today (f .groups) + pastWarnings sh today fs
+pastWarnings sh today (f ∷ fs) = pastGroups sh today (f .kind) (f .groups) + pastWarnings sh today fs
 
 -- each line says exactly the entry that is due, a group's line the exact sum as its total
 abbrev pub Exactly : Sheet → ℕ → List Line → List Due → Type 0
