@@ -12,11 +12,11 @@ use Rattle.sheet.specs.declared.Sheet.{Sheet}
 use Rattle.paper.specs.Read.{value}
 use Rattle.paper.specs.Numerals.{digits}
 use Rattle.paper.specs.Days.{readDue, readDay, shortDay, longDay}
-use Rattle.paper.specs.BankField.{Bank, readBank}
+use Rattle.paper.specs.BankField.{Bank, readBank, readDueBank}
 use Rattle.paper.specs.Entries.{Listed, counted, Kind}
 use Rattle.paper.specs.FileLine.{readKind, readNumber}
 use Rattle.paper.specs.Rows.{entryRow, lineRow}
-use Rattle.paper.proofs.LineSays.{LineSays, no-header, a-header, a-file, a-group, an-item, a-group-end, a-file-end, refused}
+use Rattle.paper.proofs.LineSays.{Asked, LineSays, no-header, a-header, a-file, a-group, an-item, a-group-end, a-file-end, refused}
 use Rattle.numeral.proofs.Sound.{digits-least}
 use Rattle.numeral.proofs.given.Given.{given-value}
 
@@ -37,27 +37,30 @@ day-six long s v e =
     (λ t. let g = given-value _ (digits 8 8 s) v (sym (pick-true _ _ t) ∙ e) in omega (arith, digits-least 8 8 s (g .0) (g .1)))
     (λ t. let g = given-value _ (digits 6 6 s) v (sym (pick-false _ _ t) ∙ e) in digits-least 6 6 s (g .0) (g .1))
 
-due-six : (long early : Bool) (ahead today : ℕ) (s : List ℕ) (v : ℕ) → readDue long early ahead today s ≡ value v → 6 ≤ length s
+due-six : (long here early : Bool) (ahead today : ℕ) (s : List ℕ) (v : ℕ) → readDue long here early ahead today s ≡ value v → 6 ≤ length s
 unfolding readDue
-due-six long early ahead today s v e = let g = given-value _ (readDay long s) v e in day-six long s (g .0) (g .1)
+due-six long here early ahead today s v e = let g = given-value _ (readDay long s) v e in day-six long s (g .0) (g .1)
 
-bank-eight : (ranked : Bool) (s : List ℕ) (v : Bank) → readBank ranked s ≡ value v → 8 ≤ length s
-unfolding readBank
-bank-eight ranked s v e = let g = given-value _ (digits 8 10 s) v e in digits-least 8 10 s (g .0) (g .1)
+bank-eight : (ranked : Bool) (due : ℕ → Bool) (s : List ℕ) (v : Bank) → readDueBank ranked due s ≡ value v → 8 ≤ length s
+unfolding readDueBank readBank
+bank-eight ranked due s v e =
+    let b = given-value _ (readBank ranked s) v e in
+    let g = given-value _ (digits 8 10 s) (b .0) (b .1) in
+    digits-least 8 10 s (g .0) (g .1)
 
 -- ---- and so lines
 
 module _ (sh : Sheet) (start : ℕ) where
-  pub row-least : {today : ℕ} {test : ℕ → ℕ} {single : Bool} {s : List ℕ} {kind : Kind} {r : Listed} → LineSays sh today test single s kind r
+  pub row-least : {today : ℕ} {a : Asked} {s : List ℕ} {kind : Kind} {r : Listed} → LineSays sh today a s kind r
       → 8 * length (lineRow start (counted r)) ≤ length s
   unfolding lineRow entryRow counted
   row-least (no-header _) = omega arith
   row-least (a-header _ _ _ _ _ _ _) = omega arith
-  row-least {test = test} {s = s} (a-file {kind = k} {number = m} f g _ h) =
-      omega (arith, h, kind-four sh (f .0) k (f .1), number-six test (g .0) m (g .1), length-drop 2 s)
-  row-least {today} {s = s} (a-group {date = date} _ _ _ d h _) =
-      omega (arith, h, due-six (sh .longdate) (sh .early) (sh .ahead) today (d .0) date (d .1), length-drop 2 s)
-  row-least (an-item {bank = bank} _ _ _ _ _ b h _ _) = omega (arith, h, bank-eight (sh .priority) (b .0) bank (b .1))
+  row-least {a = a} {s = s} (a-file {kind = k} {number = m} f g _ h) =
+      omega (arith, h, kind-four sh (f .0) k (f .1), number-six (a .number) (g .0) m (g .1), length-drop 2 s)
+  row-least {today} {a = a} {s = s} (a-group {date = date} _ _ _ d h _) =
+      omega (arith, h, due-six (sh .longdate) (a .here) (sh .early) (sh .ahead) today (d .0) date (d .1), length-drop 2 s)
+  row-least {a = a} (an-item {bank = bank} _ _ _ _ _ b h _ _) = omega (arith, h, bank-eight (sh .priority) (a .due) (b .0) bank (b .1))
   row-least a-group-end = omega arith
   row-least a-file-end = omega arith
   row-least (refused _ _) = omega arith

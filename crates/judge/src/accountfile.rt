@@ -20,7 +20,7 @@ ghost use Rattle.paper.specs.Days.{realDay};
 ghost use Rattle.paper.specs.Entries.{fileLine, groupLine, fileEnd, kindOf};
 ghost use Rattle.scan.specs.line.Cutting.{Cuts};
 ghost use Rattle.judge.specs.group.Stands.{LowGroup, lineIn, Begun};
-ghost use Rattle.judge.specs.accountfile.Resume.{fileMore, NewHeld, Opens, Good, Grouped, Moved, Ends, Stepped};
+ghost use Rattle.judge.specs.accountfile.Resume.{fileMore, newShelf, NewHeld, Opens, Good, Grouped, Moved, Ends, Stepped};
 
 // Where reading stands: before an account file or its end, at a place with its line's number; before a group or the account file's end;
 // or at the answer.
@@ -33,12 +33,6 @@ pub enum Left {
 
 // ---- an account file
 
-// It has nothing yet.
-const EMPTY: Shelf = Shelf {
-    items: 0,
-    groups: 0,
-};
-
 // The file ends where an account file may begin.
 fn end_file(at: usize, line: u64, counts: Counts) -> Left
     ensures { λ r. ⌜ Ends at line counts r ⌝ }
@@ -48,6 +42,17 @@ fn end_file(at: usize, line: u64, counts: Counts) -> Left
         return Left::Refused(3, line, at as u64);
     }
     Left::Accepted(counts.rows, counts.warnings)
+}
+
+// An account file of this kind that has nothing yet.
+fn new_shelf(kind: u64) -> Shelf
+    ensures { λ r. ⌜ r ≡ newShelf kind ⌝ }
+{
+    Shelf {
+        kind,
+        items: 0,
+        groups: 0,
+    }
 }
 
 // The counts with an account file more.
@@ -89,10 +94,10 @@ fn open_file(
     let words = *seen;
     let set = Seen { words: words };
     match fileline::file_line(&f[at..stop], sh, from, to, set) {
-        FileRead::File { kind: _, number } => {
+        FileRead::File { kind, number } => {
             fileline::seen::mark(seen, set, number / 1000);
             let following = line + 1;
-            Left::Group(cut.next, following, file_more(counts), EMPTY)
+            Left::Group(cut.next, following, file_more(counts), new_shelf(kind))
         }
         FileRead::Refused(n, off) => {
             let byte = crate::group::byte_in(at, off, stop);
@@ -145,12 +150,13 @@ fn group_held(
     shelf: Shelf,
     warnings: u64,
     single: bool,
+    date: u64,
     total: u64,
     line: u64,
     byte: u64,
 ) -> Held
     requires { ⌜ LowGroup counts shelf × (warnings ≤ 1) ⌝ }
-    ensures { λ r. ⌜ NewHeld counts shelf warnings single total line byte r ⌝ }
+    ensures { λ r. ⌜ NewHeld counts shelf warnings single date total line byte r ⌝ }
 {
     let rows = counts.rows + 1;
     let warned = counts.warnings + warnings;
@@ -164,6 +170,7 @@ fn group_held(
         shelf,
         opened: Open {
             single,
+            date,
             total,
             line,
             byte,
@@ -190,16 +197,17 @@ fn group_opening(
     requires { ⌜ (at ≤ stop) × (stop ≤ length (now f)) ⌝ }
     ensures { λ r. ⌜ Opens sh today (lineIn (now (f .entry)) at stop) line counts shelf r ⌝ }
 {
-    match groupline::group_line(&f[at..stop], sh, today) {
+    let here = calendar::term::day_here(sh, shelf.kind);
+    match groupline::group_line(&f[at..stop], sh, today, here) {
         GroupRead::Group {
             single,
             total,
-            date: _,
+            date,
             warnings,
             spot,
         } => {
             let byte = crate::group::byte_in(at, spot, stop);
-            Opening::Group(group_held(counts, shelf, warnings, single, total, line, byte))
+            Opening::Group(group_held(counts, shelf, warnings, single, date, total, line, byte))
         }
         GroupRead::Refused(n, off) => {
             let byte = crate::group::byte_in(at, off, stop);
@@ -209,12 +217,12 @@ fn group_opening(
 }
 
 // The items of a group, and where reading stands behind it.
-fn whole_group(f: &[u8], sh: Sheet, at: usize, line: u64, held: Held) -> Left
-    requires { ⌜ Sane sh ⌝ }
+fn whole_group(f: &[u8], sh: Sheet, today: u64, at: usize, line: u64, held: Held) -> Left
+    requires { ⌜ Sane sh × (realDay today ≡ true) ⌝ }
     requires { ⌜ Begun (now f) at line held ⌝ }
-    ensures { λ r. ⌜ Grouped sh (now (f .entry)) at line held r ⌝ }
+    ensures { λ r. ⌜ Grouped sh today (now (f .entry)) at line held r ⌝ }
 {
-    match crate::group::group_items(f, sh, at, line, held) {
+    match crate::group::group_items(f, sh, today, at, line, held) {
         GroupEnd::Closed {
             at,
             line,
@@ -245,7 +253,7 @@ fn open_group(
     match group_opening(f, sh, today, at, cut.stop, line, counts, shelf) {
         Opening::Group(held) => {
             let following = line + 1;
-            whole_group(f, sh, cut.next, following, held)
+            whole_group(f, sh, today, cut.next, following, held)
         }
         Opening::Refused(n, byte) => Left::Refused(n, line, byte),
     }

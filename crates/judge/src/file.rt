@@ -107,7 +107,7 @@ fn account_files(
     }
 }
 
-// The groups of an account file, from the place `at` on.
+// The groups of an account file, one after the other from the place `at` on, and the account files behind it.
 fn groups(
     f: &[u8],
     terms: Terms,
@@ -125,28 +125,28 @@ fn groups(
     if budget == 0 {
         return Left::Group(at, line, counts, shelf);
     }
-    match crate::accountfile::group_step(f, terms.sheet, terms.today, at, line, counts, shelf) {
-        Left::Group(next, number, more, held) => groups(
-            f,
-            terms,
-            next,
-            number,
-            more,
-            held,
-            seen,
-            budget - 1,
-        ),
-        Left::File(next, number, more) => account_files(
-            f,
-            terms,
-            next,
-            number,
-            more,
-            seen,
-            budget - 1,
-        ),
-        Left::Refused(n, number, byte) => Left::Refused(n, number, byte),
-        Left::Accepted(rows, warnings) => Left::Accepted(rows, warnings),
+    let mut at = at;
+    let mut line = line;
+    let mut counts = counts;
+    let mut shelf = shelf;
+    loop {
+        match crate::accountfile::group_step(f, terms.sheet, terms.today, at, line, counts, shelf) {
+            Left::Group(next, number, more, held) => {
+                at = next;
+                line = number;
+                counts = more;
+                shelf = held;
+            }
+            Left::File(next, number, more) => {
+                return account_files(f, terms, next, number, more, seen, budget - 1);
+            }
+            Left::Refused(n, number, byte) => {
+                return Left::Refused(n, number, byte);
+            }
+            Left::Accepted(rows, warnings) => {
+                return Left::Accepted(rows, warnings);
+            }
+        }
     }
 }
 

@@ -1,16 +1,19 @@
 // The items of one group, up to the line that closes it.
+use calendar::term::Banks;
 use closing::CloseRead;
 use itemline::judge::Judged;
 use scan::kind::LineKind;
 use sheet::Sheet;
 ghost use mathlib.Core.Path.{_≡_};
-ghost use Prim.Native.Nat.{_+_, _-_, _≤_};
+ghost use mathlib.Core.Bool.{true};
+ghost use Prim.Native.Nat.{ℕ, _+_, _-_, _≤_};
 ghost use lib.ListN.{length, take, drop};
 ghost use Rattle.sheet.proofs.Laws.{Sane};
+ghost use Rattle.paper.specs.Days.{realDay};
 ghost use Rattle.paper.specs.Entries.{itemLine, groupEnd, kindOf};
 ghost use Rattle.paper.specs.Judge.{totalBroken};
 ghost use Rattle.paper.specs.Spells.{differs};
-ghost use Rattle.judge.specs.group.Stands.{lineIn, heldMore, Turns, closedAs, LowItem, Begun, Ended};
+ghost use Rattle.judge.specs.group.Stands.{lineIn, heldMore, Banked, Turns, closedAs, LowItem, Begun, Ended};
 
 // Of the whole file so far: account files, items, rows and warnings.
 pub struct Counts {
@@ -22,13 +25,15 @@ pub struct Counts {
 
 // Of the open account file: items, and groups that are closed.
 pub struct Shelf {
+    pub kind: u64,
     pub items: u64,
     pub groups: u64,
 }
 
-// Of the open group: whether it is single, its total with the line and byte where it stands, the sum and the count of its items.
+// Of the open group: whether it is single, its due date, its total with the line and byte where it stands, the sum and the count of its items.
 pub struct Open {
     pub single: bool,
+    pub date: u64,
     pub total: u64,
     pub line: u64,
     pub byte: u64,
@@ -96,11 +101,11 @@ pub fn byte_in(at: usize, off: usize, stop: usize) -> u64
 }
 
 // An item's line, which is known as one. 15 comes before its fields.
-fn item_turn(f: &[u8], sh: Sheet, at: usize, stop: usize, held: Held) -> Turn
+fn item_turn(f: &[u8], sh: Sheet, banks: Banks, at: usize, stop: usize, held: Held) -> Turn
     requires { ⌜ Sane sh ⌝ }
     requires { ⌜ (at ≤ stop) × (stop ≤ length (now f)) ⌝ }
     requires { ⌜ kindOf (take (stop - at) (drop at (now f))) ≡ itemLine ⌝ }
-    ensures { λ r. ⌜ Turns sh (lineIn (now (f .entry)) at stop) held r ⌝ }
+    ensures { λ r. ⌜ ((today : ℕ) → Banked sh today banks held → Turns sh today (lineIn (now (f .entry)) at stop) held r) ⌝ }
 {
     let inside = held.shelf.items;
     if 99999 <= inside {
@@ -111,7 +116,7 @@ fn item_turn(f: &[u8], sh: Sheet, at: usize, stop: usize, held: Held) -> Turn
     if limits.items <= items {
         return Turn::Stop(15, at as u64);
     }
-    match itemline::judge::judge_item(&f[at..stop], sh, held.opened.single) {
+    match itemline::judge::judge_item(&f[at..stop], sh, banks, held.opened.single) {
         Judged::Item { amount, warnings } => Turn::Item { amount, warnings },
         Judged::Refused(n, off) => {
             let byte = byte_in(at, off, stop);
@@ -125,7 +130,7 @@ fn close_turn(f: &[u8], sh: Sheet, at: usize, stop: usize, held: Held) -> Turn
     requires { ⌜ Sane sh ⌝ }
     requires { ⌜ (at ≤ stop) × (stop ≤ length (now f)) ⌝ }
     requires { ⌜ kindOf (take (stop - at) (drop at (now f))) ≡ groupEnd ⌝ }
-    ensures { λ r. ⌜ Turns sh (lineIn (now (f .entry)) at stop) held r ⌝ }
+    ensures { λ r. ⌜ ((today : ℕ) → Turns sh today (lineIn (now (f .entry)) at stop) held r) ⌝ }
 {
     let count = held.opened.count;
     if count == 0 {
@@ -141,13 +146,13 @@ fn close_turn(f: &[u8], sh: Sheet, at: usize, stop: usize, held: Held) -> Turn
 }
 
 // One line of an open group: the bytes of the file from `at` to `stop`.
-fn item_step(f: &[u8], sh: Sheet, at: usize, stop: usize, held: Held) -> Turn
+fn item_step(f: &[u8], sh: Sheet, banks: Banks, at: usize, stop: usize, held: Held) -> Turn
     requires { ⌜ Sane sh ⌝ }
     requires { ⌜ (at ≤ stop) × (stop ≤ length (now f)) ⌝ }
-    ensures { λ r. ⌜ Turns sh (lineIn (now (f .entry)) at stop) held r ⌝ }
+    ensures { λ r. ⌜ ((today : ℕ) → Banked sh today banks held → Turns sh today (lineIn (now (f .entry)) at stop) held r) ⌝ }
 {
     match scan::kind::kind_of(&f[at..stop]) {
-        LineKind::Item => item_turn(f, sh, at, stop, held),
+        LineKind::Item => item_turn(f, sh, banks, at, stop, held),
         LineKind::GroupEnd => close_turn(f, sh, at, stop, held),
         LineKind::Head => Turn::Stop(3, at as u64),
         LineKind::File => Turn::Stop(3, at as u64),
@@ -175,11 +180,13 @@ fn held_more(x: Held, amount: u64, warnings: u64) -> Held
             warnings: warned,
         },
         shelf: Shelf {
+            kind: x.shelf.kind,
             items: inside,
             groups: x.shelf.groups,
         },
         opened: Open {
             single: x.opened.single,
+            date: x.opened.date,
             total: x.opened.total,
             line: x.opened.line,
             byte: x.opened.byte,
@@ -211,6 +218,7 @@ fn close_group(strict: bool, at: usize, line: u64, held: Held) -> GroupEnd
             warnings,
         },
         shelf: Shelf {
+            kind: held.shelf.kind,
             items: held.shelf.items,
             groups,
         },
@@ -218,18 +226,19 @@ fn close_group(strict: bool, at: usize, line: u64, held: Held) -> GroupEnd
 }
 
 // The lines of an open group, from `at` on, up to the one that closes it or is refused.
-pub fn group_items(f: &[u8], sh: Sheet, at: usize, line: u64, held: Held) -> GroupEnd
-    requires { ⌜ Sane sh ⌝ }
+pub fn group_items(f: &[u8], sh: Sheet, today: u64, at: usize, line: u64, held: Held) -> GroupEnd
+    requires { ⌜ Sane sh × (realDay today ≡ true) ⌝ }
     requires { ⌜ Begun (now f) at line held ⌝ }
-    ensures { λ r. ⌜ Ended sh (now (f .entry)) at line held r ⌝ }
+    ensures { λ r. ⌜ Ended sh today (now (f .entry)) at line held r ⌝ }
 {
+    let banks = calendar::term::banks_due(sh, today, held.shelf.kind, held.opened.date);
     let mut at = at;
     let mut line = line;
     let mut held = held;
     while at < f.len() {
         let cut = scan::line::next_line(f, at);
         let stop = cut.stop;
-        match item_step(f, sh, at, stop, held) {
+        match item_step(f, sh, banks, at, stop, held) {
             Turn::Item { amount, warnings } => {
                 held = held_more(held, amount, warnings);
                 at = cut.next;

@@ -16,7 +16,7 @@ use Rattle.rowlaws.proofs.Filled.{Meets, Runs, runs-batch}
 use Rattle.numeral.specs.placed.Said.{isSaid}
 use Rattle.fill.specs.file.Judged.{AllSaid}
 
--- one line: it says the same in the context of an item, and so do the lines behind it (P)
+-- one line: it says the same entry in the context of lines that are accepted, and so do the lines behind it (P)
 module _ (sh : Sheet) (today : ℕ) (s : List ℕ) (b : Bool) (P : Bool → Type 0) where
   abbrev said : Counted
   said = readLine sh today (accepted b) s
@@ -28,7 +28,7 @@ module _ (sh : Sheet) (today : ℕ) (s : List ℕ) (b : Bool) (P : Bool → Type
   unfolding isSaid singleAfter singleBehind
   one c (head h) w _ (p, q) r = rw (head-again sh today c b s w p h q) (refl, r)
   one c (file k n) w _ (p, q) r = rw (file-line-again sh today c b s w p k n q) (refl, r)
-  one c (group a exact d) w _ (total, v, (p, q), _, _) r = rw (group-again sh today c b s v p a total d q) (refl, r)
+  one c (group a exact d) w _ (total, v, (p, q), _, _) r = rw (group-again sh today c b s v p a total d q .1) (refl, r)
   one c (item x) w i (p, q) r = rw (item-again sh today c b s w p x i q) (refl, r)
   one c closeGroup w _ (p, q) r = rw (group-end-again sh today c b s w p q) (refl, r)
   one c closeFile w _ (p, q) r = rw (file-end-again sh today c b s w p q) (refl, r)

@@ -10,6 +10,7 @@ use Rattle.sheet.specs.declared.Sheet.{Sheet}
 use Rattle.paper.specs.Accounts.{Account, account, isNobody}
 use Rattle.paper.specs.Entries.{file, group, item, nowhere, Counted, said, plain, counted, kindOf}
 use Rattle.paper.specs.FileLine.{readFile}
+use Rattle.paper.specs.Terms.{dayHere}
 use Rattle.paper.specs.GroupLine.{readGroup}
 use Rattle.paper.specs.ItemLine.{places, readItem}
 use Rattle.paper.specs.Spells.{readLine}
@@ -26,6 +27,7 @@ use Rattle.itemline.specs.Told as item-told
 use Rattle.fileline.specs.declared.take.File.{File}
 use Rattle.groupline.specs.declared.take.Group.{Group}
 use Rattle.fileline.specs.take.Any.{anyNumber}
+use Rattle.itemline.specs.Walk.{anyBank}
 use Rattle.groupline.specs.take.Taken.{Opens}
 use Rattle.numeral.specs.placed.Said.{isSaid}
 use Rattle.numeral.proofs.placed.Goes.{said-counted}
@@ -84,10 +86,10 @@ module _ (sh : Sheet) (today : ℕ) (single : Bool) (s : List ℕ) (k : LineKind
       step-file o1 p w = rw file-says (record { wrote = one-row o o1 next p (fileRow (x .kind) (x .number)) w; after = refl })
 
   module _ (e : k ≡ kind.Group) where
-    pub judged-group : isSaid (readLine sh today (accepted single) s) ≡ true → isSaid (readGroup sh today s) ≡ true
-    judged-group h = sym (said-counted (readGroup sh today s)) ∙ (rw (said-group sh today single s k g e) at h)
+    pub judged-group : isSaid (readLine sh today (accepted single) s) ≡ true → isSaid (readGroup sh today (dayHere sh 0) s) ≡ true
+    judged-group h = sym (said-counted (readGroup sh today (dayHere sh 0) s)) ∙ (rw (said-group sh today single s k g e) at h)
 
-    module _ (x : Group) (f : Opens (readGroup sh today s) x) where
+    module _ (x : Group) (f : Opens (readGroup sh today (dayHere sh 0) s) x) where
       abbrev payer : Account
       payer = account (x .prefix) (x .base)
 
@@ -105,10 +107,10 @@ module _ (sh : Sheet) (today : ℕ) (single : Bool) (s : List ℕ) (k : LineKind
       step-group o1 p b w n = rw group-says (record { wrote = one-row o o1 next p (groupRow (x .date) payer) w; after = n })
 
   module _ (e : k ≡ kind.Item) where
-    pub judged-item : isSaid (readLine sh today (accepted single) s) ≡ true → isSaid (readItem sh single s) ≡ true
-    judged-item h = sym (said-counted (readItem sh single s)) ∙ (rw (said-item sh today single s k g e) at h)
+    pub judged-item : isSaid (readLine sh today (accepted single) s) ≡ true → isSaid (readItem sh anyBank single s) ≡ true
+    judged-item h = sym (said-counted (readItem sh anyBank single s)) ∙ (rw (said-item sh today single s k g e) at h)
 
-    module _ (x : Fields) (f : item-told.told s x ≡ counted (readItem sh single s)) (t : item-told.Sound s x) where
+    module _ (x : Fields) (f : item-told.told s x ≡ counted (readItem sh anyBank single s)) (t : item-told.Sound s x) where
       item-says : readLine sh today (accepted single) s ≡ said (item (item-told.itemAt s x)) (x .warnings) (places (textsAt s (x .texts)))
       item-says = said-item sh today single s k g e ∙ sym f
 

@@ -1,6 +1,6 @@
 -- The line of an account file, and the file's end: where reading stands behind it. Assumes nothing.
 use mathlib.Core.Path.{_≡_, refl, ap, _∙_}
-use mathlib.Core.Bool.{Bool, false}
+use mathlib.Core.Bool.{false}
 use mathlib.Core.List.{List, _∷_}
 use Prim.Native.Nat.{ℕ, _+_, _/_, _≤_, _<_}
 use native.Mathlib.Omega.{arith}
@@ -13,7 +13,7 @@ use Rattle.paper.specs.Entries.{file, Places, plain, said, no, counted, Kind, f
 use Rattle.paper.specs.Warnings.{Notice}
 use Rattle.paper.specs.Spells.{numberTest, readAs}
 use Rattle.paper.specs.FileLine.{series, numberFault, readFile}
-use Rattle.paper.proofs.LineSays.{LineSays, a-file, file-says, refusal-in}
+use Rattle.paper.proofs.LineSays.{Asked, askingNumber, LineSays, a-file, file-says, refusal-in}
 use Rattle.paper.proofs.Starts.{kind-long}
 use Rattle.numeral.proofs.given.Sound.{number-tested}
 use Rattle.scan.specs.declared.line.Cut.{Cut}
@@ -30,13 +30,14 @@ use Rattle.fileline.proofs.Set.{same-fault}
 use Rattle.tally.specs.Tally.{No, tFile, tStop, contextOf, isDue, isFull, meet, onSaid, endOf, step, run}
 use Rattle.tally.proofs.Small.{file-limits}
 use Rattle.judge.specs.declared.group.Counts.{Counts}
+use Rattle.judge.specs.declared.group.Shelf.{Shelf}
 use Rattle.judge.specs.group.Stands.{bookOf, lineIn}
 use Rattle.judge.proofs.group.Steps.{not-due, no-room, by-fields}
 use Rattle.judge.proofs.group.Turns.{cut as cut-of, is-kind, known-long, within}
 use Rattle.judge.proofs.group.Going.{run-stops, run-on}
 use Rattle.judge.specs.declared.accountfile.Left.{Left}
 use Rattle.judge.specs.declared.accountfile.Left.the-variants as left
-use Rattle.judge.specs.accountfile.Resume.{resume, AtFile, fileMore, Moved, Ends, Stepped}
+use Rattle.judge.specs.accountfile.Resume.{resume, AtFile, fileMore, newShelf, Moved, Ends, Stepped}
 
 -- a line's end lies in the file
 pub cut-inside : (f : List ℕ) (at : ℕ) (cut : Cut) → Cuts f at cut → cut .stop ≤ length f
@@ -44,15 +45,15 @@ cut-inside f at cut cuts = omega (arith, cuts .to, cuts .inside)
 
 -- ---- a number has six digits
 
-low-of : {sh : Sheet} {today : ℕ} {test : ℕ → ℕ} {single : Bool} {w : List ℕ} {kind : Kind} {k n : ℕ} {v : List Notice} {p : Places}
-    → LineSays sh today test single w kind (said (file k n) v p) → n < 1000000
-low-of {test = test} (a-file {number = n} _ g _ _) = number-tested test (g .0) n (g .1) .0
+low-of : {sh : Sheet} {today : ℕ} {a : Asked} {w : List ℕ} {kind : Kind} {k n : ℕ} {v : List Notice} {p : Places}
+    → LineSays sh today a w kind (said (file k n) v p) → n < 1000000
+low-of {a = a} (a-file {number = n} _ g _ _) = number-tested (a .number) (g .0) n (g .1) .0
 
 -- the first three digits of a number that was read
 pub series-low : (sh : Sheet) (test : ℕ → ℕ) (s : List ℕ) (r : FileRead) → files.told r ≡ readFile sh test s → (kind number : ℕ) → r ≡ reads.File kind number → number / 1000 < 1000
 series-low sh test s r t kind number e =
     let u : plain (file kind number) ≡ readFile sh test s = rw e at t in
-    omega (arith, low-of (rw (← u) at (file-says sh 0 test false s)))
+    omega (arith, low-of (rw (← u) at (file-says sh 0 (askingNumber test) s)))
 
 pub file-within : (sh : Sheet) (test : ℕ → ℕ) (f : List ℕ) (at : ℕ) (cut : Cut) → Cuts f at cut → kindOf (cut-of f at (cut .stop)) ≡ fileLine
     → (r : FileRead) → files.told r ≡ readFile sh test (cut-of f at (cut .stop)) → (n off : ℕ) → r ≡ reads.Refused n off → at + off ≤ cut .stop
@@ -60,7 +61,7 @@ file-within sh test f at cut cuts e r t n off q =
     let s = cut-of f at (cut .stop) in
     let u : no n off ≡ readFile sh test s = rw q at t in
     within f at (cut .stop) off (cuts .from) (cut-inside f at cut cuts)
-    (refusal-in (rw (← u) at (file-says sh 0 test false s)) (kind-long s fileLine e))
+    (refusal-in (rw (← u) at (file-says sh 0 (askingNumber test) s)) (kind-long s fileLine e))
 
 -- ---- where reading stands
 
@@ -137,17 +138,17 @@ module _ (sh : Sheet) (f : List ℕ) (at k : ℕ) (c : Counts) (cut : Cut) (cuts
         -- the words have the number's first three digits besides
         module _ (good : AtFile f at k c) (kind number : ℕ) (x : r ≡ reads.File kind number) (after : List ℕ) (marks : (l : List ℕ) → Holds words l → Holds after (series number ∷ l)) where
           opened-same : (today : ℕ) (h : Header) → h .from ≡ from → h .to ≡ to → (l : List ℕ) → Holds words l
-              → resume sh today f h (series number ∷ l) (left.Group (cut .next) (k + 1) (fileMore c) (record { items = 0; groups = 0 }))
+              → resume sh today f h (series number ∷ l) (left.Group (cut .next) (k + 1) (fileMore c) (newShelf kind))
               ≡ resume sh today f h l (left.File at k c)
           unfolding resume onSaid meet onEntry onFile counted
           opened-same today h p q l held =
               let z : c .warnings + 0 ≡ c .warnings = omega arith in
               run-on sh today (length f) k f at cut cuts (tFile (bookOf h l c)) _ (rw z at (says (reads.File kind number) x today h p q l held))
 
-          pub file-opened : (more : Counts) → more ≡ fileMore c
-              → Stepped sh from to f (left.File at k c) words after (left.Group (cut .next) (k + 1) more (record { items = 0; groups = 0 }))
-          file-opened more y =
-              rw y
+          pub file-opened : (more : Counts) → more ≡ fileMore c → (new : Shelf) → new ≡ newShelf kind
+              → Stepped sh from to f (left.File at k c) words after (left.Group (cut .next) (k + 1) more new)
+          file-opened more y new z =
+              rw (y, z)
               (record {
                 same = λ today h p q l held. (series number ∷ l, marks l held, opened-same today h p q l held);
                 good = record {

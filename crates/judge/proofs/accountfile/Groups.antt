@@ -1,6 +1,6 @@
 -- A whole group, and the line that closes an account file: where reading stands behind it. Assumes nothing.
 use mathlib.Core.Path.{_≡_, refl, ap, _∙_}
-use mathlib.Core.Bool.{Bool, false}
+use mathlib.Core.Bool.{Bool, true, false}
 use mathlib.Core.List.{List}
 use Prim.Native.Nat.{ℕ, _+_, _≤_}
 use native.Mathlib.Omega.{arith}
@@ -11,11 +11,12 @@ use Rattle.sheet.specs.declared.Sheet.{Sheet}
 use Rattle.paper.specs.Accounts.{isNobody}
 use Rattle.paper.specs.Batch.{Header}
 use Rattle.paper.specs.Entries.{Entry, group, closeFile, totalAt, counted, groupLine, fileEnd, kindOf, onGroup, onEntry}
+use Rattle.paper.specs.Terms.{dayHere}
 use Rattle.paper.specs.GroupLine.{readGroup}
 use Rattle.paper.specs.ClosingLine.{readClose}
 use Rattle.paper.specs.Spells.{readAs}
 use Rattle.paper.proofs.Passing.{counted-said, counted-no}
-use Rattle.paper.proofs.LineSays.{group-says, refusal-in, total-in}
+use Rattle.paper.proofs.LineSays.{asking, group-says, refusal-in, total-in}
 use Rattle.paper.proofs.Starts.{kind-long}
 use Rattle.scan.specs.declared.line.Cut.{Cut}
 use Rattle.scan.specs.line.Cutting.{Cuts}
@@ -28,7 +29,7 @@ use Rattle.closing.specs.Told as closes
 use Rattle.groupline.specs.declared.GroupRead.{GroupRead}
 use Rattle.groupline.specs.declared.GroupRead.the-variants as reads
 use Rattle.groupline.specs.Told as groups
-use Rattle.tally.specs.Tally.{No, tStop, isDue, isFull, meet, onSaid, endOf, step, run}
+use Rattle.tally.specs.Tally.{No, tStop, contextOf, isDue, isFull, meet, onSaid, endOf, step, run}
 use Rattle.judge.specs.declared.group.Counts.{Counts}
 use Rattle.judge.specs.declared.group.Shelf.{Shelf}
 use Rattle.judge.specs.declared.group.Held.{Held}
@@ -47,33 +48,33 @@ use Rattle.judge.proofs.accountfile.Files.{cut-inside}
 
 -- ---- places in a line
 
-module _ (f : List ℕ) (at stop : ℕ) (p : at ≤ stop) (q : stop ≤ length f) (sh : Sheet) (today : ℕ) (e : kindOf (cut-of f at stop) ≡ groupLine)
-    (r : GroupRead) (t : groups.Tells (readGroup sh today (cut-of f at stop)) r) where
+module _ (f : List ℕ) (at stop : ℕ) (p : at ≤ stop) (q : stop ≤ length f) (sh : Sheet) (today : ℕ) (here : Bool) (e : kindOf (cut-of f at stop) ≡ groupLine)
+    (r : GroupRead) (t : groups.Tells (readGroup sh today here (cut-of f at stop)) r) where
   -- a refusal's, and the total's
   pub group-within : (n off : ℕ) → r ≡ reads.Refused n off → at + off ≤ stop
   group-within n off x =
-      let u = counted-no (readGroup sh today (cut-of f at stop)) n off (rw x at (t .says)) in
-      within f at stop off p q (refusal-in (rw (← u) at (group-says sh today (λ _. 0) false (cut-of f at stop))) (kind-long (cut-of f at stop) groupLine e))
+      let u = counted-no (readGroup sh today here (cut-of f at stop)) n off (rw x at (t .says)) in
+      within f at stop off p q (refusal-in (rw (← u) at (group-says sh today (asking (λ _. 0) here (λ _. true) false) (cut-of f at stop))) (kind-long (cut-of f at stop) groupLine e))
 
   pub total-within : (single : Bool) (total date warnings spot : ℕ) → r ≡ reads.Group single total date warnings spot → at + spot ≤ stop
   total-within single total date warnings spot x =
-      let (w, u) = counted-said (readGroup sh today (cut-of f at stop)) {e = group (t .payer) total date} {p = totalAt spot} (rw x at (t .says)) in
-      within f at stop spot p q (total-in (rw u at (group-says sh today (λ _. 0) false (cut-of f at stop))) (kind-long (cut-of f at stop) groupLine e))
+      let (w, u) = counted-said (readGroup sh today here (cut-of f at stop)) {e = group (t .payer) total date} {p = totalAt spot} (rw x at (t .says)) in
+      within f at stop spot p q (total-in (rw u at (group-says sh today (asking (λ _. 0) here (λ _. true) false) (cut-of f at stop))) (kind-long (cut-of f at stop) groupLine e))
 
 -- a line warns once at most
 pub warns-once : (r : GroupRead) → groups.Low r → (single : Bool) (total date warnings spot : ℕ) → r ≡ reads.Group single total date warnings spot → warnings ≤ 1
 warns-once r low single total date warnings spot q = let x : groups.Low (reads.Group single total date warnings spot) = rw q at low in x .1
 
 -- an open group as the code makes it: its numbers are small
-pub held-new : (c : Counts) (s : Shelf) (warnings : ℕ) (single : Bool) (total k byte : ℕ) → LowGroup c s → warnings ≤ 1
-    → NewHeld c s warnings single total k byte
+pub held-new : (c : Counts) (s : Shelf) (warnings : ℕ) (single : Bool) (date total k byte : ℕ) → LowGroup c s → warnings ≤ 1
+    → NewHeld c s warnings single date total k byte
     (record {
       counts = record { files = c .files; items = c .items; rows = c .rows + 1; warnings = c .warnings + warnings };
       shelf = s;
-      opened = record { single = single; total = total; line = k; byte = byte; sum = 0; count = 0 };
+      opened = record { single = single; date = date; total = total; line = k; byte = byte; sum = 0; count = 0 };
     })
 unfolding groupHeld
-held-new c s warnings single total k byte low one =
+held-new c s warnings single date total k byte low one =
     record {
       same = refl;
       low = record {
@@ -90,37 +91,37 @@ held-new c s warnings single total k byte low one =
 -- ---- a group's line: r is what it says, v the variant that this was found to be
 
 module _ (sh : Sheet) (today : ℕ) (f : List ℕ) (at stop k : ℕ) (c : Counts) (s : Shelf) (e : kindOf (cut-of f at stop) ≡ groupLine)
-    (r : GroupRead) (t : groups.Tells (readGroup sh today (cut-of f at stop)) r) where
+    (here : Bool) (where-judged : here ≡ dayHere sh (s .kind)) (r : GroupRead) (t : groups.Tells (readGroup sh today here (cut-of f at stop)) r) where
   said : (v : GroupRead) → r ≡ v → (h : Header) (l : List ℕ) → onSaid sh k at (groups.told (t .payer) v) (inFile h l c s) ≡ step sh today k (lineIn f at stop) (inFile h l c s)
-  unfolding step isDue isFull readAs pick
-  said v q h l = by-fields sh today k (lineIn f at stop) (inFile h l c s) refl groupLine e refl refl _ (rw q at (t .says))
+  unfolding step isDue isFull contextOf readAs pick
+  said v q h l = by-fields sh today k (lineIn f at stop) (inFile h l c s) refl groupLine e refl refl _ (rw where-judged at (rw q at (t .says)))
 
   pub opening-refused : (n off : ℕ) → r ≡ reads.Refused n off → (byte : ℕ) → byte ≡ at + off → Opens sh today (lineIn f at stop) k c s (opening.Refused n byte)
   unfolding onSaid
   opening-refused n off q byte y = rw y (record { same = said (reads.Refused n off) q; low = tt })
 
   pub opening-group : (single : Bool) (total date warnings spot : ℕ) → r ≡ reads.Group single total date warnings spot → (byte : ℕ) → byte ≡ at + spot
-      → (x : Held) → NewHeld c s warnings single total k byte x → Opens sh today (lineIn f at stop) k c s (opening.Group x)
+      → (x : Held) → NewHeld c s warnings single date total k byte x → Opens sh today (lineIn f at stop) k c s (opening.Group x)
   unfolding onSaid meet onEntry onGroup groupHeld
   opening-group single total date warnings spot q byte y x new =
-      let same : x ≡ groupHeld c s warnings single total k (at + spot) = rw y at (new .same) in
+      let same : x ≡ groupHeld c s warnings single date total k (at + spot) = rw y at (new .same) in
       let nobody : single ≡ isNobody (t .payer) = rw q at (t .single) in
       record { same = λ h l. rw (same, nobody) (said (reads.Group single total date warnings spot) q h l); low = new .low }
 
 -- ---- behind a group
 
-module _ (sh : Sheet) (f : List ℕ) (at k : ℕ) (x : Held) (g : GroupEnd) (ended : Ended sh f at k x g) where
-  pub group-closed : (next j : ℕ) (c : Counts) (s : Shelf) → g ≡ end.Closed next j c s → Grouped sh f at k x (left.Group next j c s)
+module _ (sh : Sheet) (today : ℕ) (f : List ℕ) (at k : ℕ) (x : Held) (g : GroupEnd) (ended : Ended sh today f at k x g) where
+  pub group-closed : (next j : ℕ) (c : Counts) (s : Shelf) → g ≡ end.Closed next j c s → Grouped sh today f at k x (left.Group next j c s)
   unfolding resumeGroup resume
   group-closed next j c s e =
-      let y : Ended sh f at k x (end.Closed next j c s) = rw e at ended in
+      let y : Ended sh today f at k x (end.Closed next j c s) = rw e at ended in
       let b = y .behind in
       record { same = y .same; good = record { inside = b .1; lines = b .2; low = b .3 }; less = omega (arith, b .0, b .1) }
 
-  pub group-stopped : (n j byte : ℕ) → g ≡ end.Stop n j byte → Grouped sh f at k x (left.Refused n j byte)
+  pub group-stopped : (n j byte : ℕ) → g ≡ end.Stop n j byte → Grouped sh today f at k x (left.Refused n j byte)
   unfolding resumeGroup resume
   group-stopped n j byte e =
-      let y : Ended sh f at k x (end.Stop n j byte) = rw e at ended in
+      let y : Ended sh today f at k x (end.Stop n j byte) = rw e at ended in
       record { same = y .same; good = tt; less = omega arith }
 
 -- ---- the file ends early
@@ -171,11 +172,11 @@ module _ (sh : Sheet) (f : List ℕ) (at k : ℕ) (c : Counts) (s : Shelf) (cut 
       pub group-begun : AtGroup f at k c s → Begun f (cut .next) (k + 1) x
       group-begun good = record { inside = cuts .inside; lines = omega (arith, good .lines, cuts .ahead); low = opened .low }
 
-      pub group-moved : (g : Left) → Grouped sh f (cut .next) (k + 1) x g → Moved sh today f (left.Group at k c s) g
+      pub group-moved : (g : Left) → Grouped sh today f (cut .next) (k + 1) x g → Moved sh today f (left.Group at k c s) g
       unfolding resume
       group-moved g behind =
           record {
-            same = λ h l. behind .same today h l ∙ run-on sh today (length f) k f at cut cuts (inFile h l c s) _ (opened .same h l);
+            same = λ h l. behind .same h l ∙ run-on sh today (length f) k f at cut cuts (inFile h l c s) _ (opened .same h l);
             good = behind .good;
             less = omega (arith, behind .less, cuts .ahead, cuts .inside);
           }

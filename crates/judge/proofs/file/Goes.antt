@@ -6,6 +6,7 @@ use Prim.Native.Nat.{ℕ, _+_, _-_, _≤_, _<_, min}
 use native.Mathlib.Omega.{arith}
 use lib.ListN.{length, replicate}
 use Rattle.sheet.specs.declared.Sheet.{Sheet}
+use Rattle.paper.specs.Batch.{Header}
 use Rattle.fileline.specs.seen.Bits.{Holds}
 use Rattle.fileline.proofs.seen.Laws.{holds-none}
 use Rattle.tally.specs.Tally.{No, Yes}
@@ -79,6 +80,49 @@ module _ (sh : Sheet) (today : ℕ) (f : List ℕ) (o m : Left) (p : Moved sh to
 
     pub moved-last : Went sh today from to f o b words words n
     moved-last = goes-last same-words (moved .less) (moved .good)
+
+-- ---- the groups of an account file: reading began at o, and stands at p, with the words as they were
+
+pub record Along (sh : Sheet) (today : ℕ) (f : List ℕ) (o p : Left) : Type 0 where
+  pub same : (h : Header) (l : List ℕ) → resume sh today f h l p ≡ resume sh today f h l o
+  pub good : Good f p
+  pub less : toGo f p ≤ toGo f o
+
+pub along-start : (sh : Sheet) (today : ℕ) (f : List ℕ) (at k : ℕ) (c : Counts) (s : Shelf) → AtGroup f at k c s → Along sh today f (left.Group at k c s) (left.Group at k c s)
+along-start sh today f at k c s good = record { same = λ h l. refl; good = good; less = omega arith }
+
+pub along-good : (sh : Sheet) (today : ℕ) (f : List ℕ) (o : Left) (at k : ℕ) (c : Counts) (s : Shelf) → Along sh today f o (left.Group at k c s) → AtGroup f at k c s
+along-good sh today f o at k c s a = a .good
+
+-- a step led from p to m, which was found to be n
+module _ (sh : Sheet) (today : ℕ) (f : List ℕ) (o p m : Left) (a : Along sh today f o p) (step : Moved sh today f p m) where
+  module _ (n : Left) (e : m ≡ n) where
+    next : Moved sh today f p n
+    next = rw e at step
+
+    on : Moved sh today f o n
+    on = record { same = λ h l. next .same h l ∙ a .same h l; good = next .good; less = omega (arith, next .less, a .less) }
+
+    -- the words are still what they were
+    module _ (from to b : ℕ) (words still : List ℕ) (q : still ≡ words) where
+      pub along-on : (after : List ℕ) (r : Left) → Went sh today from to f n (b - 1) still after r → Went sh today from to f o b words after r
+      along-on after r w = rw q at (moved-on sh today f o n on from to b still n refl after r w)
+
+      pub along-last : Went sh today from to f o b words still n
+      along-last = rw q (moved-last sh today f o n on from to b words n refl)
+
+  pub along-group : (at k : ℕ) (c : Counts) (s : Shelf) → m ≡ left.Group at k c s → Along sh today f o (left.Group at k c s)
+  along-group at k c s e =
+      let x = on (left.Group at k c s) e in
+      record { same = x .same; good = x .good; less = omega (arith, x .less) }
+
+  pub along-less : (at k : ℕ) (c : Counts) (s : Shelf) → m ≡ left.Group at k c s → toGo f (left.Group at k c s) < toGo f p
+  along-less at k c s e = let x = next (left.Group at k c s) e in omega (arith, x .less)
+
+  pub along-file : (at k : ℕ) (c : Counts) → m ≡ left.File at k c → AtFile f at k c
+  along-file at k c e = next (left.File at k c) e .good
+
+pub ruleset alongs = (along-start, along-good, along-on, along-last, along-group, along-less, along-file)
 
 pub ruleset readers = (went-none, stepped-on, stepped-last, moved-on, moved-last)
 

@@ -19,6 +19,7 @@ use Rattle.paper.specs.Judge.{totalBroken}
 use Rattle.scan.specs.declared.line.Cut.{Cut}
 use Rattle.scan.specs.line.Cutting.{Cuts}
 use Rattle.scan.proofs.line.Lines.{at-end}
+use Rattle.calendar.specs.declared.term.Banks.{Banks}
 use Rattle.tally.specs.Tally.{Brief, No, Tally, tStop, warned, groupMore, closed, step, endOf, run}
 use Rattle.tally.specs.Small.{SmallGroup, Small}
 use Rattle.tally.proofs.Small.{small-step}
@@ -29,7 +30,7 @@ use Rattle.judge.specs.declared.group.Turn.{Turn}
 use Rattle.judge.specs.declared.group.Turn.the-variants as turn
 use Rattle.judge.specs.declared.group.GroupEnd.{GroupEnd}
 use Rattle.judge.specs.declared.group.GroupEnd.the-variants as end
-use Rattle.judge.specs.group.Stands.{bookOf, shelfOf, inGroup, LowItem, LowGroup, lineIn, heldMore, turned, Turns, closedAs, resumeGroup, Begun, Behind, Ended}
+use Rattle.judge.specs.group.Stands.{bookOf, shelfOf, inGroup, LowItem, LowGroup, lineIn, heldMore, turned, Banked, Turns, closedAs, resumeGroup, Begun, Behind, Ended}
 
 -- ---- lines
 
@@ -68,7 +69,7 @@ closed-same sh today f h l at k x =
     by-test (totalBroken (sh .strict) (o .total) (o .sum)) (λ e. simp e (sym (run-stop sh today (length f) k (linesFrom f at) _))) (λ e. simp (e, d))
 
 closed-low : (c : Counts) (s : Shelf) (d : ℕ) → SmallGroup (warned (bookOf noHeader [] c) (0 + d)) (groupMore (shelfOf s))
-    → LowGroup (record { files = c .files; items = c .items; rows = c .rows; warnings = c .warnings + d }) (record { items = s .items; groups = s .groups + 1 })
+    → LowGroup (record { files = c .files; items = c .items; rows = c .rows; warnings = c .warnings + d }) (record { kind = s .kind; items = s .items; groups = s .groups + 1 })
 closed-low c s d y =
     record { files = y .files; items = y .items; rows = y .rows; warnings = omega (arith, y .warnings); shelf = y .shelf; groups = y .groups }
 
@@ -82,23 +83,24 @@ closed-behind sh f from at k x small p q r =
 
 -- ---- the loop: reading began at `from` with line j, and stands at `at` with line k
 
-pub record Going (sh : Sheet) (f : List ℕ) (from j : ℕ) (x₀ : Held) (at k : ℕ) (x : Held) : Type 0 where
+pub record Going (sh : Sheet) (today : ℕ) (banks : Banks) (f : List ℕ) (from j : ℕ) (x₀ : Held) (at k : ℕ) (x : Held) : Type 0 where
   pub begun : Begun f at k x
+  pub banked : Banked sh today banks x
   pub on : from ≤ at
-  pub same : (today : ℕ) (h : Header) (l : List ℕ)
+  pub same : (h : Header) (l : List ℕ)
       → run sh today (length f) k (linesFrom f at) (inGroup h l x) ≡ run sh today (length f) j (linesFrom f from) (inGroup h l x₀)
 
-pub going-start : (sh : Sheet) (f : List ℕ) (at k : ℕ) (x : Held) → Begun f at k x → Going sh f at k x at k x
-going-start sh f at k x b = record { begun = b; on = omega arith; same = λ today h l. refl }
+pub going-start : (sh : Sheet) (today : ℕ) (banks : Banks) (f : List ℕ) (at k : ℕ) (x : Held) → Begun f at k x → Banked sh today banks x → Going sh today banks f at k x at k x
+going-start sh today banks f at k x b d = record { begun = b; banked = d; on = omega arith; same = λ h l. refl }
 
-module _ (sh : Sheet) (f : List ℕ) (from j : ℕ) (x₀ : Held) (at k : ℕ) (x : Held) (going : Going sh f from j x₀ at k x) where
+module _ (sh : Sheet) (today : ℕ) (banks : Banks) (f : List ℕ) (from j : ℕ) (x₀ : Held) (at k : ℕ) (x : Held) (going : Going sh today banks f from j x₀ at k x) where
   -- the file ends in the group
-  pub going-end : length f ≤ at → Ended sh f from j x₀ (end.Stop 3 k at)
+  pub going-end : length f ≤ at → Ended sh today f from j x₀ (end.Stop 3 k at)
   unfolding run endOf resumeGroup
   going-end e =
       let z : at ≡ length f = omega (arith, going .begun .inside) in
       record {
-        same = λ today h l. rw z (sym (sym (going .same today h l) ∙ rw (at-end f at (omega arith))));
+        same = λ h l. rw z (sym (sym (going .same h l) ∙ rw (at-end f at (omega arith))));
         behind = tt;
       }
 
@@ -111,18 +113,19 @@ module _ (sh : Sheet) (f : List ℕ) (from j : ℕ) (x₀ : Held) (at k : ℕ) (
     pub line-fits : Fits w64 (cut .next) → Fits w64 (k + 1)
     line-fits fits = fits-le next-line fits
 
-    module _ (r : Turn) (turns : Turns sh (lineIn f at (cut .stop)) x r) where
-      leads : (v : Turn) → r ≡ v → (today : ℕ) (h : Header) (l : List ℕ)
+    module _ (r : Turn) (turns : (day : ℕ) → Banked sh day banks x → Turns sh day (lineIn f at (cut .stop)) x r) where
+      says : (v : Turn) → r ≡ v → Turns sh today (lineIn f at (cut .stop)) x v
+      says v e = rw e at (turns today (going .banked))
+
+      leads : (v : Turn) → r ≡ v → (h : Header) (l : List ℕ)
           → run sh today (length f) (k + 1) (linesFrom f (cut .next)) (turned sh k h l x v) ≡ run sh today (length f) j (linesFrom f from) (inGroup h l x₀)
-      leads v e today h l =
-          let says : Turns sh (lineIn f at (cut .stop)) x v = rw e at turns in
-          run-on sh today (length f) k f at cut cuts (inGroup h l x) (turned sh k h l x v) (says .same today k h l) ∙ going .same today h l
+      leads v e h l =
+          run-on sh today (length f) k f at cut cuts (inGroup h l x) (turned sh k h l x v) (says v e .same k h l) ∙ going .same h l
 
       stays-small : Sane sh → (v : Turn) → r ≡ v → Small (turned sh 0 noHeader [] x v)
       unfolding Small
       stays-small sane v e =
-          let says : Turns sh (lineIn f at (cut .stop)) x v = rw e at turns in
-          small-on sh sane 0 0 (lineIn f at (cut .stop)) (inGroup noHeader [] x) (turned sh 0 noHeader [] x v) (says .same 0 0 noHeader []) (going .begun .low)
+          small-on sh sane today 0 (lineIn f at (cut .stop)) (inGroup noHeader [] x) (turned sh 0 noHeader [] x v) (says v e .same 0 noHeader []) (going .begun .low)
 
       -- .. an item
       module _ (sane : Sane sh) (amount warnings : ℕ) (e : r ≡ turn.Item amount warnings) where
@@ -130,30 +133,32 @@ module _ (sh : Sheet) (f : List ℕ) (from j : ℕ) (x₀ : Held) (at k : ℕ) (
         unfolding Small
         going-low = stays-small sane (turn.Item amount warnings) e
 
-        pub going-item : (y : Held) → y ≡ heldMore x amount warnings → Going sh f from j x₀ (cut .next) (k + 1) y
+        pub going-item : (y : Held) → y ≡ heldMore x amount warnings → Going sh today banks f from j x₀ (cut .next) (k + 1) y
+        unfolding heldMore
         going-item y q =
             rw q
             (record {
               begun = record { inside = cuts .inside; lines = next-line; low = going-low };
+              banked = going .banked;
               on = omega (arith, going .on, cuts .ahead);
               same = leads (turn.Item amount warnings) e;
             })
 
       -- .. refused
-      pub going-stop : (n byte : ℕ) → r ≡ turn.Stop n byte → Ended sh f from j x₀ (end.Stop n k byte)
+      pub going-stop : (n byte : ℕ) → r ≡ turn.Stop n byte → Ended sh today f from j x₀ (end.Stop n k byte)
       unfolding resumeGroup
       going-stop n byte e =
           record {
-            same = λ today h l. sym (run-stop sh today (length f) (k + 1) (linesFrom f (cut .next)) (No n k byte)) ∙ leads (turn.Stop n byte) e today h l;
+            same = λ h l. sym (run-stop sh today (length f) (k + 1) (linesFrom f (cut .next)) (No n k byte)) ∙ leads (turn.Stop n byte) e h l;
             behind = tt;
           }
 
       -- .. closed
-      pub going-close : Sane sh → r ≡ turn.Close → (g : GroupEnd) → g ≡ closedAs (sh .strict) (cut .next) (k + 1) x → Ended sh f from j x₀ g
+      pub going-close : Sane sh → r ≡ turn.Close → (g : GroupEnd) → g ≡ closedAs (sh .strict) (cut .next) (k + 1) x → Ended sh today f from j x₀ g
       going-close sane e g q =
           rw q
           (record {
-            same = λ today h l. closed-same sh today f h l (cut .next) (k + 1) x ∙ leads turn.Close e today h l;
+            same = λ h l. closed-same sh today f h l (cut .next) (k + 1) x ∙ leads turn.Close e h l;
             behind = closed-behind sh f from (cut .next) (k + 1) x (stays-small sane turn.Close e) (omega (arith, going .on, cuts .ahead)) (cuts .inside) next-line;
           })
 

@@ -62,18 +62,22 @@ toGo f (left.Accepted rows warnings) = 0
 abbrev pub fileMore : Counts → Counts
 fileMore c = record { files = c .files + 1; items = c .items; rows = c .rows + 1; warnings = c .warnings }
 
+-- an account file of this kind that has nothing yet
+abbrev pub newShelf : ℕ → Shelf
+newShelf kind = record { kind = kind; items = 0; groups = 0 }
+
 -- a group that has no item yet, with its line's warnings; its total stands in line k, at `byte`
-unfoldable pub groupHeld : Counts → Shelf → ℕ → Bool → ℕ → ℕ → ℕ → Held
-groupHeld c s warnings single total k byte =
+unfoldable pub groupHeld : Counts → Shelf → ℕ → Bool → ℕ → ℕ → ℕ → ℕ → Held
+groupHeld c s warnings single date total k byte =
     record {
       counts = record { files = c .files; items = c .items; rows = c .rows + 1; warnings = c .warnings + warnings };
       shelf = s;
-      opened = record { single = single; total = total; line = k; byte = byte; sum = 0; count = 0 };
+      opened = record { single = single; date = date; total = total; line = k; byte = byte; sum = 0; count = 0 };
     }
 
 -- x is that group, and its numbers are small
-pub record NewHeld (c : Counts) (s : Shelf) (warnings : ℕ) (single : Bool) (total k byte : ℕ) (x : Held) : Type 0 where
-  pub same : x ≡ groupHeld c s warnings single total k byte
+pub record NewHeld (c : Counts) (s : Shelf) (warnings : ℕ) (single : Bool) (date total k byte : ℕ) (x : Held) : Type 0 where
+  pub same : x ≡ groupHeld c s warnings single date total k byte
   pub low : LowItem x
 
 -- what line k, a group's, leads to: the open group, or the answer
@@ -92,8 +96,8 @@ pub record Opens (sh : Sheet) (today : ℕ) (t : Line) (k : ℕ) (c : Counts) (s
   pub low : LowOpening r
 
 -- r is where reading stands behind a group whose lines begin at `at` with line k
-pub record Grouped (sh : Sheet) (f : List ℕ) (at k : ℕ) (x : Held) (r : Left) : Type 0 where
-  pub same : (today : ℕ) (h : Header) (l : List ℕ) → resume sh today f h l r ≡ run sh today (length f) k (linesFrom f at) (inGroup h l x)
+pub record Grouped (sh : Sheet) (today : ℕ) (f : List ℕ) (at k : ℕ) (x : Held) (r : Left) : Type 0 where
+  pub same : (h : Header) (l : List ℕ) → resume sh today f h l r ≡ run sh today (length f) k (linesFrom f at) (inGroup h l x)
   pub good : Good f r
   pub less : toGo f r ≤ length f - at
 

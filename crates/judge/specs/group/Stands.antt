@@ -8,8 +8,11 @@ use Rattle.base.specs.Pick.{pick}
 use Rattle.sheet.specs.declared.Sheet.{Sheet}
 use Rattle.paper.specs.Batch.{Header, noHeader}
 use Rattle.paper.specs.Lines.{Line, line, linesFrom}
+use Rattle.paper.specs.Terms.{bankDue}
 use Rattle.paper.specs.Spells.{differs}
 use Rattle.paper.specs.Judge.{totalBroken}
+use Rattle.calendar.specs.declared.term.Banks.{Banks}
+use Rattle.calendar.specs.term.Allows.{allows}
 use Rattle.tally.specs.Tally as machine
 use Rattle.tally.specs.Small.{SmallGroup, SmallItem}
 use Rattle.judge.specs.declared.group.Counts.{Counts}
@@ -28,10 +31,10 @@ abbrev pub bookOf : Header → List ℕ → Counts → machine.Book
 bookOf h l c = record { head = h; seen = l; files = c .files; items = c .items; rows = c .rows; warnings = c .warnings }
 
 abbrev pub shelfOf : Shelf → machine.Shelf
-shelfOf s = record { items = s .items; groups = s .groups }
+shelfOf s = record { kind = s .kind; items = s .items; groups = s .groups }
 
 abbrev pub openOf : Open → machine.Open
-openOf o = record { single = o .single; total = o .total; line = o .line; byte = o .byte; sum = o .sum; count = o .count }
+openOf o = record { single = o .single; date = o .date; total = o .total; line = o .line; byte = o .byte; sum = o .sum; count = o .count }
 
 -- a group is open, or an account file with no open group
 abbrev pub inGroup : Header → List ℕ → Held → machine.Tally
@@ -61,8 +64,8 @@ heldMore x amount warnings =
     let o = x .opened in
     record {
       counts = record { files = c .files; items = c .items + 1; rows = c .rows + 1; warnings = c .warnings + warnings };
-      shelf = record { items = s .items + 1; groups = s .groups };
-      opened = record { single = o .single; total = o .total; line = o .line; byte = o .byte; sum = o .sum + amount; count = o .count + 1 };
+      shelf = record { kind = s .kind; items = s .items + 1; groups = s .groups };
+      opened = record { single = o .single; date = o .date; total = o .total; line = o .line; byte = o .byte; sum = o .sum + amount; count = o .count + 1 };
     }
 
 -- what line k leads to in a group: an item more, the group closed, or the answer
@@ -71,9 +74,13 @@ turned sh k h l x (turn.Item amount warnings) = inGroup h l (heldMore x amount w
 turned sh k h l x turn.Close = machine.closed sh (bookOf h l (x .counts)) (shelfOf (x .shelf)) (openOf (x .opened)) 0
 turned sh k h l x (turn.Stop n byte) = machine.tStop (machine.No n k byte)
 
--- r is what the line t says in a group, whatever today, the line's number, the header and the earlier numbers are
-pub record Turns (sh : Sheet) (t : Line) (x : Held) (r : Turn) : Type 0 where
-  pub same : (today k : ℕ) (h : Header) (l : List ℕ) → turned sh k h l x r ≡ machine.step sh today k t (inGroup h l x)
+-- these are the banks that the group's items may have
+abbrev pub Banked : Sheet → ℕ → Banks → Held → Type 0
+Banked sh today banks x = (bank : ℕ) → allows banks (sh .bank) bank ≡ bankDue sh today (x .shelf .kind) (x .opened .date) bank
+
+-- r is what the line t says in a group, whatever the line's number, the header and the earlier numbers are
+pub record Turns (sh : Sheet) (today : ℕ) (t : Line) (x : Held) (r : Turn) : Type 0 where
+  pub same : (k : ℕ) (h : Header) (l : List ℕ) → turned sh k h l x r ≡ machine.step sh today k t (inGroup h l x)
 
 -- ---- a whole group
 
@@ -86,7 +93,7 @@ closedAs strict at k x =
     pick (totalBroken strict (o .total) (o .sum)) (end.Stop 10 (o .line) (o .byte))
     (end.Closed at k
     (record { files = c .files; items = c .items; rows = c .rows; warnings = c .warnings + differs (o .total) (o .sum) })
-    (record { items = s .items; groups = s .groups + 1 }))
+    (record { kind = s .kind; items = s .items; groups = s .groups + 1 }))
 
 -- the answer of the whole file f from a group's end on
 unfoldable pub resumeGroup : Sheet → ℕ → List ℕ → Header → List ℕ → GroupEnd → machine.Brief
@@ -105,6 +112,6 @@ Behind f at (end.Closed next k c s) = (at < next) × (next ≤ length f) × (k �
 Behind f at (end.Stop n k byte) = Unit {0}
 
 -- r is how the group ends whose lines begin at `at` with line k: the file's answer from there on is the answer from r on
-pub record Ended (sh : Sheet) (f : List ℕ) (at k : ℕ) (x : Held) (r : GroupEnd) : Type 0 where
-  pub same : (today : ℕ) (h : Header) (l : List ℕ) → resumeGroup sh today f h l r ≡ machine.run sh today (length f) k (linesFrom f at) (inGroup h l x)
+pub record Ended (sh : Sheet) (today : ℕ) (f : List ℕ) (at k : ℕ) (x : Held) (r : GroupEnd) : Type 0 where
+  pub same : (h : Header) (l : List ℕ) → resumeGroup sh today f h l r ≡ machine.run sh today (length f) k (linesFrom f at) (inGroup h l x)
   pub behind : Behind f at r

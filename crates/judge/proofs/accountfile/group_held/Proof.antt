@@ -14,9 +14,4 @@ returns : tie.Need-returns
 returns c = search held-new
 
 pub group-held-spec : {M : Type 1} → statement M
-group-held-spec =
-    tie.close
-    (tie.spec
-    add-rows
-    add-warned
-    returns)
+group-held-spec = tie.close (tie.spec add-rows add-warned returns)

@@ -4,6 +4,9 @@ use Rattle.judge.proofs.accountfile.Groups.{group-places, openings}
 use Rattle.judge.proofs.accountfile.group_opening.Statement.{statement}
 use Rattle.judge.proofs.accountfile.group_opening.Tie as tie
 
+day-here-requires : tie.Need-day-here-requires
+day-here-requires c κs = search needs
+
 sub-group-line : tie.Need-sub-group-line
 sub-group-line c = search needs
 
@@ -41,6 +44,7 @@ pub group-opening-spec : {M : Type 1} → statement M
 group-opening-spec =
     tie.close
     (tie.spec
+    day-here-requires
     sub-group-line
     part-group-line-start
     part-group-line-end

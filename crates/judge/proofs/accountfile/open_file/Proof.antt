@@ -19,8 +19,8 @@ part-file-line-end c = search needs
 file-line-requires : tie.Need-file-line-requires
 file-line-requires c κs = search (file-places, needs)
 
-enum-known-number : tie.Need-enum-known-number
-enum-known-number c = search needs
+enum-known-kind : tie.Need-enum-known-kind
+enum-known-kind c = search needs
 
 mark-requires : tie.Need-mark-requires
 mark-requires c κs = search (file-places, needs)
@@ -30,6 +30,9 @@ add-following c = search needs
 
 file-more-requires : tie.Need-file-more-requires
 file-more-requires c κs = search needs
+
+new-shelf-requires : tie.Need-new-shelf-requires
+new-shelf-requires c κs = search needs
 
 enum-known-n : tie.Need-enum-known-n
 enum-known-n c = search needs
@@ -52,10 +55,11 @@ open-file-spec =
     part-file-line-start
     part-file-line-end
     file-line-requires
-    enum-known-number
+    enum-known-kind
     mark-requires
     add-following
     file-more-requires
+    new-shelf-requires
     enum-known-n
     byte-in-requires
     returns-2

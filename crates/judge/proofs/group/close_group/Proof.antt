@@ -25,4 +25,10 @@ returns-2 c = search ends
 pub close-group-spec : {M : Type 1} → statement M
 close-group-spec =
     tie.close
-    (tie.spec total-broken-requires returns total-differs-requires add-warnings add-groups returns-2)
+    (tie.spec
+    total-broken-requires
+    returns
+    total-differs-requires
+    add-warnings
+    add-groups
+    returns-2)

@@ -2,15 +2,18 @@
 use borrow.Author.Needs.{needs}
 use Prim.Native.Nat.{_-_}
 use lib.ListN.{length}
-use Rattle.judge.proofs.group.Going.{Going, goings}
+use Rattle.judge.proofs.group.Going.{Going, going-item, goings}
 use Rattle.judge.proofs.group.group_items.Statement.{statement}
 use Rattle.judge.proofs.group.group_items.Tie as tie
 
 abbrev Inv-loop : tie.InvT-loop
-Inv-loop f sh at line at₀ line₀ held₀ at' line' held = Going sh f at line held₀ at' line' held
+Inv-loop f sh today at line banks at₀ line₀ held₀ at' line' held = Going sh today banks f at line held₀ at' line' held
 
 abbrev μ-loop : tie.MeasureT-loop
-μ-loop f sh at line at₀ line₀ held₀ at' line' held = length f - at'
+μ-loop f sh today at line banks at₀ line₀ held₀ at' line' held = length f - at'
+
+banks-due-requires : tie.Need-banks-due-requires Inv-loop μ-loop
+banks-due-requires c κs = search needs
 
 loop-holds : tie.Need-loop-holds Inv-loop μ-loop
 loop-holds c = search (goings, needs)
@@ -34,7 +37,10 @@ loop-less : tie.Need-loop-less Inv-loop μ-loop
 loop-less c = search (goings, needs)
 
 loop-again : tie.Need-loop-again Inv-loop μ-loop
-loop-again c = search (goings, needs)
+loop-again c =
+    let turn = c .before .before .before .before in
+    let loop = turn .before .before .before in
+    search (going-item, loop .loop .inv, turn .before .next-line .ensures, turn .item-step .ensures, c .held-more .ensures, loop .before .before .before .pre .0)
 
 enum-told : tie.Need-enum-told Inv-loop μ-loop
 enum-told c = search needs
@@ -63,6 +69,7 @@ group-items-spec =
     (tie.spec
     Inv-loop
     μ-loop
+    banks-due-requires
     loop-holds
     next-line-requires
     item-step-requires

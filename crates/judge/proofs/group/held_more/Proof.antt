@@ -33,4 +33,5 @@ unfolding heldMore
 returns c = search needs
 
 pub held-more-spec : {M : Type 1} → statement M
-held-more-spec = tie.close (tie.spec add-items add-rows add-warned add-inside add-sum add-count returns)
+held-more-spec =
+    tie.close (tie.spec add-items add-rows add-warned add-inside add-sum add-count returns)

@@ -46,7 +46,7 @@ returns : tie.Need-returns
 returns c = search needs
 
 returns-2 : tie.Need-returns-2
-returns-2 c = search needs
+returns-2 c = search turns
 
 returns-3 : tie.Need-returns-3
 unfolding isDue pick
