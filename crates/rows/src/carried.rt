@@ -11,6 +11,7 @@ ghost use mathlib.Core.List.{List};
 ghost use Prim.Native.Nat.{ℕ, _<_};
 ghost use Rattle.sheet.specs.Sheets.{kindAllowed};
 ghost use Rattle.paper.specs.Days.{realDay, dueAllowed};
+ghost use Rattle.paper.specs.Terms.{dayHere};
 ghost use Rattle.paper.specs.Texts.{taken, partCarried, nameCarried};
 ghost use Rattle.paper.specs.Batch.{Header};
 ghost use Rattle.paper.specs.FileLine.{numberAllowed};
@@ -40,14 +41,15 @@ pub fn file_carried(sh: Sheet, from: u64, to: u64, seen: Seen, kind: u64, number
     Check::Wrong(2)
 }
 
-// A group: its due day is one that the sheet takes today.
-pub fn group_carried(sh: Sheet, today: u64, date: u64) -> Check
+// A group of an account file of this kind: its due day is one that the sheet takes today, where that is judged by the day alone.
+pub fn group_carried(sh: Sheet, today: u64, kind: u64, date: u64) -> Check
     requires { ⌜ realDay today ≡ true ⌝ }
     requires { ⌜ realDay date ≡ true ⌝ }
-    ensures { λ r. ⌜ ((k : ℕ) (rest : Verdict) → after k r rest ≡ check k 1 (dueAllowed (sh .early) (sh .ahead) today date) rest) ⌝ }
+    ensures { λ r. ⌜ ((k : ℕ) (rest : Verdict) → after k r rest ≡ check k 1 (dueAllowed (dayHere sh kind) (sh .early) (sh .ahead) today date) rest) ⌝ }
 {
     let limits = sh.limits();
-    if calendar::due_allowed(sh.early, limits.ahead, today, date) {
+    let here = calendar::term::day_here(sh, kind);
+    if calendar::due_allowed(here, sh.early, limits.ahead, today, date) {
         return Check::Fine;
     }
     Check::Wrong(1)

@@ -2,18 +2,19 @@
 pub mod state;
 pub mod step;
 
-use crate::state::Found;
 use crate::state::State;
 use crate::state::Step;
+use calendar::term::Banks;
 use fileline::seen::Seen;
 use sheet::Sheet;
 ghost use mathlib.Core.Path.{_≡_};
 ghost use mathlib.Core.Bool.{true};
-ghost use mathlib.Core.List.{List, []};
+ghost use mathlib.Core.List.{[]};
 ghost use Prim.Native.Nat.{ℕ, _+_, _≤_};
 ghost use Rattle.sheet.specs.declared.Sheet as sheets;
 ghost use Rattle.paper.specs.Days.{realDay};
 ghost use Rattle.paper.specs.Batch.{Header};
+ghost use Rattle.paper.specs.Carried.{Place};
 ghost use Rattle.paper.specs.Rows.{rowsIn, thingsIn};
 ghost use Rattle.roundtrip.specs.flat.Count.{fileClosing};
 ghost use Rattle.rows.specs.walk.Walks.{beforeOf};
@@ -42,17 +43,17 @@ fn all_bytes(st: State) -> u64
 // Behind the last row, where row k would stand.
 fn finish(k: u64, st: State) -> Surveyed
     requires { ⌜ Low k st ⌝ }
-    ensures { λ r. ⌜ ((sh : sheets.Sheet) (today : ℕ) (h : Header) (l : List ℕ) → told r ≡ resume sh today h k l st []) ⌝ }
+    ensures { λ r. ⌜ ((sh : sheets.Sheet) (today : ℕ) (h : Header) (p : Place) → told r ≡ resume sh today h k p st []) ⌝ }
     ensures { λ r. ⌜ Small r ⌝ }
 {
     let before = st.before;
     let stage = before.stage;
     if rows::walk::may_stop(stage) {
         let found = st.found;
-        return match found {
-            Found::At(row, field) => Surveyed::Unfit(row, field),
-            Found::Nothing => Surveyed::Fits(all_bytes(st)),
-        };
+        if 0 < found.row {
+            return Surveyed::Unfit(found.row, found.field);
+        }
+        return Surveyed::Fits(all_bytes(st));
     }
     Surveyed::Improper(k, 0)
 }
@@ -65,24 +66,35 @@ pub fn survey(rows: &[u8], texts: &[u8], sh: Sheet, today: u64, from: u64, to: u
 {
     let mut at: usize = 0;
     let mut k: u64 = 1;
+    let mut all: u64 = 0;
+    let mut kind: u64 = 0;
+    let mut due = Banks::Any;
     let mut seen = Seen::none();
     let mut st = crate::state::start();
     while 192 <= rows.len() - at {
-        match crate::step::row_step(rows, at, texts, sh, today, from, to, seen, k, st) {
-            Step::On(next) => {
+        let row = rows::read::read_row(rows, at);
+        match step::step_of(row, texts, sh, today, from, to, seen, k, all, kind, due, st) {
+            Step::Item(next) => {
                 st = next;
                 at = at + 192;
                 k = k + 1;
+                all = all + 1;
             }
-            Step::File(next, first) => {
+            Step::Group(next, date) => {
                 st = next;
+                at = at + 192;
+                k = k + 1;
+                due = calendar::term::banks_due(sh, today, kind, date);
+            }
+            Step::File(next, other, first) => {
+                st = next;
+                at = at + 192;
+                k = k + 1;
                 seen = seen.with(first);
-                at = at + 192;
-                k = k + 1;
+                kind = other;
+                due = calendar::term::banks_due(sh, today, kind, 0);
             }
-            Step::Wrong(field) => {
-                return Surveyed::Improper(k, field);
-            }
+            Step::Wrong(field) => return Surveyed::Improper(k, field),
         }
     }
     if at < rows.len() {

@@ -3,31 +3,30 @@ use rows::read::Check;
 use rows::walk::Before;
 use rows::walk::Stage;
 ghost use mathlib.Core.Path.{_≡_};
-ghost use Prim.Native.Nat.{_≤_};
+ghost use Prim.Native.Nat.{_≤_, _<_};
 ghost use Rattle.roundtrip.specs.flat.Count.{groupClosing, fileClosing};
 ghost use Rattle.rows.specs.walk.Walks.{stageOf};
-ghost use Rattle.survey.specs.state.Stands.{Keeps, Starts};
+ghost use Rattle.survey.specs.state.Stands.{Tests, Starts};
 
-// The first thing that the sheet cannot carry (21): none so far, or its row and field.
-pub enum Found {
-    Nothing,
-    At(u64, u64),
+// The first thing that the sheet cannot carry (21): its row and field; row 0 where there is none so far.
+pub struct Found {
+    pub row: u64,
+    pub field: u64,
 }
 
-// Before a row: what refusal 20 counts; items of the whole file; bytes that the rows before it take, but for the open group's total; what was
-// found.
+// Before a row: what refusal 20 counts; bytes that the rows before it take, but for the open group's total; what was found.
 pub struct State {
     pub before: Before,
-    pub all: u64,
     pub bytes: u64,
     pub found: Found,
 }
 
-// What a row leads to: the next state; the same behind an account file, with the first three digits of its number; or the field that is
-// not as "The batch" says (20).
+// What a row leads to: the state behind an item; behind a group, with its due date; behind an account file, with its kind and the first three
+// digits of its number; or the field that is not as "The batch" says (20).
 pub enum Step {
-    On(State),
-    File(State, u64),
+    Item(State),
+    Group(State, u64),
+    File(State, u64, u64),
     Wrong(u64),
 }
 
@@ -38,9 +37,8 @@ pub fn start() -> State
     let before = rows::walk::top();
     State {
         before,
-        all: 0,
         bytes: 0,
-        found: Found::Nothing,
+        found: Found { row: 0, field: 0 },
     }
 }
 
@@ -68,15 +66,14 @@ pub fn group_closing(stage: Stage, sum: u64) -> u64
     }
 }
 
-// What was found once row k is tested besides: the first fault stays.
-pub fn keep(found: Found, k: u64, c: Check) -> Found
-    ensures { λ r. ⌜ Keeps k found c r ⌝ }
+// What was found once row k is tested, where nothing was before it.
+pub fn tested(found: Found, k: u64, c: Check) -> Found
+    requires { ⌜ found .row ≡ 0 ⌝ }
+    requires { ⌜ 0 < k ⌝ }
+    ensures { λ r. ⌜ Tests k c r ⌝ }
 {
-    match found {
-        Found::At(row, field) => Found::At(row, field),
-        Found::Nothing => match c {
-            Check::Fine => Found::Nothing,
-            Check::Wrong(field) => Found::At(k, field),
-        },
+    match c {
+        Check::Fine => found,
+        Check::Wrong(field) => Found { row: k, field },
     }
 }

@@ -14,6 +14,7 @@ use Rattle.sheet.specs.declared.Limits.{Limits}
 use Rattle.sheet.specs.Sheets.{LimitsOf}
 use Rattle.paper.specs.Bytes.{isClean, null}
 use Rattle.paper.specs.Days.{dueAllowed}
+use Rattle.paper.specs.Terms.{dayHere}
 use Rattle.paper.specs.Amounts.{amountProper}
 use Rattle.paper.specs.Texts.{lacks, taken, wordsCarried, partCarried, nameCarried}
 use Rattle.paper.specs.Batch.{Header}
@@ -34,8 +35,9 @@ use Rattle.rows.proofs.read.Fields.{is-true, holds, lacks as without, p
 
 -- a test by the limits that a sheet gave is a test by the sheet's
 module _ (sh : Sheet) (l : Limits) (of : LimitsOf sh l) (t : Bool) where
-  pub due-limit : (early : Bool) (today d : ℕ) → t ≡ dueAllowed early (l .ahead) today d → t ≡ dueAllowed early (sh .ahead) today d
-  due-limit early today d e = rw (of .ahead) at e
+  pub due-limit : (here early : Bool) (kind today d : ℕ) → here ≡ dayHere sh kind → t ≡ dueAllowed here early (l .ahead) today d
+      → t ≡ dueAllowed (dayHere sh kind) early (sh .ahead) today d
+  due-limit here early kind today d q e = rw (of .ahead, q) at e
 
   pub amount-limit : (v : ℕ) → t ≡ amountProper (l .amount) v → t ≡ amountProper (sh .itemmax) v
   amount-limit v e = rw (of .amount) at e

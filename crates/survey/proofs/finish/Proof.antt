@@ -8,32 +8,17 @@ use Rattle.survey.proofs.finish.Tie as tie
 may-stop-requires : tie.Need-may-stop-requires
 may-stop-requires c κs = search needs
 
-enum-known-found : tie.Need-enum-known-found
-enum-known-found c = search needs
-
-enum-told : tie.Need-enum-told
-enum-told c = search needs
+returns : tie.Need-returns
+returns c = (λ sh today h p. search ends, tt)
 
 all-bytes-requires : tie.Need-all-bytes-requires
 all-bytes-requires c κs = search (asked, needs)
 
-returns : tie.Need-returns
-returns c = (λ sh today h l. search ends, tt)
-
 returns-2 : tie.Need-returns-2
-returns-2 c = (λ sh today h l. search ends, search needs)
+returns-2 c = (λ sh today h p. search ends, search needs)
 
 returns-3 : tie.Need-returns-3
-returns-3 c = (λ sh today h l. search ends, tt)
+returns-3 c = (λ sh today h p. search ends, tt)
 
 pub finish-spec : {M : Type 1} → statement M
-finish-spec =
-    tie.close
-    (tie.spec
-    may-stop-requires
-    enum-known-found
-    enum-told
-    all-bytes-requires
-    returns
-    returns-2
-    returns-3)
+finish-spec = tie.close (tie.spec may-stop-requires returns all-bytes-requires returns-2 returns-3)

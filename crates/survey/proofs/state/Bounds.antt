@@ -15,7 +15,6 @@ low-start st s =
       n = 0;
       row = refl;
       few = rw (s .before) few-top;
-      all = omega (arith, s .all);
       bytes = omega (arith, s .bytes);
       sum = omega (arith, ap (λ (p : paper.Before). p .sum) (s .before));
     }
@@ -23,11 +22,10 @@ low-start st s =
 -- so they fit the code's numbers
 pub record Limits (k : ℕ) (st : State) : Type 0 where
   pub row : k ≤ 200000001
-  pub all : st .all ≤ 200000000
   pub bytes : st .bytes ≤ 100000000000
 
 module _ (k : ℕ) (st : State) (low : Low k st) where
   pub limits : Limits k st
   limits =
       let few : low .n ≤ 200000000 = few-rows (beforeOf (st .before)) (low .n) (low .few) in
-      record { row = omega (arith, low .row); all = omega (arith, low .all); bytes = omega (arith, low .bytes) }
+      record { row = omega (arith, low .row); bytes = omega (arith, low .bytes) }

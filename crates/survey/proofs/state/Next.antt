@@ -1,5 +1,5 @@
 -- The state behind a row that leads to `next`: f is what was found, n are the bytes so far. Assumes nothing.
-use mathlib.Core.Path.{_≡_, refl}
+use mathlib.Core.Path.{_≡_}
 use mathlib.Core.Bool.{true}
 use mathlib.Core.List.{List}
 use Prim.Native.Nat.{ℕ, suc, _+_, _≤_, _<_}
@@ -8,6 +8,8 @@ use Rattle.sheet.specs.declared.Sheet.{Sheet}
 use Rattle.paper.specs.Days.{realDay}
 use Rattle.paper.specs.Accounts.{Account}
 use Rattle.paper.specs.Batch.{Item, Header, aFile, aGroup, anItem}
+use Rattle.paper.specs.Carried.{Place}
+use Rattle.calendar.specs.declared.term.Banks.{Banks}
 use Rattle.roundtrip.proofs.flat.Few.{few-file, few-group, few-item}
 use Rattle.rows.specs.declared.read.ItemRow.{ItemRow}
 use Rattle.rows.specs.declared.walk.Before.{Before}
@@ -19,6 +21,7 @@ use Rattle.rows.proofs.walk.Passed.{file-passed, group-passed, item-passed, wal
 use Rattle.fileline.specs.seen.Bits.{Holds}
 use Rattle.survey.specs.declared.state.Found.{Found}
 use Rattle.survey.specs.declared.state.State.{State}
+use Rattle.survey.specs.state.Known.{Due}
 use Rattle.survey.specs.state.Low.{Low}
 use Rattle.survey.specs.state.Row.{Finds, Adds, Behind}
 use Rattle.survey.proofs.state.Bounds.{limits}
@@ -38,47 +41,41 @@ module _ (b next : Before) where
 -- ---- its numbers stay small
 
 module _ (k : ℕ) (st : State) (low : Low k st) where
+  pub low-row : 0 < k
+  low-row = omega (arith, low .row)
+
   pub low-bytes : st .bytes ≤ 100000000000
   low-bytes = limits k st low .bytes
 
-  pub low-all : st .all ≤ 200000000
-  low-all = limits k st low .all
-
   module _ (next : Before) (f : Found) (n : ℕ) (more : n ≤ st .bytes + 500) where
-    pub low-file : (kind number : ℕ) → Walks (st .before) (aFile kind number) (On next)
-        → Low (k + 1) (record { before = next; all = st .all; bytes = n; found = f })
+    pub low-file : (kind number : ℕ) → Walks (st .before) (aFile kind number) (On next) → Low (k + 1) (record { before = next; bytes = n; found = f })
     low-file kind number w =
         let p = file-passed (st .before) next kind number w in
         record {
           n = suc (low .n);
           row = omega (arith, low .row);
           few = rw (w .leads) (few-file (beforeOf (st .before)) (low .n) (low .few) (p .due) (p .few));
-          all = omega (arith, low .all);
           bytes = omega (arith, low .bytes);
           sum = walk-sum (st .before) next _ w;
         }
 
-    pub low-group : (date : ℕ) (payer : Account) → Walks (st .before) (aGroup date payer) (On next)
-        → Low (k + 1) (record { before = next; all = st .all; bytes = n; found = f })
+    pub low-group : (date : ℕ) (payer : Account) → Walks (st .before) (aGroup date payer) (On next) → Low (k + 1) (record { before = next; bytes = n; found = f })
     low-group date payer w =
         record {
           n = suc (low .n);
           row = omega (arith, low .row);
           few = rw (w .leads) (few-group (beforeOf (st .before)) (low .n) (low .few) payer (group-passed (st .before) next date payer w .due));
-          all = omega (arith, low .all);
           bytes = omega (arith, low .bytes);
           sum = walk-sum (st .before) next _ w;
         }
 
-    pub low-item : (texts : List ℕ) (x : ItemRow) → Walks (st .before) (anItem (itemOf texts x)) (On next)
-        → Low (k + 1) (record { before = next; all = st .all + 1; bytes = n; found = f })
+    pub low-item : (texts : List ℕ) (x : ItemRow) → Walks (st .before) (anItem (itemOf texts x)) (On next) → Low (k + 1) (record { before = next; bytes = n; found = f })
     low-item texts x w =
         let p = item-passed (st .before) next texts x w in
         record {
           n = suc (low .n);
           row = omega (arith, low .row);
           few = rw (w .leads) (few-item (beforeOf (st .before)) (low .n) (low .few) (itemOf texts x) (p .due) (p .few));
-          all = omega (arith, low .all);
           bytes = omega (arith, low .bytes);
           sum = walk-sum (st .before) next _ w;
         }
@@ -87,24 +84,26 @@ module _ (k : ℕ) (st : State) (low : Low k st) where
 
 module _ (sh : Sheet) (k : ℕ) (st : State) (next : Before) (f : Found) (n : ℕ) where
   pub behind-file : (from to : ℕ) (seen : List ℕ) (kind number : ℕ) → Walks (st .before) (aFile kind number) (On next)
-      → ((today : ℕ) (h : Header) (l : List ℕ) → h .from ≡ from → h .to ≡ to → Holds seen l → Finds sh today h l k st (aFile kind number) f)
+      → ((today : ℕ) (h : Header) (p : Place) → h .from ≡ from → h .to ≡ to → Holds seen (p .seen) → Finds sh today h p k st (aFile kind number) f)
       → ((sh : Sheet) (kind number : ℕ) → Adds sh st (aFile kind number) n)
-      → (today : ℕ) (h : Header) (l : List ℕ) → h .from ≡ from → h .to ≡ to → Holds seen l
-      → Behind sh today h l k st (aFile kind number) (record { before = next; all = st .all; bytes = n; found = f })
-  behind-file from to seen kind number w finds adds today h l a b holds =
-      record { walks = w; all = refl; found = finds today h l a b holds; bytes = adds sh kind number }
+      → (today : ℕ) (h : Header) (p : Place) → h .from ≡ from → h .to ≡ to → Holds seen (p .seen)
+      → Behind sh today h p k st (aFile kind number) (record { before = next; bytes = n; found = f })
+  behind-file from to seen kind number w finds adds today h p a b holds =
+      record { walks = w; found = finds today h p a b holds; bytes = adds sh kind number }
 
-  pub behind-group : (today date : ℕ) (payer : Account) → Walks (st .before) (aGroup date payer) (On next)
-      → ((h : Header) (l : List ℕ) → Finds sh today h l k st (aGroup date payer) f) → ((date : ℕ) → Adds sh st (aGroup date payer) n)
-      → (h : Header) (l : List ℕ) → Behind sh today h l k st (aGroup date payer) (record { before = next; all = st .all; bytes = n; found = f })
-  behind-group today date payer w finds adds h l = record { walks = w; all = refl; found = finds h l; bytes = adds date }
+  pub behind-group : (today kind date : ℕ) (payer : Account) → Walks (st .before) (aGroup date payer) (On next)
+      → ((h : Header) (p : Place) → p .kind ≡ kind → Finds sh today h p k st (aGroup date payer) f) → ((date : ℕ) → Adds sh st (aGroup date payer) n)
+      → (h : Header) (p : Place) → p .kind ≡ kind
+      → Behind sh today h p k st (aGroup date payer) (record { before = next; bytes = n; found = f })
+  behind-group today kind date payer w finds adds h p e = record { walks = w; found = finds h p e; bytes = adds date }
 
-  pub behind-item : (x : Item) → Walks (st .before) (anItem x) (On next)
-      → ((today : ℕ) (h : Header) (l : List ℕ) → Finds sh today h l k st (anItem x) f) → Adds sh st (anItem x) n
-      → (today : ℕ) (h : Header) (l : List ℕ) → Behind sh today h l k st (anItem x) (record { before = next; all = st .all + 1; bytes = n; found = f })
-  behind-item x w finds adds today h l = record { walks = w; all = refl; found = finds today h l; bytes = adds }
+  pub behind-item : (all : ℕ) (banks : Banks) (x : Item) → Walks (st .before) (anItem x) (On next)
+      → ((today : ℕ) (h : Header) (p : Place) → p .items ≡ all → Due sh today banks (p .kind) (p .date) → Finds sh today h p k st (anItem x) f) → Adds sh st (anItem x) n
+      → (today : ℕ) (h : Header) (p : Place) → p .items ≡ all → Due sh today banks (p .kind) (p .date)
+      → Behind sh today h p k st (anItem x) (record { before = next; bytes = n; found = f })
+  behind-item all banks x w finds adds today h p e due = record { walks = w; found = finds today h p e due; bytes = adds }
 
-pub ruleset asked = (number-small, date-real, item-sized, low-bytes, low-all)
+pub ruleset asked = (number-small, date-real, item-sized, low-row, low-bytes)
 
 pub ruleset lows = (low-file, low-group, low-item)
 

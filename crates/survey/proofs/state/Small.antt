@@ -1,7 +1,11 @@
 -- The answers of the small questions, with what the code knows at each. Assumes nothing.
 use mathlib.Core.Path.{_≡_}
-use Prim.Native.Nat.{ℕ, _+_}
+use Prim.Native.Nat.{ℕ, _+_, _≤_, _<_}
+use native.Mathlib.Omega.{arith}
+use borrow.Author.Tests.{lt-ltb, le-ltb}
 use lib.ListN.{length}
+use Rattle.base.proofs.Cases.{pick-true, pick-false}
+use Rattle.paper.specs.Proper.{Verdict, wrong}
 use Rattle.paper.specs.Numerals.{decimal}
 use Rattle.roundtrip.specs.flat.Count.{groupClosing, fileClosing}
 use Rattle.rows.specs.declared.read.Check.{Check}
@@ -10,8 +14,7 @@ use Rattle.rows.specs.declared.walk.Stage.{Stage}
 use Rattle.rows.specs.declared.walk.Stage.the-variants as stage
 use Rattle.rows.specs.walk.Walks.{stageOf}
 use Rattle.survey.specs.declared.state.Found.{Found}
-use Rattle.survey.specs.declared.state.Found.the-variants as found
-use Rattle.survey.specs.state.Stands.{Keeps}
+use Rattle.survey.specs.state.Stands.{kept, Tests}
 
 -- ---- bytes that close what is open
 
@@ -52,18 +55,23 @@ module _ (st : Stage) (sum : ℕ) where
 
 -- ---- what was found
 
-module _ (f : Found) (k : ℕ) (c : Check) where
-  pub keep-first : (row field : ℕ) → f ≡ found.At row field → Keeps k f c (found.At row field)
-  keep-first row field e = record { same = λ v. rw e }
+module _ (f : Found) (v : Verdict) where
+  pub kept-none : f .row ≤ 0 → kept f v ≡ v
+  unfolding kept
+  kept-none e = pick-false (wrong (f .row) (f .field)) v (le-ltb 0 (f .row) e)
 
-  module _ (e : f ≡ found.Nothing) where
-    pub keep-nothing : c ≡ check.Fine → Keeps k f c found.Nothing
-    keep-nothing d = record { same = λ v. rw (e, d) }
+  pub kept-at : 0 < f .row → kept f v ≡ wrong (f .row) (f .field)
+  unfolding kept
+  kept-at e = pick-true (wrong (f .row) (f .field)) v (lt-ltb 0 (f .row) e)
 
-    pub keep-this : (field : ℕ) → c ≡ check.Wrong field → Keeps k f c (found.At k field)
-    keep-this field d = record { same = λ v. rw (e, d) }
+module _ (k : ℕ) (c : Check) where
+  pub tests-fine : c ≡ check.Fine → (f : Found) → f .row ≡ 0 → Tests k c f
+  tests-fine e f none = record { same = λ v. rw e (kept-none f v (omega (arith, none))) }
+
+  pub tests-wrong : (field : ℕ) → c ≡ check.Wrong field → 0 < k → Tests k c (record { row = k; field = field })
+  tests-wrong field e p = record { same = λ v. rw e (kept-at (record { row = k; field = field }) v p) }
 
 pub ruleset closings =
     (file-closing-top, file-closing-empty, file-closing-bare, file-closing-open, group-closing-top, group-closing-empty, group-closing-bare, group-closing-open)
 
-pub ruleset keeping = (keep-first, keep-nothing, keep-this)
+pub ruleset testing = (tests-fine, tests-wrong)

@@ -8,10 +8,10 @@ use Rattle.survey.proofs.survey.Statement.{statement}
 use Rattle.survey.proofs.survey.Tie as tie
 
 abbrev Inv-loop : tie.InvT-loop
-Inv-loop rows texts sh today from to at₀ k₀ seen₀ st₀ at k seen st = Going sh today from to texts rows at k (seen .words) st
+Inv-loop rows texts sh today from to at₀ k₀ all₀ kind₀ banks₀ seen₀ st₀ at k all kind banks seen st = Going sh today from to texts rows at k all kind banks (seen .words) st
 
 abbrev μ-loop : tie.MeasureT-loop
-μ-loop rows texts sh today from to at₀ k₀ seen₀ st₀ at k seen st = length rows - at
+μ-loop rows texts sh today from to at₀ k₀ all₀ kind₀ banks₀ seen₀ st₀ at k all kind banks seen st = length rows - at
 
 none-requires : tie.Need-none-requires Inv-loop μ-loop
 none-requires c κs = search needs
@@ -25,8 +25,11 @@ loop-holds c = search goings
 sub-loop : tie.Need-sub-loop Inv-loop μ-loop
 sub-loop c = search needs
 
-row-step-requires : tie.Need-row-step-requires Inv-loop μ-loop
-row-step-requires c κs = search needs
+read-row-requires : tie.Need-read-row-requires Inv-loop μ-loop
+read-row-requires c κs = search needs
+
+step-of-requires : tie.Need-step-of-requires Inv-loop μ-loop
+step-of-requires c κs = search needs
 
 enum-known-next : tie.Need-enum-known-next Inv-loop μ-loop
 enum-known-next c = search needs
@@ -37,6 +40,9 @@ add-at c = search needs
 add-k : tie.Need-add-k Inv-loop μ-loop
 add-k c = search needs
 
+add-all : tie.Need-add-all Inv-loop μ-loop
+add-all c = search needs
+
 loop-less : tie.Need-loop-less Inv-loop μ-loop
 loop-less c = omega arith
 
@@ -46,20 +52,41 @@ loop-again c = search goings
 enum-known-next-2 : tie.Need-enum-known-next-2 Inv-loop μ-loop
 enum-known-next-2 c = search needs
 
-with-requires : tie.Need-with-requires Inv-loop μ-loop
-with-requires c κs = search goings
-
 add-at-2 : tie.Need-add-at-2 Inv-loop μ-loop
 add-at-2 c = search needs
 
 add-k-2 : tie.Need-add-k-2 Inv-loop μ-loop
 add-k-2 c = search needs
 
+banks-due-requires : tie.Need-banks-due-requires Inv-loop μ-loop
+banks-due-requires c κs = search needs
+
 loop-less-2 : tie.Need-loop-less-2 Inv-loop μ-loop
 loop-less-2 c = omega arith
 
 loop-again-2 : tie.Need-loop-again-2 Inv-loop μ-loop
 loop-again-2 c = search goings
+
+enum-known-next-3 : tie.Need-enum-known-next-3 Inv-loop μ-loop
+enum-known-next-3 c = search needs
+
+add-at-3 : tie.Need-add-at-3 Inv-loop μ-loop
+add-at-3 c = search needs
+
+add-k-3 : tie.Need-add-k-3 Inv-loop μ-loop
+add-k-3 c = search needs
+
+with-requires : tie.Need-with-requires Inv-loop μ-loop
+with-requires c κs = search goings
+
+banks-due-requires-2 : tie.Need-banks-due-requires-2 Inv-loop μ-loop
+banks-due-requires-2 c κs = search needs
+
+loop-less-3 : tie.Need-loop-less-3 Inv-loop μ-loop
+loop-less-3 c = omega arith
+
+loop-again-3 : tie.Need-loop-again-3 Inv-loop μ-loop
+loop-again-3 c = search goings
 
 enum-known-field : tie.Need-enum-known-field Inv-loop μ-loop
 enum-known-field c = search needs
@@ -86,18 +113,27 @@ survey-spec =
     start-requires
     loop-holds
     sub-loop
-    row-step-requires
+    read-row-requires
+    step-of-requires
     enum-known-next
     add-at
     add-k
+    add-all
     loop-less
     loop-again
     enum-known-next-2
-    with-requires
     add-at-2
     add-k-2
+    banks-due-requires
     loop-less-2
     loop-again-2
+    enum-known-next-3
+    add-at-3
+    add-k-3
+    with-requires
+    banks-due-requires-2
+    loop-less-3
+    loop-again-3
     enum-known-field
     returns
     returns-2

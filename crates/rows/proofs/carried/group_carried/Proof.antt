@@ -1,4 +1,4 @@
--- `group_carried` meets its contract: the due day's test. Assumes nothing.
+-- `group_carried` meets its contract: the due day's test, where it is judged. Assumes nothing.
 use borrow.Author.Needs.{needs}
 use Rattle.base.proofs.Cases.{picks}
 use Rattle.paper.specs.Proper.{check}
@@ -8,6 +8,9 @@ use Rattle.rows.proofs.carried.group_carried.Tie as tie
 
 limits-requires : tie.Need-limits-requires
 limits-requires c κs = search needs
+
+day-here-requires : tie.Need-day-here-requires
+day-here-requires c κs = search needs
 
 due-allowed-requires : tie.Need-due-allowed-requires
 due-allowed-requires c κs = search needs
@@ -21,4 +24,4 @@ unfolding check
 returns-2 c = λ k rest. search (picks, due-limit) depth 12
 
 pub group-carried-spec : {M : Type 1} → statement M
-group-carried-spec = tie.close (tie.spec limits-requires due-allowed-requires returns returns-2)
+group-carried-spec = tie.close (tie.spec limits-requires day-here-requires due-allowed-requires returns returns-2)

@@ -4,17 +4,14 @@ use Rattle.survey.proofs.state.Next.{asked, lows, behinds}
 use Rattle.survey.proofs.step.behind_item.Statement.{statement}
 use Rattle.survey.proofs.step.behind_item.Tie as tie
 
-item-found-requires : tie.Need-item-found-requires
-item-found-requires c κs = search (asked, needs)
-
 item-bytes-requires : tie.Need-item-bytes-requires
 item-bytes-requires c κs = search (asked, needs)
 
-add-t9 : tie.Need-add-t9
-add-t9 c = search needs
+item-found-requires : tie.Need-item-found-requires
+item-found-requires c κs = search (asked, needs)
 
 returns : tie.Need-returns
 returns c = (search (lows, needs), search behinds)
 
 pub behind-item-spec : {M : Type 1} → statement M
-behind-item-spec = tie.close (tie.spec item-found-requires item-bytes-requires add-t9 returns)
+behind-item-spec = tie.close (tie.spec item-bytes-requires item-found-requires returns)
