@@ -40,7 +40,7 @@ struct batch {
     struct bytes rows, texts, name;
     uint64_t date, client, from, to;
     const struct peer_sheet *sheet;
-    uint64_t today; /* as a day number */
+    uint64_t today, month_ahead; /* as day numbers */
 };
 
 static inline uint64_t row_word(const uint8_t *row, size_t word)

@@ -5,7 +5,8 @@
 #include <stdbool.h>
 #include <stdint.h>
 
-/* In this century every fourth year is a leap year, 2000 among them. */
+/* In this century every fourth year is a leap year, 2000 among them; of 2100
+   no month but January is asked. */
 static inline uint64_t days_in_month(uint64_t year, uint64_t month)
 {
     static const uint8_t days[12] = {31, 28, 31, 30, 31, 30,
@@ -20,7 +21,22 @@ static inline bool day_is_real(uint64_t date)
            day >= 1 && day <= days_in_month(year, month);
 }
 
-/* Days since 1 January 2000, for a real day. */
+/* The same day of the next month, or that month's last day if it is shorter;
+   for a real day.  From December 2099 it lies in January 2100. */
+static inline uint64_t one_month_ahead(uint64_t date)
+{
+    uint64_t year = date / 10000, month = date / 100 % 100, day = date % 100;
+    if (month == 12) {
+        year++;
+        month = 1;
+    } else {
+        month++;
+    }
+    uint64_t last = days_in_month(year, month);
+    return year * 10000 + month * 100 + (day < last ? day : last);
+}
+
+/* Days since 1 January 2000, for a real day or one of January 2100. */
 static inline uint64_t day_number(uint64_t date)
 {
     static const uint16_t before[12] = {0,   31,  59,  90,  120, 151,

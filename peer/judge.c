@@ -100,6 +100,7 @@ void peer_judge(struct judge *j, const uint8_t *file, size_t len,
         j->number = 2;
     } else {
         j->today = day_number(today);
+        j->month_ahead = day_number(one_month_ahead(today));
         j->line = 1;
         judge_lines(j);
     }

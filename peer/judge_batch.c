@@ -18,7 +18,9 @@ struct walk {
     uint64_t bytes;
     unsigned due;
     uint64_t files, items, file_items;
+    bool collects;           /* days are judged for each item */
     bool single;
+    uint64_t day;            /* of the group in hand, as a day number */
     uint64_t sum;            /* of the group in hand */
     uint64_t met[1000 / 64 + 1];
 };
@@ -150,8 +152,13 @@ static uint64_t text_narrowed(const struct batch *b, const uint8_t *row)
     return 0;
 }
 
-static uint64_t item_narrowed(const struct batch *b, const uint8_t *row)
+static uint64_t item_narrowed(const struct walk *w, const uint8_t *row)
 {
+    const struct batch *b = w->b;
+    if (w->collects &&
+        !sheet_takes_collection(b->sheet, row_word(row, ITEM_BANK), w->day,
+                                b->today, b->month_ahead))
+        return ITEM_BANK;
     if (row_word(row, ITEM_AMOUNT) > b->sheet->item_most)
         return ITEM_AMOUNT;
     if (!b->sheet->priority && row_word(row, ITEM_PRIORITY) != USUAL_PRIORITY)
@@ -181,6 +188,7 @@ static bool walk_file(struct walk *w, const uint8_t *row, uint64_t n,
     if (narrowed != 0)
         note_21(w, n, narrowed);
     close_group(w);
+    w->collects = sheet_collects(w->b->sheet, row_word(row, FILE_KIND));
     w->bytes += 5; /* the account file's `5 +` */
     w->due = AFTER_FILE;
     return true;
@@ -192,8 +200,8 @@ static bool walk_group(struct walk *w, const uint8_t *row, uint64_t n,
     *field = group_fault(row);
     if (*field != 0)
         return false;
-    if (!sheet_takes_day(w->b->sheet, day_number(row_word(row, GROUP_DATE)),
-                         w->b->today))
+    w->day = day_number(row_word(row, GROUP_DATE));
+    if (!w->collects && !sheet_takes_day(w->b->sheet, w->day, w->b->today))
         note_21(w, n, GROUP_DATE);
     close_group(w);
     w->single = account_is_none(row_account(row, GROUP_PAYER));
@@ -211,7 +219,7 @@ static bool walk_item(struct walk *w, const uint8_t *row, uint64_t n,
         return false;
     if (w->items == w->b->sheet->all_items)
         note_21(w, n, 0);
-    uint64_t narrowed = item_narrowed(w->b, row);
+    uint64_t narrowed = item_narrowed(w, row);
     if (narrowed != 0)
         note_21(w, n, narrowed);
     w->file_items++;

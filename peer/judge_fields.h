@@ -10,7 +10,7 @@
 struct judge {
     struct bytes file;
     const struct peer_sheet *sheet;
-    uint64_t today; /* as a day number */
+    uint64_t today, month_ahead; /* as day numbers */
 
     size_t at;      /* the next byte to judge */
     uint64_t line;  /* its line, from 1 */
@@ -21,11 +21,13 @@ struct judge {
     uint64_t rows, warnings;
     uint64_t files, items;   /* so far in the whole file */
     uint64_t file_items;     /* so far in the account file */
+    bool collects;           /* its days are judged for each item */
     struct peer_header header;
     uint64_t met[1000 / 64 + 1]; /* K: a bit for each three digits met */
 
     /* The group in hand. */
     bool single;
+    uint64_t day; /* it is due, as a day number */
     uint64_t sum, total, total_line;
     size_t total_at;
 };

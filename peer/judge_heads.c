@@ -77,6 +77,7 @@ bool peer_judge_file(struct judge *j)
         return false;
     if (value < FIRST_KIND || value > sheet->last_kind)
         return refuse(j, 7, at);
+    j->collects = sheet_collects(sheet, value);
     if (!pass_divider(j))
         return false;
     at = j->at;
@@ -142,10 +143,11 @@ static bool pass_payer(struct judge *j, size_t line_start)
     return pass_divider(j);
 }
 
+/* A collection's day need only be real here: its items' banks tell the rest. */
 static bool pass_due_date(struct judge *j)
 {
     size_t at = j->at;
-    uint64_t date, day;
+    uint64_t date;
     if (!pass_digits(j, 6, j->sheet->long_date ? 8 : 6, &date))
         return false;
     if (j->at - at == 7)
@@ -154,10 +156,12 @@ static bool pass_due_date(struct judge *j)
         date = date_of_short(date);
     if (!day_is_real(date))
         return refuse(j, 11, at);
-    day = day_number(date);
-    if (!sheet_takes_day(j->sheet, day, j->today))
+    j->day = day_number(date);
+    if (j->collects)
+        return true;
+    if (!sheet_takes_day(j->sheet, j->day, j->today))
         return refuse(j, 11, at);
-    if (j->sheet->past_warns && day < j->today)
+    if (j->sheet->past_warns && j->day < j->today)
         j->warnings++;
     return true;
 }

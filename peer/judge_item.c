@@ -24,18 +24,22 @@ static bool pass_item_amount(struct judge *j)
     return pass_divider(j);
 }
 
-/* Up to two digits, payee bank, constant symbol. */
+/* Up to two digits, payee bank, constant symbol.  A collection's day is judged
+   here, behind the field's own faults. */
 static bool pass_bank(struct judge *j)
 {
     size_t at = j->at;
     uint64_t field;
     if (!pass_digits(j, 8, 10, &field))
         return false;
-    if (field / 10000 % 10000 == 0)
+    uint64_t bank = field / 10000 % 10000, front = field / 100000000;
+    if (bank == 0)
         return refuse(j, 12, at);
-    uint64_t front = field / 100000000;
     if (front > (j->sheet->priority ? 9u : 0u))
         return refuse(j, 13, at);
+    if (j->collects && !sheet_takes_collection(j->sheet, bank, j->day, j->today,
+                                               j->month_ahead))
+        return refuse(j, 11, at);
     if (front == 1 || front == 2)
         j->warnings++;
     return true;

@@ -12,6 +12,7 @@ enum {
     ROW_BYTES = 192,
     FIRST_KIND = 1501,
     LAST_KIND = 1504,
+    COLLECTIONS = 1502,
     MOST_FILES = 1000,
     MOST_ITEMS = 99999,
     MOST_PARTS = 4,
@@ -53,6 +54,7 @@ struct peer_sheet {
     bool total_binds;   /* a differing total refuses; else it warns */
     bool tight_close;   /* 3+ and 5+ too */
     uint64_t days_ahead;
+    bool collects;      /* kind 1502 has days of its own (request W-202) */
 
     /* Items. */
     bool comma;         /* amounts may be spelled with a comma */
@@ -74,6 +76,22 @@ static inline bool sheet_takes_day(const struct peer_sheet *sheet, uint64_t day,
     if (day < today)
         return !sheet->past_refused;
     return day - today <= sheet->days_ahead;
+}
+
+/* Is the day judged for each item, and not for its group? */
+static inline bool sheet_collects(const struct peer_sheet *sheet, uint64_t kind)
+{
+    return sheet->collects && kind == COLLECTIONS;
+}
+
+/* Day numbers.  An item of the sheet's own bank is due today at the soonest,
+   one of any other bank tomorrow; both within one month. */
+static inline bool sheet_takes_collection(const struct peer_sheet *sheet,
+                                          uint64_t bank, uint64_t day,
+                                          uint64_t today, uint64_t month_ahead)
+{
+    uint64_t soonest = bank == sheet->bank ? today : today + 1;
+    return day >= soonest && day <= month_ahead;
 }
 
 /* Bytes of a message part, or of several with the bars between them. */

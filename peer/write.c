@@ -21,6 +21,7 @@ struct peer_written peer_write(const uint8_t *rows, size_t rows_len,
     if (!day_is_real(today))
         return (struct peer_written){2, 0, 0, 0};
     batch.today = day_number(today);
+    batch.month_ahead = day_number(one_month_ahead(today));
     struct finding found = peer_judge_batch(&batch);
     if (found.number != 0)
         return (struct peer_written){found.number, found.row, found.field, 0};

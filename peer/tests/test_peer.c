@@ -10,6 +10,8 @@ int main(void)
     test_writing();
     test_rewriting();
     test_sheet_p();
+    test_collections();
+    test_collection_rows();
     test_samples();
     test_random();
     test_statements();

@@ -33,7 +33,13 @@ static void draw_account(uint64_t *words)
         while (!weighs_right(words[0]));
 }
 
-static uint64_t draw_day(unsigned sheet)
+/* Kind 1502 has its own days on C and P (request W-202). */
+static bool collects(unsigned sheet, uint64_t kind)
+{
+    return (sheet == C || sheet == P) && kind == 1502;
+}
+
+static uint64_t draw_day(unsigned sheet, uint64_t kind)
 {
     static const uint64_t days[][4] = {
         {0},
@@ -42,8 +48,17 @@ static uint64_t draw_day(unsigned sheet)
         {20180101, 20190101, 20000101, 20171231},
         {20000229, 20991231, 20180101, 20171231},
         {20180101, 20190101, 20000101, 20171231},
+        {20180101, 20180102, 20180131, 20180201},
     };
-    return days[sheet][below(4)];
+    return days[collects(sheet, kind) ? 6 : sheet][below(4)];
+}
+
+/* Half of the collections are from 0300, and all of those due today. */
+static uint64_t draw_bank(bool collection, uint64_t day)
+{
+    if (collection && (day == TODAY || one_in(2)))
+        return 300;
+    return 1 + below(9999);
 }
 
 static void draw_text(uint64_t *row, size_t word, unsigned sheet)
@@ -72,13 +87,13 @@ static void draw_text(uint64_t *row, size_t word, unsigned sheet)
     batch_text(&b, row, word, text);
 }
 
-static void draw_item(unsigned sheet, bool single)
+static void draw_item(unsigned sheet, bool single, uint64_t bank)
 {
     uint64_t *row = batch_item(&b);
     if (single)
         draw_account(row + 1);
     draw_account(row + 3);
-    row[5] = 1 + below(9999);
+    row[5] = bank;
     row[6] = 1 + below(one_in(2) ? 1000000 : 999999999999);
     row[7] = one_in(3) ? 0 : below(10000000000);
     row[8] = one_in(2) ? 0 : below(10000000000);
@@ -89,6 +104,16 @@ static void draw_item(unsigned sheet, bool single)
             draw_text(row, word, sheet);
     if (sheet == C && one_in(2))
         draw_text(row, 19, sheet);
+}
+
+static void draw_group(unsigned sheet, uint64_t kind)
+{
+    uint64_t payer[2] = {0, 0}, day = draw_day(sheet, kind);
+    if (one_in(2))
+        draw_account(payer);
+    batch_group(&b, day, payer[0], payer[1]);
+    for (uint64_t i = 1 + below(3); i > 0; i--)
+        draw_item(sheet, payer[1] == 0, draw_bank(collects(sheet, kind), day));
 }
 
 static void draw_batch(unsigned sheet)
@@ -104,16 +129,42 @@ static void draw_batch(unsigned sheet)
         b.name[i] = (uint8_t)(128 + below(128));
     uint64_t files = 1 + below(3), number = 100000 + below(1000);
     for (uint64_t f = 0; f < files; f++) {
-        batch_file(&b, 1501 + below(kinds[sheet]), number + f * 1000);
-        for (uint64_t g = 1 + below(2); g > 0; g--) {
-            uint64_t payer[2] = {0, 0};
-            if (one_in(2))
-                draw_account(payer);
-            batch_group(&b, draw_day(sheet), payer[0], payer[1]);
-            for (uint64_t i = 1 + below(3); i > 0; i--)
-                draw_item(sheet, payer[1] == 0);
-        }
+        uint64_t kind = 1501 + below(kinds[sheet]);
+        batch_file(&b, kind, number + f * 1000);
+        for (uint64_t g = 1 + below(2); g > 0; g--)
+            draw_group(sheet, kind);
     }
+}
+
+/* Collections drawn so far: groups due today and one month ahead, and pairs of
+   items that follow each other, one of them from 0300. */
+struct drawn {
+    unsigned today, month_ahead, mixed;
+};
+
+static void count_collections(unsigned sheet, struct drawn *drawn)
+{
+    bool collecting = collects(sheet, b.words[0][1]);
+    for (size_t i = 1; i < b.rows; i++) {
+        const uint64_t *row = b.words[i], *before = b.words[i - 1];
+        if (row[0] == 1)
+            collecting = collects(sheet, row[1]);
+        if (!collecting)
+            continue;
+        drawn->today += row[0] == 2 && row[1] == TODAY;
+        drawn->month_ahead += row[0] == 2 && row[1] == 20180201;
+        drawn->mixed += row[0] == 3 && before[0] == 3 &&
+                        (row[5] == 300) != (before[5] == 300);
+    }
+}
+
+/* C and P warn of these. */
+static uint64_t past_days(void)
+{
+    uint64_t past = 0;
+    for (size_t i = 0; i < b.rows; i++)
+        past += b.words[i][0] == 2 && b.words[i][1] < TODAY;
+    return past;
 }
 
 /* ---- equality ---- */
@@ -203,9 +254,10 @@ static bool rewrites_to(unsigned sheet, const uint8_t *file, size_t len,
 static uint8_t canonical[8192];
 static struct read_in r, again;
 
-static void round_trip(unsigned sheet)
+static void round_trip(unsigned sheet, struct drawn *drawn)
 {
     draw_batch(sheet);
+    count_collections(sheet, drawn);
     struct peer_written w = batch_write(&b, sheet, TODAY, sizeof canonical);
     CHECK("random: written", w.number == 0);
     if (w.number != 0)
@@ -222,7 +274,7 @@ static void round_trip(unsigned sheet)
                          h->from == b.from && h->to == b.to &&
                          memcmp(h->name, b.name, 20) == 0));
     CHECK("random: no warnings but for past days",
-          sheet == C || sheet == P || r.answer.warnings == 0);
+          r.answer.warnings == (sheet == C || sheet == P ? past_days() : 0));
     CHECK("random: rewriting keeps it",
           rewrites_to(sheet, canonical, (size_t)w.bytes, canonical,
                       (size_t)w.bytes));
@@ -302,8 +354,9 @@ static void damaged_rows(unsigned sheet)
     for (uint64_t times = 1 + below(3); times > 0; times--) {
         uint64_t wild[] = {0, 1, 2, 3, 4, 5, 36, b.texts_len, UINT64_MAX,
                            UINT64_MAX - 34, UINT64_C(1) << 63, draw(),
-                           20180229, 20180101};
-        b.words[below(b.rows)][below(WORDS)] = wild[below(14)];
+                           20180229, 20180101, 20180201, 20180202, 300,
+                           1502};
+        b.words[below(b.rows)][below(WORDS)] = wild[below(18)];
     }
     if (one_in(10))
         b.left_over = 1 + below(191);
@@ -413,8 +466,11 @@ static void moves_to_c(int times)
 void test_random(void)
 {
     unsigned kept = 0;
+    struct drawn drawn = {0, 0, 0};
     for (int i = 0; i < 5 * 500; i++)
-        round_trip(K + i % 5);
+        round_trip(K + i % 5, &drawn);
+    CHECK("random: collections at both ends and from several banks",
+          drawn.today > 100 && drawn.month_ahead > 100 && drawn.mixed > 100);
     for (int i = 0; i < 5 * 2000; i++)
         kept += damaged_file(K + i % 5);
     CHECK("random: some damage is harmless", kept > 300);

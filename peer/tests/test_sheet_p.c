@@ -222,7 +222,7 @@ static void canonical_8(void)
 {
     static const char want[] =
         "UHL1280299#~IENT TEST         0000000007024023000000000000" CRLF
-        "1 1502 000999 0300" CRLF
+        "1 1501 000999 0300" CRLF
         "2 500005-2267100237 99999999999999 010119" CRLF
         "174-1999738514 99999999999998 9999999999 00010007 9999999999"
         " AV:a NP:b|||" T35 CRLF
@@ -239,7 +239,7 @@ static void canonical_8(void)
     b.from = 24;
     b.to = 23;
     b.rows = 0;
-    batch_file(&b, 1502, 999);
+    batch_file(&b, 1501, 999);
     batch_group(&b, 20190101, 500005, 2267100237);
     uint64_t *item = batch_item(&b);
     item[3] = 174;
