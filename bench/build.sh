@@ -44,11 +44,12 @@ quotient() { # A B
     awk -v a="$1" -v b="$2" 'BEGIN { printf "%.2f", a / b }'
 }
 
-kinds_for() { # CALL SHEET KIND ..: KINDS or these; cut texts are on C alone, and are short when they are written
-    cut=
-    if [ "$2" = C ] && [ "$1" != write ]; then cut=cut; fi
+kinds_for() { # CALL SHEET KIND ..: KINDS or these; C and P have collections too, and C texts that are cut, which are short when written
+    more=
+    case $2 in C | P) more=collections ;; esac
+    if [ "$2" = C ] && [ "$1" != write ]; then more="$more cut"; fi
     shift 2
-    echo "${KINDS:-$* $cut}"
+    echo "${KINDS:-$* $more}"
 }
 
 holds() { # CONDITION-OF-AWK

@@ -31,13 +31,13 @@ line() { # CALL SHEET KIND
     ratio=$(quotient "$library" "$peer")
     speed=
     if [ "$times" -gt 0 ]; then speed=$(timed "$1" "$2" "$3") || { refused "$1 $2 $3"; return; }; fi
-    printf '%-5s %-9s %10s %9s %9s %7s%s\n' "$2" "$3" "$bytes" "$library" "$peer" "$ratio" "$speed"
+    printf '%-5s %-11s %10s %9s %9s %7s%s\n' "$2" "$3" "$bytes" "$library" "$peer" "$ratio" "$speed"
     check "$1 $2 $3: $ratio times the instructions, over ${LIMIT:-}" holds "$ratio <= ${LIMIT:-$ratio}"
     if [ -n "${BY:-}" ]; then for who in abo peer; do LIB=$lib sh bench/profile.sh "$1" $who "$2" "$3" "$size"; done; fi
 }
 
 for call in ${CALLS:-read write}; do
-    printf '%s\n%-5s %-9s %10s %9s %9s %7s' "$call" sheet kind bytes library peer ratio
+    printf '%s\n%-5s %-11s %10s %9s %9s %7s' "$call" sheet kind bytes library peer ratio
     if [ "$times" -gt 0 ]; then printf ' %9s %9s %7s' 'lib MB/s' 'peer MB/s' ratio; fi
     echo
     for sheet in ${SHEETS:-K S C E P}; do

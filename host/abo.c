@@ -51,7 +51,7 @@ static bool many(const struct job *j)
 
 static enum status refused(const struct job *j, FILE *to)
 {
-    print_refusal(to, many(j) ? j->name : NULL, &j->file, j->ask->sheet, &j->answer);
+    print_refusal(to, many(j) ? j->name : NULL, &j->file, j->ask->sheet, j->ask->today, &j->answer);
     return REFUSED;
 }
 

@@ -43,8 +43,8 @@ extern "C" {
 /* ---- Version: the first part grows when a program must be changed to go on working, the second when something is added ---- */
 
 #define ABO_VERSION_MAJOR 1
-#define ABO_VERSION_MINOR 4
-#define ABO_VERSION "1.4"
+#define ABO_VERSION_MINOR 5
+#define ABO_VERSION "1.5"
 
 /* ---- Sheets: which bank's rules a file is judged by ---- */
 
@@ -70,14 +70,14 @@ enum abo_number {
     ABO_BAD_PAYER_BANK = 8,  /* the payer's bank is not the sheet's */
     ABO_BAD_NUMBER = 9,      /* K: interval turned round, or a number outside it or used before */
     ABO_BAD_TOTAL = 10,      /* the total is not the sum (K, S, P), or the sum passes 14 digits */
-    ABO_BAD_DAY = 11,        /* a day is not real, or not among the sheet's days */
+    ABO_BAD_DAY = 11,        /* a day is not real, or not among the sheet's; a collection's (C, P) is judged at each item's bank */
     ABO_BAD_PAYEE_BANK = 12, /* the payee's bank is 0000 */
     ABO_BAD_DIGIT = 13,      /* ninth or tenth digit of the bank field is not allowed */
     ABO_BAD_TEXT = 14,       /* a text breaks the sheet: its start, parts, length, a bar on S, # or ~ on P */
     ABO_TOO_MANY = 15,       /* one item or account file more than a file may have */
     ABO_NO_ROOM = 16,        /* the lent room is too small; the answer says how much is needed */
     ABO_NOT_A_BATCH = 20,    /* writing: rows or header are no batch, whatever the sheet */
-    ABO_NOT_CARRIED = 21,    /* writing: a batch, but no file of this sheet can carry it */
+    ABO_NOT_CARRIED = 21,    /* writing: a batch, but no file of this sheet can carry it; a collection's day (C, P): at its item's bank */
     ABO_BAD_RECORD = 50,     /* statements: a record or row is missing, cut short, of another type, or a movement before any head */
     ABO_BAD_VALUE = 51,      /* statements: a field is not its digits, sign or code, or in writing passes its digits */
     ABO_BAD_TURNOVER = 52,   /* statements: a turnover is not what the statement's movements add up to */

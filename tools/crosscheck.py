@@ -57,6 +57,12 @@ DATES = [b"020118", b"20180102", b"311218", b"010119", b"020119", b"311217", b"2
          b"20180132", b"200102"]
 BANKS = [b"03000558", b"0781000558", b"0181000558", b"00000558", b"1081000558", b"981000558", b"0281000558", b"0300055",
          b"03000558x", b"00003000558"]
+# on C and P collections are judged one by one: for a today, days at and beside the ends of those that they may be due on
+COLLECTS = (3, 5)
+TERMS = {20180101: [20180102, 20180101, 20180201, 20180202, 20171231], 20180131: [20180228, 20180301, 20180131],
+         20240131: [20240229, 20240301], 20180228: [20180328, 20180329, 20180331], 20180331: [20180430, 20180501],
+         20181231: [20190131, 20190201, 20181231], 20991231: [20991231, 20991230]}
+TERM_BANKS = [300, 800]
 SYMBOLS = [b"42", b"0042", b"0", b"12345678901", b"", b"x"]
 TAILS = [b"", b" 17", b" 17 AV:led", b" AV:led", b" 17 led", b" ", b" 17 ", b" 12345678901", b"  led", b" 0  ", b"  a|b",
          b" 17 AV:a|b|c|d", b" 17 AV:a|b|c|d|e", b" 1 AV:" + b"x" * 36, b" 1 AV: NP:Jan", b" 1 NP:Jan",
@@ -68,6 +74,18 @@ NO_PAYER = {1: [b"", b"0 "], 2: [b" "], 3: [b""], 4: [b" ", b"00-0 "], 5: [b""]}
 ENDS = [b"\n", b"\r\n", b"\r"]
 
 
+def short(day):
+    return b"%02d%02d%02d" % (day % 100, day // 100 % 100, day // 10000 % 100)
+
+
+def draw_term(rnd, sheet):
+    """today, and days of collections for it; mostly none of these"""
+    if sheet not in COLLECTS or rnd.random() < 0.6:
+        return 20180101, []
+    today = rnd.choice(list(TERMS))
+    return today, TERMS[today]
+
+
 class Files:
     def __init__(self, rnd):
         self.rnd = rnd
@@ -76,18 +94,20 @@ class Files:
         """one of the usual pieces, seldom another"""
         return self.rnd.choice(pieces[:usual] if self.rnd.random() < self.good else pieces)
 
-    def item(self, sheet, single):
+    def item(self, sheet, single, term):
         payer = self.one(ACCOUNTS) + b" " if single else b""
+        bank = self.one([b"%04d0558" % n for n in TERM_BANKS] + BANKS, len(TERM_BANKS)) if term else self.one(BANKS)
         tail = self.rnd.choice(USUAL_TAILS[sheet]) if self.rnd.random() < self.good else self.rnd.choice(TAILS)
-        return payer + b" ".join([self.one(ACCOUNTS, 5), self.one(AMOUNTS), self.one(SYMBOLS), self.one(BANKS)]) + tail
+        return payer + b" ".join([self.one(ACCOUNTS, 5), self.one(AMOUNTS), self.one(SYMBOLS), bank]) + tail
 
-    def group(self, sheet):
+    def group(self, sheet, term):
         single = self.rnd.random() < 0.4
         count = self.rnd.choice([1, 1, 2])
         payer = self.rnd.choice(NO_PAYER[sheet]) if single else self.one(ACCOUNTS) + b" "
         total = self.one([b"%d" % (5001 * count)] + AMOUNTS)
-        lines = [b"2 " + payer + total + b" " + self.one(DATES)]
-        lines += [self.item(sheet, single) for _ in range(count)]
+        date = self.one([short(day) for day in term] + DATES, len(term)) if term else self.one(DATES)
+        lines = [b"2 " + payer + total + b" " + date]
+        lines += [self.item(sheet, single, term) for _ in range(count)]
         return lines + [self.one([b"3 +", b"3+", b"3 ", b"3 x", b"3+x", b"3 + ", b"3", b""])]
 
     def first(self):
@@ -99,15 +119,16 @@ class Files:
             return HEAD[:at] + self.rnd.choice([b"0", b"9", b" ", b"\x01", b"A"]) + HEAD[at + 1:]
         return HEAD
 
-    def file(self, sheet):
+    def file(self, sheet, term):
+        """with a term, of collections due on one of its days"""
         self.good = self.rnd.choice([1.0, 0.97, 0.9, 0.8])
         lines = [self.first()]
         for i in range(self.rnd.choice([1, 1, 1, 2])):
-            kind = self.one([b"1501", b"1502", b"1505"])
+            kind = self.one([b"1502" if term else b"1501", b"1502", b"1501", b"1505"])
             number = self.one([b"%03d000" % (i + 1), b"001000", b"950000", b"000000", b"00100", b"001500"])
             lines.append(b" ".join([b"1", kind, number, self.one([BANK[sheet], b"0300", b"08100", b"abcd"])]))
             for _ in range(self.rnd.choice([1, 1, 2])):
-                lines += self.group(sheet)
+                lines += self.group(sheet, term)
             lines.append(self.one([b"5 +", b"5+", b"5 ", b"5x", b"5 ++"]))
         if self.rnd.random() < 0.05:
             lines.pop(self.rnd.randrange(len(lines)))
@@ -153,8 +174,9 @@ class Batches:
     def row(*words):
         return struct.pack("<24Q", *(list(words) + [0] * (24 - len(words))))
 
-    def item(self, sheet, single):
-        words = [self.one([3, 1, 2, 4]), *self.account(not single), *self.account(False), self.one([300, 0, 1, 9999, 10000]),
+    def item(self, sheet, single, term):
+        bank = self.rnd.choice(TERM_BANKS) if term else 300
+        words = [self.one([3, 1, 2, 4]), *self.account(not single), *self.account(False), self.one([bank, 0, 1, 9999, 10000]),
                  self.one([5001, 0, 10 ** 12 - 1, 10 ** 12, 10 ** 14 - 1, 10 ** 14, LAST]), self.one([42, 10 ** 10, 0]),
                  self.one([17, 0, 10 ** 10, 5]), self.one([558, 10 ** 4, 9999]), self.one([5, 2, 3, 9, 10, 7])]
         for part in range(4):
@@ -162,18 +184,19 @@ class Batches:
         words += self.span([(0, 0), (0, 3)] if sheet == 3 else [(0, 0)])
         return self.row(*(words + [self.rnd.choice([0, 5])] * 3))
 
-    def rows(self, sheet):
+    def rows(self, sheet, term):
         self.good = self.rnd.choice([1.0, 0.99, 0.97, 0.9])
         rows = b""
         for i in range(self.rnd.choice([1, 1, 2])):
-            rows += self.row(self.one([1, 0, 2, 3, 7]), self.one([1501, 1502, 1504, 1505, 1500]),
+            rows += self.row(self.one([1, 0, 2, 3, 7]), self.one([1502 if term else 1501, 1502, 1504, 1505, 1500]),
                              self.one([1000 * (i + 1), 0, 999999, 1000000, 1999]))
             for _ in range(self.rnd.choice([1, 1, 2])):
                 payer = self.account(self.rnd.random() < 0.4)
-                date = self.one([20180102, 20180101, 20181231, 20190101, 20190102, 20171231, 20180229, 0])
+                due = self.rnd.choice(term) if term else 20180102
+                date = self.one([due, 20180101, 20181231, 20190101, 20190102, 20171231, 20180229, 0])
                 rows += self.row(self.one([2, 1, 3]), date, *payer)
                 for _ in range(self.rnd.choice([1, 1, 2]) if self.rnd.random() < self.good else 0):
-                    rows += self.item(sheet, payer == (0, 0))
+                    rows += self.item(sheet, payer == (0, 0), term)
         if self.rnd.random() < 0.05:
             rows = rows[:-self.rnd.randrange(1, 300)]
         return rows if self.rnd.random() < 0.97 else b""
@@ -206,8 +229,9 @@ def file_cases(lib, rnd, count):
     make = Files(rnd)
     for _ in range(count):
         sheet = rnd.randrange(1, LAST_SHEET + 1) if rnd.random() < 0.97 else rnd.choice([0, LAST_SHEET + 1, 2 ** 63])
-        text = make.file(sheet if sheet in BANK else 3)
-        today = 20180101 if rnd.random() < 0.97 else rnd.choice([20171231, 20180230, 0])
+        day, term = draw_term(rnd, sheet)
+        text = make.file(sheet if sheet in BANK else 3, term)
+        today = day if rnd.random() < 0.97 else rnd.choice([20171231, 20180230, 0])
         room = rnd.choice([40, 40, 40, 3])
         lent = ctypes.create_string_buffer(ROW * room)
         a = lib.peer_read(text, len(text), sheet, today, lent, ROW * room)
@@ -225,9 +249,10 @@ def batch_cases(lib, rnd, count):
     make = Batches(rnd)
     for _ in range(count):
         sheet = rnd.randrange(1, LAST_SHEET + 1) if rnd.random() < 0.97 else rnd.choice([0, LAST_SHEET + 1])
-        rows = make.rows(sheet)
+        day, term = draw_term(rnd, sheet)
+        rows = make.rows(sheet, term)
         h = make.header()
-        today = 20180101 if rnd.random() < 0.97 else rnd.choice([20180230, 0])
+        today = day if rnd.random() < 0.97 else rnd.choice([20180230, 0])
         room = rnd.choice([4096, 4096, 4096, 10, 0])
         out = ctypes.create_string_buffer(room)
         a = lib.peer_write(rows, len(rows), TEXTS, len(TEXTS), h[0], h[1], len(h[1]), h[2], h[3], h[4], sheet, today, out, room)

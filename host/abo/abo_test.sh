@@ -200,6 +200,23 @@ says C "$c" "$g" "$much" "$i" '3 +' \
     "refused at line 3, column 6, byte 29: the sum of the group's items has more than 14 digits (10).\n  $g\n       ^"
 says K "$k" '2 19 1 300218' \
     'refused at line 3, column 8, byte 85: the day is not real, or not among the days that the sheet takes (11).\n  2 19 1 300218\n         ^'
+# a collection's day is told at its item's bank, and the group's line in a note
+d='1 1502 000000 0300'
+from_own='a collection from bank 0300 may be due from today to one month ahead, and its group is not (11).'
+from_other='a collection from another bank than 0300 may be due from tomorrow to one month ahead, and its group is not (11).'
+says C "$d" "$g" '19 1 0 08000558' "refused at line 4, column 8, byte 45: $from_other\n  19 1 0 08000558\n         ^
+note: its group is due 2018-01-01, by line 3; the file was judged on 2018-01-01."
+says P "$d" "$g" "$i" '19 1 0 0008000558 17' "refused at line 5, column 8, byte 115: $from_other\n  19 1 0 0008000558 17\n         ^
+note: its group is due 2018-01-01, by line 3; the file was judged on 2018-01-01."
+says C "$d\r\n2 19 1 20180202\r\n$i\r" "refused at line 4, column 8, byte 49: $from_own\n  $i\n         ^
+note: its group is due 2018-02-02, by line 3; the file was judged on 2018-01-01."
+says P "$d" "$g" "$i" '3 +' '2 1 311217' '19 19 1 0 0003000558' \
+    "refused at line 7, column 11, byte 133: $from_own\n  19 19 1 0 0003000558\n            ^
+note: its group is due 2017-12-31, by line 6; the file was judged on 2018-01-01."
+says C "$d" '2 19 1 290218' \
+    'refused at line 3, column 8, byte 31: the day is not real, or not among the days that the sheet takes (11).\n  2 19 1 290218\n         ^'
+says C "$d" '2 19 1 010119' '19 1 0 00000558' \
+    "refused at line 4, column 8, byte 45: the payee's bank is 0000 (12).\n  19 1 0 00000558\n         ^"
 says C "$c" "$g" '19 1 0 00000558' \
     "refused at line 4, column 8, byte 45: the payee's bank is 0000 (12).\n  19 1 0 00000558\n         ^"
 says C "$c" "$g" '19 1 0 103000558' \

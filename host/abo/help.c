@@ -40,6 +40,9 @@ static const char rest[] =
     "refusal to standard output, as --check does, rewrite, show and statement to standard error; with several files each begins NAME:LINE:COLUMN. The number at\n"
     "its end is the library's.\n"
     "\n"
+    "On C and P a collection (kind 1502) is due from today, if its bank is 0300, or from tomorrow, if it is any other, to one month ahead.\n"
+    "Each item is judged: the refusal stands at its bank, and a note says the group's day and its line.\n"
+    "\n"
     "The exit status is 0 if each file is accepted, with warnings or without; 1 if one is refused, has warnings with --strict, or\n"
     "has warnings and is to be rewritten without --accept-warnings; 2 if the command line is wrong or something cannot be read or\n"
     "written.\n";

@@ -14,6 +14,7 @@
 #include "../call/call_made.h"
 #include "../call/call_peer.h"
 #include "../call/show.h"
+#include "../generate/collections.h"
 #include "../generate/damage.h"
 #include "../generate/draw_draft.h"
 #include "../generate/generate.h"
@@ -151,7 +152,7 @@ static void wild_arguments(struct call *c)
     if (one_in(&dice, 6))
         *number = wild_number(&dice, *number);
     else if (one_in(&dice, 10))
-        c->sheet = between(&dice, K, E);
+        c->sheet = between(&dice, K, LAST_SHEET);
 }
 
 static void attack_draft(const char *what, const struct draft *draft)
@@ -370,6 +371,23 @@ static void attack_bulks(void)
     text_free(&made.file);
 }
 
+/* About both ends of the days on which a collection may be due, on todays of
+   every number of a month. */
+static void attack_collections(void)
+{
+    enum { STEP = 499 }; /* a prime, and so no whole months or years */
+    static struct made made;
+    static struct draft draft;
+    for (size_t today = 0; today < DAYS; today += STEP)
+        for (unsigned which = 0; which < COLLECTION_CASES; which++) {
+            unsigned sheet = one_in(&dice, 2) ? C : P;
+            collection_file(&made, sheet, today, which);
+            attack_made("a collection", &made, false);
+            collection_draft(&draft, sheet, today, which);
+            attack_draft("a collection's rows", &draft);
+        }
+}
+
 /* No number may come that the call cannot give, and with enough rounds every
    one that it can give must have come. */
 static void report(struct seeds seeds)
@@ -395,6 +413,7 @@ int main(int argc, char **argv)
     catch_crashes();
     dice.state = round_seed = seeds.first;
     attack_bulks();
+    attack_collections();
     for (uint64_t i = 0; i < seeds.count; i++) {
         round_seed = seeds.first + i;
         dice.state = round_seed;

@@ -9,9 +9,9 @@
 
 /* Tells an answer of abo_read that is neither 0 nor 16, as
        refused at line 2, column 15, byte 74: the payer's bank is not the sheet's (8).
-   With `name` not NULL, the sentence begins with it as NAME:LINE:COLUMN. */
+   With `name` not NULL, the sentence begins with it as NAME:LINE:COLUMN.  `today` is the day that the file was judged on. */
 void print_refusal(FILE *to, const char *name, const struct input *file,
-                   uint64_t sheet, const struct abo_answer *answer);
+                   uint64_t sheet, uint64_t today, const struct abo_answer *answer);
 
 /* How many message parts and names of the rows look like UTF-8; they lie in the file that was read. */
 size_t utf8_texts(const union abo_row *rows, size_t count, const uint8_t *file);

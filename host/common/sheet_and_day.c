@@ -1,6 +1,7 @@
 #define _POSIX_C_SOURCE 200809L /* for localtime_r and strcasecmp */
 #include "sheet_and_day.h"
 
+#include <inttypes.h>
 #include <stdbool.h>
 #include <string.h>
 #include <strings.h>
@@ -84,4 +85,9 @@ uint64_t day_named(const char *word)
     if (year_first(word, &year, &month, &day) || day_first(word, &year, &month, &day) || digits_alone(word, &year, &month, &day))
         return year * 10000 + month * 100 + day;
     return 0;
+}
+
+void put_day(FILE *to, uint64_t day)
+{
+    fprintf(to, "%04" PRIu64 "-%02" PRIu64 "-%02" PRIu64, day / 10000, day / 100 % 100, day % 100);
 }

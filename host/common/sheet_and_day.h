@@ -12,6 +12,9 @@ uint64_t sheet_named(const char *word);
    zone; as YYYYMMDD.  0 if it is spelled in no such way.  Whether it is a real day is for the library to say. */
 uint64_t day_named(const char *word);
 
+/* A day of YYYYMMDD as 2026-11-15. */
+void put_day(FILE *to, uint64_t day);
+
 /* How sheets and days are spelled, for a sentence that says what is wanted. */
 extern const char sheets_are[], days_are[];
 

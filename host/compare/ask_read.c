@@ -8,10 +8,12 @@
 #include "../generate/words.h"
 
 #include <stdio.h>
+#include <string.h>
 
 static struct fence fence;
 static struct room ours, theirs;
 unsigned long read_counts[LAST_SHEET + 1][READ_NUMBERS];
+unsigned long each_counts[LAST_SHEET + 1][EACH_ANSWERS];
 
 /* One call: lent bytes, what they were copied from, the other arguments. */
 struct ask {
@@ -112,6 +114,35 @@ static struct abo_answer ask_both(const struct ask *q)
     return p;
 }
 
+static bool is_group(const struct ask *q, uint64_t line)
+{
+    struct abo_found f = abo_line(q->original, q->len, line);
+    return f.len > 1 && memcmp(q->original + f.at, "2 ", 2) == 0;
+}
+
+/* The rows that were read have an account file of such a kind. */
+static bool has_each(const struct ask *q, const struct abo_answer *a)
+{
+    for (size_t row = 0; row < (size_t)a->rows; row++)
+        if (word_of(theirs.bytes, row, ABO_FIELD_ROW) == ABO_ROW_FILE &&
+            judges_each((unsigned)q->sheet,
+                        word_of(theirs.bytes, row, ABO_FILE_KIND)))
+            return true;
+    return false;
+}
+
+/* A day is refused in the first line, in a group's, or in an item's. */
+static void count_each(const struct ask *q, const struct abo_answer *a)
+{
+    if (q->sheet > LAST_SHEET)
+        return;
+    unsigned long *counts = each_counts[q->sheet];
+    if (a->number == ABO_ACCEPTED)
+        counts[EACH_ACCEPTED] += has_each(q, a);
+    else if (a->number == ABO_BAD_DAY && a->line > 1 && !is_group(q, a->line))
+        counts[is_group(q, a->line - 1) ? EACH_FIRST : EACH_LATER]++;
+}
+
 void compare_file(const char *what, uint64_t seed, const struct made *m)
 {
     struct dice d = {~seed};
@@ -121,6 +152,7 @@ void compare_file(const char *what, uint64_t seed, const struct made *m)
     struct abo_answer first = ask_both(&q);
     q.no_pointer = false;
     if (first.number != 16) {
+        count_each(&q, &first);
         q.room = below(&d, 1000);
         ask_both(&q);
         return;
@@ -130,15 +162,18 @@ void compare_file(const char *what, uint64_t seed, const struct made *m)
     size_t rooms[3] = {exact};
     rooms[1] = PICK(&d, less);
     rooms[2] = exact + 1 + below(&d, 2 * ABO_ROW_BYTES);
+    struct abo_answer last = first;
     for (size_t i = 0; i < COUNT_OF(rooms); i++) {
         q.room = rooms[i];
-        ask_both(&q);
+        last = ask_both(&q);
     }
+    count_each(&q, &last);
 }
 
-void compare_call(const char *what, const uint8_t *file, size_t len,
-                  uint64_t sheet, uint64_t today, size_t room)
+struct abo_answer
+compare_call(const char *what, const uint8_t *file, size_t len, uint64_t sheet,
+             uint64_t today, size_t room)
 {
     struct ask q = {what, 0, file, file, len, sheet, today, room, file == NULL};
-    ask_both(&q);
+    return ask_both(&q);
 }

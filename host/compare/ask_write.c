@@ -171,6 +171,13 @@ void compare_draft(const char *what, uint64_t seed, const struct draft *draft)
     }
 }
 
+struct abo_written compare_once(const char *what, const struct draft *d,
+                                size_t room)
+{
+    struct ask q = {what, 0, d, d->rows.data, d->texts.data, d->name, room, false};
+    return ask_both(&q);
+}
+
 void compare_nothing(uint64_t sheet, uint64_t today)
 {
     struct draft draft = {.sheet = sheet, .today = today};

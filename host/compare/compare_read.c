@@ -5,8 +5,10 @@
  *   compare_read [FILES [SEED [STEP]]]     as seeds.h says
  */
 #include <stdio.h>
+#include <string.h>
 
 #include "../call/show.h"
+#include "../generate/collections.h"
 #include "../generate/corners.h"
 #include "../generate/dice.h"
 #include "../generate/large.h"
@@ -47,6 +49,41 @@ static void compare_pairs(void)
         for (unsigned which = 0; which < PARTNERS; which++) {
             make_pair(&made, first, partner_of(first, which));
             compare_file("pair of numbers", first, &made);
+        }
+    text_free(&made.file);
+}
+
+/* A collection that is taken has a day that the other kinds have too, so that
+   nothing is taken of it that was not when it had their days: as a payment it
+   is accepted, and warned of nothing. */
+static void compare_as_payment(struct made *made)
+{
+    uint8_t *second = memchr(made->file.data, '\n', made->file.len);
+    second[sizeof "1 150"] = '1';
+    struct abo_answer a =
+        compare_call("collection as a payment", made->file.data, made->file.len,
+                     made->sheet, made->today, 3 * ABO_ROW_BYTES);
+    check(a.number == ABO_ACCEPTED && a.rows == 3 && a.warnings == 0,
+          "a collection is taken on a day on which a payment is not");
+}
+
+/* Every today, with the days about both ends of those on which a collection may
+   be due, on C and P in turn. */
+static void compare_collections(struct seeds seeds)
+{
+    struct made made = {0};
+    for (size_t today = first_step(seeds, 0); today < DAYS; today += seeds.step)
+        for (unsigned which = 0; which < COLLECTION_CASES; which++) {
+            collection_file(&made, today / seeds.step % 2 == 0 ? C : P, today,
+                            which);
+            struct abo_answer a =
+                compare_call("collection", made.file.data, made.file.len,
+                             made.sheet, made.today, 3 * ABO_ROW_BYTES);
+            check(a.number == (collection_taken(today, which) ? ABO_ACCEPTED
+                                                              : ABO_BAD_DAY),
+                  "a collection is not judged by its day and bank");
+            if (a.number == ABO_ACCEPTED)
+                compare_as_payment(&made);
         }
     text_free(&made.file);
 }
@@ -107,6 +144,27 @@ static bool can_come(unsigned sheet, unsigned number)
     return number == 8 ? sheet != C : number == 9 ? sheet == K : true;
 }
 
+/* A day that is judged at each item is refused at the first one and at later
+   ones, and taken. */
+static void report_each(bool tested)
+{
+    static const char *const names[EACH_ANSWERS] = {
+        "files of collections accepted", "11 at a group's first item",
+        "11 at a later item"};
+    for (unsigned i = 0; i < EACH_ANSWERS; i++) {
+        printf("%s:", names[i]);
+        for (unsigned sheet = K; sheet <= LAST_SHEET; sheet++) {
+            unsigned long count = each_counts[sheet][i];
+            printf(" %lu", count);
+            if (tested)
+                check((count > 0) == judges_collections(sheet),
+                      "a day that is judged at each item was not taken, or not "
+                      "refused at one, or on another sheet it was");
+        }
+        printf("\n");
+    }
+}
+
 static void report(struct seeds seeds)
 {
     bool tested = are_enough(seeds, ENOUGH);
@@ -122,6 +180,7 @@ static void report(struct seeds seeds)
                 printf("failed: number %u never came on sheet %u\n", number,
                        sheet);
     }
+    report_each(tested);
 }
 
 int main(int argc, char **argv)
@@ -133,5 +192,6 @@ int main(int argc, char **argv)
     compare_pairs();
     compare_odd_calls();
     report(seeds);
+    compare_collections(seeds); /* they would hide how often the others came */
     return last_line();
 }

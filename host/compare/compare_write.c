@@ -9,6 +9,7 @@
 
 #include "../../peer/peer.h"
 #include "../call/show.h"
+#include "../generate/collections.h"
 #include "../generate/dice.h"
 #include "../generate/draw_draft.h"
 #include "../generate/large.h"
@@ -114,6 +115,24 @@ static void compare_pairs(void)
     text_free(&made.file);
 }
 
+/* As compare_read.c does with files. */
+static void compare_collections(struct seeds seeds)
+{
+    struct draft d = {0};
+    for (size_t today = first_step(seeds, 0); today < DAYS; today += seeds.step)
+        for (unsigned which = 0; which < COLLECTION_CASES; which++) {
+            collection_draft(&d, today / seeds.step % 2 == 0 ? C : P, today,
+                             which);
+            struct abo_written w = compare_once("collection", &d, 0);
+            check(collection_taken(today, which)
+                      ? w.number == ABO_NO_ROOM
+                      : w.number == ABO_NOT_CARRIED && w.row == 3 &&
+                            w.field == ABO_ITEM_BANK,
+                  "a collection is not judged by its day and bank");
+        }
+    free_draft(&d);
+}
+
 /* Sheets and days over all 64 bits, and calls without a pointer. */
 static void compare_odd_calls(void)
 {
@@ -128,7 +147,7 @@ static void compare_odd_calls(void)
         compare_draft("odd call", i, &draft);
     }
     free_draft(&draft);
-    for (uint64_t sheet = 0; sheet <= 5; sheet++)
+    for (uint64_t sheet = 0; sheet <= LAST_SHEET + 1; sheet++)
         compare_nothing(sheet, 20180101);
 }
 
@@ -142,7 +161,7 @@ static void report(struct seeds seeds)
     static const uint32_t wanted[2][WRITE_THINGS] = {
         /* a bit for each field */
         {0x3e, 0x7, 0x7, 0xaafeb, 0x1},
-        {0x20, 0x6, 0x2, 0xaac41, 0x0},
+        {0x20, 0x6, 0x2, 0xaac61, 0x0},
     };
     bool tested = are_enough(seeds, ENOUGH);
     for (size_t i = 0; i < COUNT_OF(numbers); i++) {
@@ -175,5 +194,6 @@ int main(int argc, char **argv)
     compare_odd_calls();
     round_trips(seeds.count / 2, seeds.first);
     report(seeds);
+    compare_collections(seeds); /* they would hide how often the others came */
     return last_line();
 }

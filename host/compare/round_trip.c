@@ -100,15 +100,21 @@ static bool is_tidy(const struct reading *r)
 }
 
 /* A canonical file warns of nothing but past days on C and P, which are the
-   batch's own. */
+   batch's own.  A past day that is judged at each item is none that is read. */
 static uint64_t due_warnings(const struct reading *r, uint64_t sheet,
                              uint64_t today)
 {
     uint64_t warnings = 0;
+    bool each = false;
     for (size_t row = 0;
-         warns_of_past((unsigned)sheet) && row < (size_t)r->answer.rows; row++)
-        warnings += word_of(r->rows, row, 0) == ABO_ROW_GROUP &&
+         warns_of_past((unsigned)sheet) && row < (size_t)r->answer.rows; row++) {
+        uint64_t kind = word_of(r->rows, row, ABO_FIELD_ROW);
+        if (kind == ABO_ROW_FILE)
+            each = judges_each((unsigned)sheet,
+                               word_of(r->rows, row, ABO_FILE_KIND));
+        warnings += kind == ABO_ROW_GROUP && !each &&
                     word_of(r->rows, row, ABO_GROUP_DUE) < today;
+    }
     return warnings;
 }
 

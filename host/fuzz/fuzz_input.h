@@ -4,7 +4,7 @@
  *          bits: 1 slices lie in front of the page behind them, 2 the texts
  *          run on over the rows, 32 a line is found and nothing explained, 64
  *          a statement is read or written and no batch
- *   1      the sheet, modulo 6: 0 and 5 are none
+ *   1      the sheet, modulo 7: 0 and 6 are none
  *   2, 3   today: a place in the list of days, or past these a number; or the
  *          line's number
  *   4      the room: 0 is none, else 128 more than what is wanted; or, if not

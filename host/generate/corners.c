@@ -49,7 +49,7 @@ static void put_frame(struct text *t, unsigned sheet, const char *words)
         words += 5;
     }
     if (words[0] == 'H') {
-        put_plain_file(t, sheet, 0);
+        put_plain_file(t, sheet, PAYMENTS, 0);
         text_byte(t, '\n');
         words += 4;
     }

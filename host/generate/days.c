@@ -30,3 +30,22 @@ uint64_t short_day_at(size_t place)
     uint64_t day = day_at(place);
     return day % 100 * 10000 + day / 100 % 100 * 100 + day / 10000 % 100;
 }
+
+size_t month_end(size_t place)
+{
+    while (place + 1 < DAYS && day_at(place + 1) % 100 != 1)
+        place++;
+    return place;
+}
+
+/* Counts on in the next month up to the day's own number, or as far as that
+   month goes. */
+size_t month_ahead(size_t place)
+{
+    uint64_t own = day_at(place) % 100;
+    size_t ahead = month_end(place);
+    for (uint64_t number = 1; number <= own; number++)
+        if (ahead + 1 < DAYS && day_at(ahead + 1) % 100 == number)
+            ahead++;
+    return ahead;
+}

@@ -15,4 +15,11 @@ uint64_t day_at(size_t place);
 /* The same day in six digits DDMMRR. */
 uint64_t short_day_at(size_t place);
 
+/* The last day of the month of a day. */
+size_t month_end(size_t place);
+
+/* The same day of the next month, or that month's last day if it is shorter; the
+   last day of all where the next month is none of these. */
+size_t month_ahead(size_t place);
+
 #endif

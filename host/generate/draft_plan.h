@@ -10,7 +10,7 @@
 enum part {
     AT_DATE_MADE, AT_DAY_MADE, AT_NAME_MADE, AT_CLIENT, AT_FROM, AT_TO,
     AT_ORDER, AT_ROW, AT_KIND, AT_NUMBER, AT_DUE, AT_GROUP_PAYER,
-    AT_PAYER, AT_PAYEE, AT_BANK, AT_AMOUNT, AT_VARIABLE, AT_SPECIFIC,
+    AT_PAYER, AT_PAYEE, AT_BANK, AT_TERM, AT_AMOUNT, AT_VARIABLE, AT_SPECIFIC,
     AT_CONSTANT, AT_PRIORITY, AT_TEXT, AT_LENGTH,
     ALL_PARTS
 };
@@ -23,6 +23,7 @@ struct draft_plan {
     size_t today;
     struct faults faults;
     bool dirty;       /* words that a row does not use hold something */
+    bool each, due_today; /* as in plan.h */
 };
 
 /* Shall the part in hand be wrong? */

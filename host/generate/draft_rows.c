@@ -48,9 +48,10 @@ void put_account_file(struct draft_plan *p, unsigned place)
     uint64_t words[3] = {1};
     uint64_t last = 1500 + kinds_of(p->sheet);
     uint64_t three = p->draft->from + place;
-    words[1] = between(&p->dice, 1501, last);
-    words[1] = limited(p, AT_KIND, words[1], 1501,
+    words[1] = draw_kind(&p->dice, p->sheet);
+    words[1] = limited(p, AT_KIND, words[1], PAYMENTS,
                        one_in(&p->dice, 2) ? last : 1504);
+    p->each = judges_each(p->sheet, words[1]);
     if (p->sheet != K) {
         three = below(&p->dice, 1000);
     } else if (spoils(p, AT_NUMBER)) { /* came before, or not in the interval */
@@ -70,15 +71,17 @@ bool put_group_row(struct draft_plan *p)
                                      19991231, 21000101, 21000229, 20180132,
                                      UINT64_MAX, 180102, 20118};
     uint64_t words[4] = {2};
-    size_t first, last;
-    bool single = one_in(&p->dice, 2);
-    due_days(p->sheet, p->today, &first, &last);
-    words[1] = day_at(between(&p->dice, first, last));
+    struct dice *d = &p->dice;
+    bool single = one_in(d, 2);
+    words[1] = day_at(p->each && aims_at(&p->faults, AT_TERM)
+                          ? p->today
+                          : draw_due_day(d, p->sheet, p->each, p->today));
     if (spoils(p, AT_DUE))
-        words[1] = one_in(&p->dice, 2)
-                       ? day_at(draw_near_day(&p->dice, p->sheet, p->today))
-                   : one_in(&p->dice, 2) ? PICK(&p->dice, wrong)
-                                         : words[1] + (UINT64_C(1) << 32);
+        words[1] = !one_in(d, 3)
+                       ? day_at(draw_near_day(d, p->sheet, p->each, p->today))
+                   : one_in(d, 2) ? PICK(d, wrong)
+                                  : words[1] + (UINT64_C(1) << 32);
+    p->due_today = p->each && words[1] == day_at(p->today);
     draw_account_words(p, AT_GROUP_PAYER, single, words + 2);
     put_row(p, words, 4);
     return words[2] == 0 && words[3] == 0;
@@ -100,6 +103,15 @@ static void draw_texts(struct draft_plan *p, uint64_t *words)
     }
 }
 
+/* Both kinds of banks stand in a group, unless it is due today. */
+static uint64_t draw_bank_word(struct draft_plan *p)
+{
+    if (!p->each)
+        return draw_bank(&p->dice);
+    bool own = p->due_today ? !spoils(p, AT_TERM) : one_in(&p->dice, 2);
+    return draw_own_or_other(&p->dice, p->sheet, own);
+}
+
 void put_item_row(struct draft_plan *p, bool single, uint64_t amount)
 {
     static const uint64_t symbols[] = {0, 0, 1, 9999999999, 1234567890};
@@ -107,7 +119,7 @@ void put_item_row(struct draft_plan *p, bool single, uint64_t amount)
     struct dice *d = &p->dice;
     draw_account_words(p, AT_PAYER, !single, words + 1);
     draw_account_words(p, AT_PAYEE, false, words + 3);
-    words[5] = limited(p, AT_BANK, between(d, 1, 9999), 1, 9999);
+    words[5] = limited(p, AT_BANK, draw_bank_word(p), 1, 9999);
     words[6] = limited(p, AT_AMOUNT, amount, 1, one_in(d, 2) ? most : MOST_SUM);
     words[7] = one_in(d, 2) ? PICK(d, symbols) : below(d, 10000000000);
     words[7] = limited(p, AT_VARIABLE, words[7], 0, 9999999999);

@@ -84,8 +84,9 @@ static void draw_garbage(struct text *rows, struct dice *d)
 static void draw_faults(struct draft_plan *p)
 {
     static const unsigned rates[] = {300, 100, 30};
+    static const enum part days[] = {AT_DUE, AT_TERM};
     p->faults.aim = NO_PART;
-    switch (below(&p->dice, 5)) {
+    switch (below(&p->dice, 6)) {
     case 0:
         return;
     case 1:
@@ -94,6 +95,10 @@ static void draw_faults(struct draft_plan *p)
     case 2: /* texts have the most rules */
         p->faults.aim = AT_TEXT;
         p->faults.skip = (unsigned)below(&p->dice, 12);
+        return;
+    case 3: /* and days differ by kind and bank */
+        p->faults.aim = PICK(&p->dice, days);
+        p->faults.skip = (unsigned)below(&p->dice, 4);
         return;
     default:
         p->faults.aim = (enum part)below(&p->dice, ALL_PARTS);

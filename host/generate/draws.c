@@ -88,20 +88,48 @@ uint8_t draw_name_byte(struct dice *d)
     return byte == 127 ? ' ' : byte;
 }
 
+/* One of the last four days of a month, most often of one whose next month is
+   shorter, longer, or in another year. */
+static size_t draw_end_of_month(struct dice *d)
+{
+    static const unsigned months[] = {1, 1, 1, 2, 2, 12};
+    size_t place = below(d, DAYS);
+    unsigned month = one_in(d, 4) ? (unsigned)between(d, 1, 12) : PICK(d, months);
+    while (place + 1 < DAYS && day_at(place) / 100 % 100 != month)
+        place++;
+    return month_end(place) - below(d, 4);
+}
+
 size_t draw_today(struct dice *d)
 {
     /* Both ends of the century, leap days, turns of years. */
     static const size_t edges[] = {0, 1, 59, 60, 365, 366, 6575, 8825, 36159,
                                    36160, 36161, DAYS - 2, DAYS - 1};
+    if (one_in(d, 4))
+        return draw_end_of_month(d);
     return one_in(d, 4) ? PICK(d, edges) : below(d, DAYS);
 }
 
-size_t draw_near_day(struct dice *d, unsigned sheet, size_t today)
+size_t draw_due_day(struct dice *d, unsigned sheet, bool each, size_t today)
 {
     size_t first, last;
-    due_days(sheet, today, &first, &last);
-    size_t near[] = {first, last, today}, place = PICK(d, near);
-    switch (below(d, 4)) {
+    due_days(sheet, each, today, &first, &last);
+    size_t second = first < last ? first + 1 : last;
+    size_t inside = between(d, first, last);
+    /* only of the first day banks are not judged alike */
+    size_t days[] = {first, second, last, inside, each ? first : inside};
+    return PICK(d, days);
+}
+
+/* What is judged at each item ends a month ahead, and not where that month
+   does. */
+size_t draw_near_day(struct dice *d, unsigned sheet, bool each, size_t today)
+{
+    size_t first, last;
+    due_days(sheet, each, today, &first, &last);
+    size_t near[] = {first, last, each ? month_end(last) : today};
+    size_t place = PICK(d, near);
+    switch (below(d, each ? 3 : 4)) {
     case 0:
         return place > 0 ? place - 1 : place;
     case 1:
@@ -109,6 +137,26 @@ size_t draw_near_day(struct dice *d, unsigned sheet, size_t today)
     default:
         return place;
     }
+}
+
+unsigned draw_kind(struct dice *d, unsigned sheet)
+{
+    if (judges_collections(sheet) && one_in(d, 3))
+        return COLLECTIONS;
+    return PAYMENTS + (unsigned)below(d, kinds_of(sheet));
+}
+
+uint64_t draw_bank(struct dice *d)
+{
+    static const uint64_t edges[] = {1,   3,   30,   299, 300,  301,
+                                     800, 3000, 6100, 8100, 9999};
+    return one_in(d, 4) ? PICK(d, edges) : between(d, 1, 9999);
+}
+
+uint64_t draw_own_or_other(struct dice *d, unsigned sheet, bool own)
+{
+    uint64_t bank = draw_bank(d), of_sheet = own_bank(sheet);
+    return own ? of_sheet : bank == of_sheet ? bank + 1 : bank;
 }
 
 /* A number that would be the real one if some of its bits or digits were lost,

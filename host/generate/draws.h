@@ -2,6 +2,7 @@
 #ifndef HOST_DRAWS_H
 #define HOST_DRAWS_H
 
+#include <stdbool.h>
 #include <stddef.h>
 
 #include "dice.h"
@@ -30,8 +31,22 @@ uint8_t draw_name_byte(struct dice *d);
 /* A place in the list of days. */
 size_t draw_today(struct dice *d);
 
+/* A day that may be due, often at an end of these days.  `each` is what
+   judges_each says of the account file's kind. */
+size_t draw_due_day(struct dice *d, unsigned sheet, bool each, size_t today);
+
 /* A day just inside or outside of those that may be due. */
-size_t draw_near_day(struct dice *d, unsigned sheet, size_t today);
+size_t draw_near_day(struct dice *d, unsigned sheet, bool each, size_t today);
+
+/* A kind of account file that the sheet has, often one that is judged at each
+   item. */
+unsigned draw_kind(struct dice *d, unsigned sheet);
+
+/* A payee's bank. */
+uint64_t draw_bank(struct dice *d);
+
+/* The sheet's own bank, or one that is not. */
+uint64_t draw_own_or_other(struct dice *d, unsigned sheet, bool own);
 
 /* The arguments of a call: mostly these, at times another sheet, or a number
    that is no sheet or day at all. */

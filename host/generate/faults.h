@@ -27,4 +27,10 @@ static inline bool falls_on(struct faults *f, struct dice *d, unsigned part)
     return true;
 }
 
+/* Is this the part that is aimed at, and yet to come? */
+static inline bool aims_at(const struct faults *f, unsigned part)
+{
+    return f->rate == 0 && f->aim == part;
+}
+
 #endif

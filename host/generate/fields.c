@@ -95,6 +95,16 @@ static void put_day(struct plan *p, size_t place)
         text_number(p->out, short_day_at(place), 6);
 }
 
+/* A day that is wrong is told at an item, which at times has another fault, left
+   of that place, at it or right of it. */
+static void spoil_item_too(struct plan *p)
+{
+    static const enum part parts[] = {AT_ACCOUNT, AT_AMOUNT, AT_DIGITS, AT_BANK,
+                                      AT_BANK, AT_BANK, AT_TAIL, AT_GAP};
+    if (one_in(&p->dice, 2))
+        p->faults.aim = PICK(&p->dice, parts);
+}
+
 void put_due_date(struct plan *p)
 {
     static const char *const aims[] = {
@@ -105,14 +115,25 @@ void put_due_date(struct plan *p)
         "201801021", "020118x", "x20118", "0201 18", "2-01-18", "20180102x",
         "99999999", "00000000", "000000", "311299", "010100",
     };
-    size_t start = p->out->len, first, last;
-    due_days(p->sheet, p->today, &first, &last);
-    size_t days[] = {first, last, between(&p->dice, first, last)};
-    bool wrong = spoils(p, AT_DATE), near = wrong && one_in(&p->dice, 2);
-    put_day(p, near ? draw_near_day(&p->dice, p->sheet, p->today)
-                    : PICK(&p->dice, days));
+    size_t start = p->out->len;
+    bool wrong = spoils(p, AT_DATE);
+    bool near = wrong && !one_in(&p->dice, p->each ? 4 : 2);
+    size_t day = near ? draw_near_day(&p->dice, p->sheet, p->each, p->today)
+                 : p->each && aims_at(&p->faults, AT_TERM)
+                     ? p->today
+                     : draw_due_day(&p->dice, p->sheet, p->each, p->today);
+    put_day(p, day);
+    p->due_today = p->each && day == p->today;
     if (wrong && !near)
         SPOIL(p, start, aims);
+    if (wrong && p->each)
+        spoil_item_too(p);
+}
+
+/* Both kinds of banks stand in a group, unless it is due today. */
+static bool is_own(struct plan *p)
+{
+    return p->due_today ? !spoils(p, AT_TERM) : one_in(&p->dice, 2);
 }
 
 void put_bank(struct plan *p)
@@ -124,15 +145,14 @@ void put_bank(struct plan *p)
         "00010000", "99999999", "0099999999", "", "03000558x", "x3000558",
         "0300-558", "18446744073709551617",
     };
-    static const unsigned edges[] = {1, 9999, 300, 8100, 800, 6100};
     size_t start = p->out->len, front = below(&p->dice, 3);
     bool wrong = spoils(p, AT_BANK), limit = wrong && one_in(&p->dice, 2);
     /* K's ninth digit is the priority, elsewhere it is 0. */
     bool any_ninth = p->sheet == K || (limit && one_in(&p->dice, 2));
     uint64_t tenth = limit && one_in(&p->dice, 4) ? below(&p->dice, 10) : 0;
     uint64_t ninth = any_ninth ? below(&p->dice, 10) : 0;
-    uint64_t bank = one_in(&p->dice, 4) ? PICK(&p->dice, edges)
-                                        : between(&p->dice, 1, 9999);
+    uint64_t bank = p->each ? draw_own_or_other(&p->dice, p->sheet, is_own(p))
+                            : draw_bank(&p->dice);
     if (limit && one_in(&p->dice, 2))
         bank = 0;
     if (front == 2)

@@ -88,16 +88,22 @@ static void drop_last_end(struct text *t)
         t->len--;
 }
 
-/* Two files in five are right, two have one wrong part, one has some. */
+/* Two files in six are right, two have one wrong part, one a wrong day, one has
+   some wrong parts. */
 static void draw_faults(struct plan *p)
 {
     static const unsigned rates[] = {400, 150, 60, 25};
     static const enum part rich[] = {AT_ACCOUNT, AT_AMOUNT, AT_BANK, AT_DATE,
                                      AT_TOTAL, AT_TAIL};
+    static const enum part days[] = {AT_DATE, AT_TERM};
     p->faults.aim = NO_PART;
-    switch (below(&p->dice, 5)) {
+    switch (below(&p->dice, 6)) {
     case 0:
     case 1:
+        return;
+    case 4: /* which differs by kind and bank */
+        p->faults.aim = PICK(&p->dice, days);
+        p->faults.skip = (unsigned)below(&p->dice, 4);
         return;
     case 2:
     case 3:

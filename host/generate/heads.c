@@ -85,7 +85,9 @@ static void put_kind(struct plan *p)
                                        "1505", "0000", "9999", "01501", "150",
                                        "15010", "150x", "", "1401", "2501"};
     size_t start = p->out->len;
-    text_number(p->out, 1501 + below(&p->dice, kinds_of(p->sheet)), 4);
+    unsigned kind = draw_kind(&p->dice, p->sheet);
+    p->each = judges_each(p->sheet, kind);
+    text_number(p->out, kind, 4);
     if (spoils(p, AT_KIND))
         SPOIL(p, start, aims);
 }

@@ -5,7 +5,7 @@
 /* All of K's numbers differ in their first three digits, up to 1,000. */
 static void put_file_head(struct text *t, unsigned sheet, uint64_t place)
 {
-    put_plain_file(t, sheet, place % 1000 * 1000);
+    put_plain_file(t, sheet, PAYMENTS, place % 1000 * 1000);
     text_byte(t, '\n');
 }
 

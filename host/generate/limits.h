@@ -4,6 +4,7 @@
 #define HOST_LIMITS_H
 
 #include <stdbool.h>
+#include <stdlib.h>
 
 #include <abo.h>
 
@@ -19,6 +20,9 @@ enum {
     P = ABO_SHEET_P,
     LAST_SHEET = P
 };
+
+/* Kinds of account files. */
+enum { PAYMENTS = 1501, COLLECTIONS = 1502 };
 
 /* The most that a group's sum may be, and an item on S and E. */
 #define MOST_SUM UINT64_C(99999999999999)
@@ -38,6 +42,12 @@ static inline const char *payer_bank(unsigned sheet)
                         : "0300";
 }
 
+/* The same as a number, as an item's bank has it. */
+static inline uint64_t own_bank(unsigned sheet)
+{
+    return strtoull(payer_bank(sheet), NULL, 10);
+}
+
 /* The kinds are 1501 and so many in all. */
 static inline unsigned kinds_of(unsigned sheet)
 {
@@ -50,10 +60,23 @@ static inline bool spells_long(unsigned sheet)
     return sheet == C || sheet == P;
 }
 
-/* A due day that is past is taken with a warning. */
+/* A due day that is past is taken with a warning, but for what
+   `judges_each` names. */
 static inline bool warns_of_past(unsigned sheet)
 {
     return sheet == C || sheet == P;
+}
+
+/* Collections have days of their own, and each item is judged by its bank. */
+static inline bool judges_collections(unsigned sheet)
+{
+    return sheet == C || sheet == P;
+}
+
+/* Is the due day of this kind judged at each item? */
+static inline bool judges_each(unsigned sheet, uint64_t kind)
+{
+    return judges_collections(sheet) && kind == COLLECTIONS;
 }
 
 /* `3+` and `5+` close too. */
@@ -68,10 +91,17 @@ static inline bool empty_payer(unsigned sheet)
     return sheet == S || sheet == E;
 }
 
-/* First and last day that may be due; days are places in the list of days. */
-static inline void due_days(unsigned sheet, size_t today, size_t *first,
-                            size_t *last)
+/* First and last day that may be due; days are places in the list of days.
+   What is judged at each item may be due on the first of them, which is today,
+   from the sheet's own bank alone. */
+static inline void due_days(unsigned sheet, bool each, size_t today,
+                            size_t *first, size_t *last)
 {
+    if (each) {
+        *first = today;
+        *last = month_ahead(today);
+        return;
+    }
     size_t ahead = sheet == K ? 364 : sheet == C || sheet == P ? 365 : DAYS;
     *first = sheet == K || sheet == S ? today : 0;
     *last = today + ahead < DAYS ? today + ahead : DAYS - 1;

@@ -13,7 +13,7 @@ enum part {
     AT_START, AT_CREATED, AT_NAME, AT_INTERVAL, AT_ORDER, AT_REST, AT_FIRST,
     AT_KIND, AT_NUMBER, AT_NUMBER_OF_K, AT_PAYER_BANK,
     AT_NO_PAYER, AT_TOTAL, AT_DATE,
-    AT_ACCOUNT, AT_AMOUNT, AT_DIGITS, AT_BANK,
+    AT_ACCOUNT, AT_AMOUNT, AT_DIGITS, AT_BANK, AT_TERM,
     AT_TAIL, AT_MESSAGE, AT_WILD, AT_PARTS, AT_LENGTH, AT_RUN,
     AT_UNCLEAN, AT_MARK,
     AT_GAP, AT_CLOSING, AT_LINE_END,
@@ -31,6 +31,9 @@ struct plan {
        its ends they are given out. */
     unsigned from, to;
     bool downward;
+    /* The account file's days are judged at each item, and the group's is today,
+       on which only the sheet's own bank may be. */
+    bool each, due_today;
 };
 
 /* Shall the part in hand be wrong? */

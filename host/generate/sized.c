@@ -20,6 +20,8 @@ struct kind {
                      uint64_t *amount);
     size_t per_group, per_file;
     bool single;
+    bool (*is_on)(unsigned sheet);
+    unsigned of; /* what its account files hold */
 };
 
 /* Lines are drawn once and then copied, so that most of what is counted is the
@@ -137,22 +139,35 @@ static void put_cut(struct text *t, struct dice *d, unsigned sheet,
     }
 }
 
+static bool is_sheet(unsigned sheet)
+{
+    return sheet >= K && sheet <= LAST_SHEET;
+}
+
+static bool cuts(unsigned sheet)
+{
+    return sheet == C;
+}
+
+/* Collections are wages but for their kind, so that nothing but what is asked of
+   their days makes them cost more. */
 static const struct kind kinds[] = {
-    {"wages", put_wage, 100, MOST_ITEMS, false},
-    {"invoices", put_invoice, 12, MOST_ITEMS, true},
-    {"shortest", put_shortest, 200, MOST_ITEMS, false},
-    {"longest", put_longest, 100, MOST_ITEMS, true},
-    {"groups", put_shortest, 1, MOST_ITEMS, false},
-    {"files", put_shortest, 1, 1, false},
-    {"cut", put_cut, 1, MOST_ITEMS, false},
+    {"wages", put_wage, 100, MOST_ITEMS, false, is_sheet, PAYMENTS},
+    {"invoices", put_invoice, 12, MOST_ITEMS, true, is_sheet, PAYMENTS},
+    {"shortest", put_shortest, 200, MOST_ITEMS, false, is_sheet, PAYMENTS},
+    {"longest", put_longest, 100, MOST_ITEMS, true, is_sheet, PAYMENTS},
+    {"groups", put_shortest, 1, MOST_ITEMS, false, is_sheet, PAYMENTS},
+    {"files", put_shortest, 1, 1, false, is_sheet, PAYMENTS},
+    {"collections", put_wage, 100, MOST_ITEMS, false, judges_collections,
+     COLLECTIONS},
+    {"cut", put_cut, 1, MOST_ITEMS, false, cuts, PAYMENTS},
 };
 
 static const struct kind *kind_of(const char *name, unsigned sheet)
 {
     for (size_t i = 0; i < COUNT_OF(kinds); i++)
-        if (strcmp(kinds[i].name, name) == 0 && sheet >= K && sheet <= LAST_SHEET)
-            return kinds[i].put_item == put_cut && sheet != C ? NULL
-                                                              : &kinds[i];
+        if (strcmp(kinds[i].name, name) == 0)
+            return kinds[i].is_on(sheet) ? &kinds[i] : NULL;
     return NULL;
 }
 
@@ -222,7 +237,7 @@ bool make_sized_file(struct sized_file *file, unsigned sheet, const char *name,
     put_plain_first(t, sheet);
     text_words(t, "\r\n");
     do {
-        put_plain_file(t, sheet, files++ * 1000);
+        put_plain_file(t, sheet, kind->of, files++ * 1000);
         text_words(t, "\r\n");
         file->rows++;
         put_groups(file, &pool, kind, sheet,

@@ -16,13 +16,15 @@ struct sized_file {
 /*
  * Makes a file of about so many bytes.  Its kind is one of
  *
- *   wages      one payer, short lines, half of them with a word
- *   invoices   each with its own payer, symbols and two parts of text
- *   shortest   items of 17 bytes
- *   longest    every field as long as it may be
- *   groups     groups of one shortest item, 99,999 in an account file
- *   files      account files of one such group
- *   cut        C alone: parts of 4,000 bytes, which are cut to 35
+ *   wages        one payer, short lines, half of them with a word
+ *   invoices     each with its own payer, symbols and two parts of text
+ *   shortest     items of 17 bytes
+ *   longest      every field as long as it may be
+ *   groups       groups of one shortest item, 99,999 in an account file
+ *   files        account files of one such group
+ *   collections  C and P alone, which judge each one's day: the lines of wages
+ *                in account files of kind 1502, due tomorrow
+ *   cut          C alone: parts of 4,000 bytes, which are cut to 35
  *
  * It ends sooner where the sheet does: at 1,000 items on S, at 1,000 account
  * files on all.  Gives back false if the sheet has no such kind.

@@ -9,6 +9,7 @@
 
 #include <abo_say.h>
 #include "../common/letters.h"
+#include "../common/sheet_and_day.h"
 #include "../common/sums.h"
 
 enum { NUMBER_ROOM = 48, PAYEE_WIDTH = 22, AMOUNT_WIDTH = 18 };
@@ -91,9 +92,8 @@ static void show_item(const struct table *t, const struct abo_item_row *item)
 static void show_group(const struct table *t,
                        const struct abo_group_row *group)
 {
-    uint64_t day = group->due;
-    fprintf(t->out, "due %04" PRIu64 "-%02" PRIu64 "-%02" PRIu64, day / 10000,
-            day / 100 % 100, day % 100);
+    fputs("due ", t->out);
+    put_day(t->out, group->due);
     if (group->payer.base != 0) {
         char payer[NUMBER_ROOM];
         account_text(payer, group->payer);

@@ -13,6 +13,7 @@
 #include "../common/letters.h"
 #include "../common/names.h"
 #include "../common/place.h"
+#include "../common/sheet_and_day.h"
 #include "../common/sums.h"
 #include "words.h"
 
@@ -192,12 +193,6 @@ static void put_value(const struct ledger *l, struct span value, bool text)
                 value.len == 1 ? "" : "s");
 }
 
-static void put_day(uint64_t day)
-{
-    fprintf(stderr, "%04" PRIu64 "-%02" PRIu64 "-%02" PRIu64, day / 10000,
-            day / 100 % 100, day % 100);
-}
-
 /* An amount that is small enough by itself is too much for its group. */
 static void tell_sum(const struct ledger *l, uint64_t row)
 {
@@ -227,6 +222,19 @@ static void tell_series(const struct ledger *l, uint64_t row)
     }
     fprintf(stderr, "; the interval is %03" PRIu64 " to %03" PRIu64,
             l->header.from, l->header.to);
+}
+
+/* A bank is refused for the day of its group, which stands in another line. */
+static void tell_group_day(const struct order *o, const struct ledger *l,
+                           uint64_t row)
+{
+    while (kind_of(l, row) == ABO_ROW_ITEM)
+        row--;
+    fprintf(stderr, "; by line %" PRIu64 " the group is due ",
+            line_number(l, ledger_span(l, row, ABO_GROUP_DUE)));
+    put_day(stderr, l->rows[row - 1].group.due);
+    fputs(", and today is ", stderr);
+    put_day(stderr, o->today);
 }
 
 /* Which byte of a text it was, and what the caret then stands under. */
@@ -263,8 +271,10 @@ static struct span tell_more(const struct order *o, const struct ledger *l,
         tell_series(l, w.row);
     if (kind == ABO_ROW_GROUP && w.field == ABO_GROUP_DUE && carried) {
         fputs("; today is ", stderr);
-        put_day(o->today);
+        put_day(stderr, o->today);
     }
+    if (kind == ABO_ROW_ITEM && w.field == ABO_ITEM_BANK && carried)
+        tell_group_day(o, l, w.row);
     if (w.row == 0 && w.field == ABO_HEADER_TO && carried)
         fprintf(stderr, ", which is %03" PRIu64, l->header.from);
     return value;
