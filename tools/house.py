@@ -7,7 +7,8 @@
   - a function has at most 40 lines without its contract, and at most one loop
   - a file of definitions or proofs has at most 400 lines
   - each file of code, definitions or proofs is laid out as `rt fmt` lays it out
-  - what an edit of must-fail/ or more-edits/ takes out stands in its file exactly once, or behind a text that does (`behind:`, more-edits/ alone)
+  - what an edit of must-fail/ or more-edits/ takes out stands in its file exactly once, or behind a text that does (`behind:`, more-edits/ alone);
+    an edit of must-fail/ has no line `more:`, which `rt must-fail` would pass over
   - what a page links to is there, and so is each path that a page, script or C file names
   - each header, program and script of host/ and bench/ says in its first lines what it holds; a source beside its header need not
   - docs/TESTING.md names each folder of host/ and each test of host/run.sh, and what it says a test is made of is there
@@ -143,6 +144,8 @@ def edits():
                 target, behind = (crate / line[6:]).read_text(), None
             if line.startswith("behind: "):
                 behind = line[8:]
+            if line.startswith("more:"):
+                check(path.parent.name == "more-edits", f"{path.relative_to(ROOT)}: `rt must-fail` passes over `more:`")
             if line.startswith("old: "):
                 found = (not behind or path.parent.name == "more-edits") and found_at(target, behind, line[5:]) >= 0
                 check(found, f"{path.relative_to(ROOT)}: what it takes out stands {target.count(line[5:])} times there: {line[5:].strip()}")
