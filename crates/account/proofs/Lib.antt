@@ -8,3 +8,4 @@ pub mod Plain
 pub mod Sound
 pub mod Back
 pub mod Doubled
+pub mod Decree

@@ -9,7 +9,7 @@ use borrow.Author.Tests.{ltb-true, leb-true, eqb-true, lt-ltb, ne-eqb, eq-eqb}
 use Rattle.base.specs.Pick.{pick}
 use Rattle.base.proofs.Cases.{by-eq, by-lt, either, pick-both, both-pick, pick-true, pick-false}
 use Rattle.paper.specs.Read.{value, fault}
-use Rattle.paper.specs.Accounts.{Account, account, nobody, weights, weighted, nonZero, accountOk, ruled, accountProper, isNobody}
+use Rattle.paper.specs.Accounts.{Account, account, nobody, rest, nonZero, accountOk, ruled, accountProper, isNobody}
 
 -- a number with no digit but 0, and one of one digit
 none : (k : ℕ) → nonZero k 0 ≡ 0
@@ -30,8 +30,8 @@ module _ (p b : ℕ) where
   pub ok-long : accountOk p b ≡ true → 10 ≤ b
   unfolding accountOk
   ok-long e =
-      let f = pick-both (eqb (weighted weights p % 11) 0) (pick (eqb (weighted weights b % 11) 0) (leb 2 (nonZero 10 b)) false) e in
-      let g = pick-both (eqb (weighted weights b % 11) 0) (leb 2 (nonZero 10 b)) (f .1) in
+      let f = pick-both (eqb (rest 10 p) 0) (pick (eqb (rest 10 b) 0) (leb 2 (nonZero 10 b)) false) e in
+      let g = pick-both (eqb (rest 10 b) 0) (leb 2 (nonZero 10 b)) (f .1) in
       by-lt b 10 (λ lt. absurd (omega (arith, one-digit 10 b lt, leb-true 2 (nonZero 10 b) (g .1)))) (λ le. le)
 
   -- what `ruled` answers

@@ -14,7 +14,7 @@ use Rattle.numeral.proofs.given.Given.{value-fault, value-same, given-value}
 use Rattle.paper.specs.Read.{value, fault}
 use Rattle.paper.specs.Bytes.{isDigit, dash, null}
 use Rattle.paper.specs.Numerals.{digitsOn, digits}
-use Rattle.paper.specs.Accounts.{Account, weighted, nonZero, accountOk, ruled, twoParts, onePart, readAccount, zeros, onlyZeros, readPayer}
+use Rattle.paper.specs.Accounts.{Account, rest, nonZero, accountOk, ruled, twoParts, onePart, readAccount, zeros, onlyZeros, readPayer}
 use Rattle.numeral.specs.Zero.{isZero}
 use Rattle.account.specs.Parts.{withBase}
 
@@ -36,7 +36,7 @@ zeros-say least most s h =
 
 -- and prefix 0, base 0 breaks the rule
 broken : ruled 0 0 ≡ fault 5
-unfolding ruled accountOk weighted nonZero pick
+unfolding ruled accountOk rest nonZero pick
 broken = refl
 
 no-base : (least : ℕ) (b : List ℕ) (a : Account) → all isZero b ≡ true → withBase least 0 b ≡ value a → ⊥

@@ -20,15 +20,14 @@ ghost use Rattle.account.specs.at.Told.{toldPayer, toldAccount};
 ghost use Rattle.account.specs.at.Numbers.{prefixAndBase};
 ghost use Rattle.numeral.specs.placed.Known.{There};
 
-// Digits that were read: their number, their sum where each weighs twice as much as the digit on its right, and the place behind them.
+// Digits that were read: their number, their sum by doubling, and the place behind them.
 struct Sums {
     pub value: u64,
     pub sum: u64,
     pub end: usize,
 }
 
-// The digits from `at` on, up to `most` of them. Each doubles the sum of those on its left, so the rule of accounts needs no division
-// for each digit.
+// The digits from `at` on, up to `most` of them: at each, twice what there is, plus the digit.
 fn sum_run(s: &[u8], at: usize, most: usize) -> Sums
     requires { ⌜ (at ≤ length (now s)) × (most ≤ 19) ⌝ }
     ensures { λ r. ⌜ (r .end ≡ at + length (run most (drop at (now (s .entry))))) × (digits 0 most (run most (drop at (now (s .entry)))) ≡ value (r .value)) × (r .sum ≡ doubled 19 (r .value)) ⌝ }
@@ -47,7 +46,7 @@ fn sum_run(s: &[u8], at: usize, most: usize) -> Sums
             };
         }
         v = v * 10 + d;
-        sum = sum * 2 + d;
+        sum = crate::next_digit(sum, d);
         i += 1;
     }
     Sums {

@@ -3,7 +3,7 @@ pub mod at;
 
 ghost use mathlib.Core.Path.{_≡_};
 ghost use mathlib.Core.Bool.{false};
-ghost use Prim.Native.Nat.{_+_, _≤_, _<_};
+ghost use Prim.Native.Nat.{_+_, _*_, _≤_, _<_};
 ghost use lib.ListN.{length};
 ghost use Rattle.base.specs.Pick.{pick};
 ghost use Rattle.base.specs.Put.{Wrote};
@@ -12,48 +12,62 @@ ghost use Rattle.paper.specs.Accounts.{account, accountOk, accountProper, isNob
 ghost use Rattle.numeral.specs.Zero.{isZero};
 ghost use Rattle.account.specs.Doubled.{doubled, sumsOk};
 
-// The digits of n, each weighted twice as much as the digit on its right: two digits,
-fn pair_sum(n: u64) -> u64
-    requires { ⌜ n < 100 ⌝ }
-    ensures { λ r. ⌜ (r ≡ doubled 2 n) × (r ≤ n) ⌝ }
+// The rule's first two steps, at each digit from the left: twice what there is, plus the digit. The third, the rest by 11, is taken once,
+// at the end (`sums_ok`), which comes to the same.
+pub fn next_digit(sum: u64, d: u64) -> u64
+    requires { ⌜ sum * 2 + d < 18446744073709551616 ⌝ }
+    ensures { λ r. ⌜ r ≡ sum * 2 + d ⌝ }
 {
-    n - 8 * numeral::tens(n)
+    sum * 2 + d
 }
 
-// four,
-fn four_sum(n: u64) -> u64
-    requires { ⌜ n < 10000 ⌝ }
-    ensures { λ r. ⌜ (r ≡ doubled 4 n) × (r ≤ n) ⌝ }
+// Two digits behind what there is, the left one first;
+fn next_pair(sum: u64, n: u64) -> u64
+    requires { ⌜ (sum ≤ 1000000) × (n < 100) ⌝ }
+    ensures { λ r. ⌜ (r ≡ 4 * sum + doubled 2 n) × (r ≤ 4 * sum + n) ⌝ }
 {
-    let high = numeral::hundreds(n);
-    pair_sum(n - high * 100) + 4 * pair_sum(high)
+    let left = numeral::tens(n);
+    let right = n - left * 10;
+    next_digit(next_digit(sum, left), right)
+}
+
+// four;
+fn next_four(sum: u64, n: u64) -> u64
+    requires { ⌜ (sum ≤ 100000) × (n < 10000) ⌝ }
+    ensures { λ r. ⌜ (r ≡ 16 * sum + doubled 4 n) × (r ≤ 16 * sum + n) ⌝ }
+{
+    let left = numeral::hundreds(n);
+    let right = n - left * 100;
+    next_pair(next_pair(sum, left), right)
 }
 
 // and eight.
-fn eight_sum(n: u64) -> u64
-    requires { ⌜ n < 100000000 ⌝ }
-    ensures { λ r. ⌜ (r ≡ doubled 8 n) × (r ≤ n) ⌝ }
+fn next_eight(sum: u64, n: u64) -> u64
+    requires { ⌜ (sum ≤ 1000) × (n < 100000000) ⌝ }
+    ensures { λ r. ⌜ (r ≡ 256 * sum + doubled 8 n) × (r ≤ 256 * sum + n) ⌝ }
 {
-    let high = numeral::myriads(n);
-    four_sum(n - high * 10000) + 16 * four_sum(high)
+    let left = numeral::myriads(n);
+    let right = n - left * 10000;
+    next_four(next_four(sum, left), right)
 }
 
-// The last ten digits of n, weighted so.
-fn weighted_sum(n: u64) -> u64
+// The last ten digits of n so. Zeros in front double nothing, so that four or eight will do where n has no more.
+fn doubled_sum(n: u64) -> u64
     ensures { λ r. ⌜ r ≡ doubled 10 n ⌝ }
 {
     if n < 10000 {
-        return four_sum(n);
+        return next_four(0, n);
     }
     if n < 100000000 {
-        return eight_sum(n);
+        return next_eight(0, n);
     }
-    let high = n / 100000000;
-    eight_sum(n - high * 100000000) + 256 * pair_sum(high % 100)
+    let left = n / 100000000;
+    let right = n - left * 100000000;
+    next_eight(next_pair(0, left % 100), right)
 }
 
-// Do the sums of a prefix and a base keep the rule? One digit times its weight never divides by 11, so a base whose sum does, and is not
-// 0, has two digits or more that are not zero: they need not be counted.
+// Is the rest by 11 of both sums, of a prefix and of a base, 0, and has the base two digits or more that are not zero? One digit, however
+// often it is doubled, does not divide by 11. So where a base's sum does, and is not 0, there are two: they need not be counted.
 pub fn sums_ok(p: u64, b: u64) -> bool
     ensures { λ r. ⌜ r ≡ sumsOk p b ⌝ }
 {
@@ -70,12 +84,12 @@ pub fn sums_ok(p: u64, b: u64) -> bool
 pub fn account_ok(prefix: u64, base: u64) -> bool
     ensures { λ r. ⌜ r ≡ accountOk prefix base ⌝ }
 {
-    let b = weighted_sum(base);
+    let b = doubled_sum(base);
     // most prefixes are 0
     if prefix == 0 {
         return sums_ok(0, b);
     }
-    let p = weighted_sum(prefix);
+    let p = doubled_sum(prefix);
     sums_ok(p, b)
 }
 

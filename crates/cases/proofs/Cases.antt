@@ -9,7 +9,7 @@ use Rattle.sheet.specs.Sheets.{sheetK, sheetC, sheetE}
 use Rattle.paper.specs.Read.{Field, value, fault}
 use Rattle.paper.specs.Bytes.{bytes}
 use Rattle.paper.specs.Days.{realDay, readDay, readDue}
-use Rattle.paper.specs.Accounts.{Account, account, readAccount}
+use Rattle.paper.specs.Accounts.{Account, account, rest, readAccount}
 use Rattle.paper.specs.Amounts.{readItemAmount}
 use Rattle.paper.specs.BankField.{Bank, readBank}
 use Rattle.paper.specs.Texts.{piece, Noted, readText}
@@ -64,3 +64,12 @@ pub table :
     × (readText (sheetC .text) 0 (bytes "AV: NP:Jan") ≡ value (named 7 "Jan"))
 unfolding judged
 table = (refl, refl, refl, refl, refl, refl, refl, refl, refl, refl, refl, refl, refl, refl, refl, refl, refl, refl, refl, refl, refl)
+
+-- The rule of an account's digits by hand, as docs/RULES.md works it: what is left behind each digit of 705, of 19 and of 1234567890.
+pub by-hand :
+    (rest 1 7 ≡ 7) × (rest 2 70 ≡ 3) × (rest 3 705 ≡ 0)
+    × (rest 1 1 ≡ 1) × (rest 2 19 ≡ 0)
+    × (rest 1 1 ≡ 1) × (rest 2 12 ≡ 4) × (rest 3 123 ≡ 0) × (rest 4 1234 ≡ 4) × (rest 5 12345 ≡ 2)
+    × (rest 6 123456 ≡ 10) × (rest 7 1234567 ≡ 5) × (rest 8 12345678 ≡ 7) × (rest 9 123456789 ≡ 1) × (rest 10 1234567890 ≡ 2)
+unfolding rest
+by-hand = (refl, refl, refl, refl, refl, refl, refl, refl, refl, refl, refl, refl, refl, refl, refl)

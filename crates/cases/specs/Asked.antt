@@ -14,7 +14,7 @@ use Rattle.paper.specs.Bytes.{bytes, isText, isClean, isDigit, null}
 use Rattle.paper.specs.Numerals.{digitsOn, digits, decOn, decimal, fixedOn, fixed}
 use Rattle.paper.specs.Days.{leap, monthDays, realDay, yearsDays, monthsDays, dayNumber, real, shortDay, longDay, readDay, spellDay, past, dueAllowed, dueWarnings, readDue, monthAhead, collectAllowed}
 use Rattle.paper.specs.Terms.{collection, dayHere, bankDue}
-use Rattle.paper.specs.Accounts.{weighted, nonZero, accountOk, ruled, twoParts, onePart, readAccount, accountProper, spellAccount, isNobody, zeros, onlyZeros, readPayer}
+use Rattle.paper.specs.Accounts.{rest, nonZero, accountOk, ruled, twoParts, onePart, readAccount, accountProper, spellAccount, isNobody, zeros, onlyZeros, readPayer}
 use Rattle.paper.specs.Amounts.{withComma, readAmount, readTotal, amountProper, readItemAmount}
 use Rattle.paper.specs.BankField.{ninth, readBank, readDueBank, bankProper, priorityProper, priorityCarried, spellBank}
 use Rattle.paper.specs.Texts.{others, cut, over, overs, pad, opens, taken, partsTaken, fitted, finish, messageEnd, message, marked, readText, lacks, nameProper, partProper, wordsCarried, partCarried, nameCarried, keep, trim, joinOn, joined, spellName, spellMarked, spellText, noText}
@@ -44,7 +44,7 @@ today = 20180101
 
 -- a file, judged on a sheet
 unfoldable pub judged : Sheet → List ℕ → Answer
-unfolding pick all starts seek kindAllowed bankAllowed given isText isClean isDigit null digitsOn digits fixedOn fixed leap monthDays realDay yearsDays monthsDays dayNumber real shortDay longDay readDay past dueAllowed dueWarnings readDue monthAhead collectAllowed collection dayHere bankDue weighted nonZero accountOk ruled twoParts onePart readAccount isNobody zeros onlyZeros readPayer withComma readAmount readTotal amountProper readItemAmount ninth readBank readDueBank others cut over overs pad opens taken partsTaken fitted finish messageEnd message marked readText sum linesOf kindOf onField field place gap lineEnd textField readTo restLength readRest readFirst member numberFault numberAllowed readKind readNumber readCode readFile spaceCount hasPayer totalAndDate readGroup readSymbolOrNone isValue fixedTail afterSymbol openTail tail fromPayee readItem plusAt readClose numberTest readAs readLine differs groupItems fileItems seen contextOf isDue isFull totalBroken closed counted notices onEntry onHead onFile onGroup onItem meet onSaid read step endOf run judge
+unfolding pick all starts seek kindAllowed bankAllowed given isText isClean isDigit null digitsOn digits fixedOn fixed leap monthDays realDay yearsDays monthsDays dayNumber real shortDay longDay readDay past dueAllowed dueWarnings readDue monthAhead collectAllowed collection dayHere bankDue rest nonZero accountOk ruled twoParts onePart readAccount isNobody zeros onlyZeros readPayer withComma readAmount readTotal amountProper readItemAmount ninth readBank readDueBank others cut over overs pad opens taken partsTaken fitted finish messageEnd message marked readText sum linesOf kindOf onField field place gap lineEnd textField readTo restLength readRest readFirst member numberFault numberAllowed readKind readNumber readCode readFile spaceCount hasPayer totalAndDate readGroup readSymbolOrNone isValue fixedTail afterSymbol openTail tail fromPayee readItem plusAt readClose numberTest readAs readLine differs groupItems fileItems seen contextOf isDue isFull totalBroken closed counted notices onEntry onHead onFile onGroup onItem meet onSaid read step endOf run judge
 judged sh f = judge sh today f
 
 -- what a line of a kind warns of in an account file of payments, in a group that is single or not

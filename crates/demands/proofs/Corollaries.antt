@@ -3,13 +3,14 @@ use mathlib.Core.Path.{_≡_}
 use mathlib.Core.Bool.{Bool, true}
 use mathlib.Core.List.{List}
 use mathlib.Core.Logic.{_↔_}
-use Prim.Native.Nat.{ℕ, suc, _/_, _≤_, _<_}
+use Prim.Native.Nat.{ℕ, suc, _/_, _%_, _≤_, _<_}
 use lib.ListN.{length, take}
 use Rattle.sheet.specs.declared.Sheet.{Sheet}
 use Rattle.sheet.specs.declared.Known.the-variants as known
 use Rattle.sheet.specs.Sheets.{sheetC, sheetP, sheetOf}
 use Rattle.sheet.proofs.Laws as sheets
 use Rattle.paper.specs.Days.{realDay, monthAhead, collectAllowed}
+use Rattle.paper.specs.Accounts.{rest, accountOk}
 use Rattle.paper.specs.Batch.{Batch, Header, noHeader, things}
 use Rattle.paper.specs.Lines.{linesOf}
 use Rattle.paper.specs.Spells.{Spells, dues}
@@ -22,6 +23,8 @@ use Rattle.paper.specs.Writing.{drafted, draftOf, draft, writtenIn}
 use Rattle.paper.specs.Explaining.{refusedLine, acceptedLine, explanation}
 use Rattle.paper.specs.Rewriting.{rewritten, rewriting}
 use Rattle.calendar.specs.Ahead.{Ahead}
+use Rattle.account.specs.Decree.{decree, weighted, decreed, powers}
+use Rattle.account.proofs.Decree as accounts
 use Rattle.calendar.proofs.Month as months
 use Rattle.exact.proofs.Main as exact
 use Rattle.exact.proofs.faults.Main as faults
@@ -202,3 +205,17 @@ module _ (today : ℕ) (real : realDay today ≡ true) where
   -- from any bank later.
   pub any-bank-2099 : (d : ℕ) → realDay d ≡ true → 20991201 ≤ today → today < d → (own : Bool) → collectAllowed own today d ≡ true
   any-bank-2099 d r from = months.any-later today d real r from
+
+-- ---- the rule of an account's digits
+
+-- The decree's ten weights are the rests by 11 of the first ten powers of 2,
+pub decree-powers : decree ≡ powers 10 0
+decree-powers = accounts.decree-powers
+
+-- so that doubling from the left digit gives the rest of the weighted sum, whatever the number,
+pub decree-rest : (n : ℕ) → rest 10 n ≡ weighted decree n % 11
+decree-rest = accounts.decree-rest
+
+-- and an account keeps the rule exactly if it keeps the decree's.
+pub decree-same : (prefix base : ℕ) → accountOk prefix base ≡ decreed prefix base
+decree-same = accounts.decree-same

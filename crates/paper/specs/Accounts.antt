@@ -1,7 +1,7 @@
--- Accounts. Document 01, "Accounts". Assumes nothing.
+-- Accounts. Document 01, "Accounts"; their digits as document 02, W-203, works them. Assumes nothing.
 use Prim.Native.Nat.{ℕ, zero, suc, _+_, _-_, _*_, _/_, _%_}
 use mathlib.Core.Bool.{Bool, false}
-use mathlib.Core.List.{List, [], _∷_, _++_}
+use mathlib.Core.List.{List, _∷_, _++_}
 use lib.Dec.{eqb, ltb, leb}
 use lib.ListN.{length, take, drop}
 use Rattle.base.specs.Pick.{pick}
@@ -19,25 +19,21 @@ pub record Account : Type 0 where
 abbrev pub account : ℕ → ℕ → Account
 account p b = record { prefix = p; base = b }
 
--- digits from the right are weighted so
-abbrev pub weights : List ℕ
-weights = 1 ∷ 2 ∷ 4 ∷ 8 ∷ 5 ∷ 10 ∷ 9 ∷ 7 ∷ 3 ∷ 6 ∷ []
-
--- the sum of the digits of n from the right, each times its weight
-unfoldable pub weighted : List ℕ → ℕ → ℕ
-weighted [] n = 0
-weighted (w ∷ ws) n = w * (n % 10) + weighted ws (n / 10)
+-- The last k digits of n, from the left: twice what there is, plus the digit, and of that the rest by 11.
+unfoldable pub rest : ℕ → ℕ → ℕ
+rest zero n = 0
+rest (suc k) n = (2 * rest k (n / 10) + n % 10) % 11
 
 -- how many of the last k digits of n are not zero
 unfoldable pub nonZero : ℕ → ℕ → ℕ
 nonZero zero n = 0
 nonZero (suc k) n = pick (eqb (n % 10) 0) 0 1 + nonZero k (n / 10)
 
--- both sums divide by 11, and the base has at least two digits that are not zero
+-- nothing is left of either, and the base has at least two digits that are not zero
 unfoldable pub accountOk : ℕ → ℕ → Bool
 accountOk prefix base =
-    pick (eqb (weighted weights prefix % 11) 0)
-    (pick (eqb (weighted weights base % 11) 0) (leb 2 (nonZero 10 base)) false)
+    pick (eqb (rest 10 prefix) 0)
+    (pick (eqb (rest 10 base) 0) (leb 2 (nonZero 10 base)) false)
     false
 
 -- 5 where that is broken

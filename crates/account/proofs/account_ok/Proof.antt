@@ -4,8 +4,8 @@ use Rattle.account.proofs.Rule.{sums-rule, base-rule}
 use Rattle.account.proofs.account_ok.Statement.{statement}
 use Rattle.account.proofs.account_ok.Tie as tie
 
-weighted-sum-requires : tie.Need-weighted-sum-requires
-weighted-sum-requires c κs = search needs
+doubled-sum-requires : tie.Need-doubled-sum-requires
+doubled-sum-requires c κs = search needs
 
 sums-ok-requires : tie.Need-sums-ok-requires
 sums-ok-requires c κs = search needs
@@ -13,8 +13,8 @@ sums-ok-requires c κs = search needs
 returns : tie.Need-returns
 returns c = search (sums-rule, base-rule)
 
-weighted-sum-requires-2 : tie.Need-weighted-sum-requires-2
-weighted-sum-requires-2 c κs = search needs
+doubled-sum-requires-2 : tie.Need-doubled-sum-requires-2
+doubled-sum-requires-2 c κs = search needs
 
 sums-ok-requires-2 : tie.Need-sums-ok-requires-2
 sums-ok-requires-2 c κs = search needs
@@ -26,9 +26,9 @@ pub account-ok-spec : {M : Type 1} → statement M
 account-ok-spec =
     tie.close
     (tie.spec
-    weighted-sum-requires
+    doubled-sum-requires
     sums-ok-requires
     returns
-    weighted-sum-requires-2
+    doubled-sum-requires-2
     sums-ok-requires-2
     returns-2)

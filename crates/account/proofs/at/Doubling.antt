@@ -4,8 +4,6 @@ use mathlib.Core.Bool.{Bool, true}
 use mathlib.Core.List.{List}
 use Prim.Native.Nat.{ℕ, _+_, _-_, _*_, _^_, _≤_, _<_}
 use native.Mathlib.Omega.{arith}
-use mir.Val.{Fits}
-use mir.Syntax.{w64}
 use lib.ListN.{length, drop}
 use Rattle.paper.specs.Read.{value}
 use Rattle.paper.specs.Numerals.{digits}
@@ -16,7 +14,7 @@ use Rattle.account.specs.Doubled.{doubled, sumsOk}
 use Rattle.account.proofs.Doubled.{doubled-none, doubled-le, doubled-more}
 use Rattle.account.proofs.Rule.{sums-of}
 use Rattle.numeral.specs.field.Digits.{run}
-use Rattle.numeral.proofs.field.Turns.{Reads, fits-times, fits-more}
+use Rattle.numeral.proofs.field.Turns.{Reads, fits-more}
 use Rattle.numeral.proofs.field.Number.{run-inside}
 use Rattle.account.specs.at.Parts.{Short, dashed}
 use Rattle.account.proofs.at.Digits.{recount}
@@ -31,19 +29,16 @@ module _ (s : List ℕ) (at most stop v i : ℕ) (inv : Reads s at most stop v i
   sum-le : sum ≤ v
   sum-le = omega (arith, e, doubled-le 19 v)
 
-  pub fits-double : Fits w64 (sum * 2)
-  fits-double = omega (arith, sum-le, fits-times s at most stop v i inv l w m c)
+  pub sum-fits : (x : ℕ) → x ≤ 9 → sum * 2 + x < 18446744073709551616
+  sum-fits x k = omega (arith, sum-le, fits-more s at most stop v i inv l w m c x k)
 
-  pub fits-double-more : (x : ℕ) → x ≤ 9 → Fits w64 (sum * 2 + x)
-  fits-double-more x k = omega (arith, sum-le, fits-more s at most stop v i inv l w m c x k)
-
-  pub sum-next : (x : ℕ) → x ≤ 9 → sum * 2 + x ≡ doubled 19 (v * 10 + x)
-  sum-next x k =
+  pub sum-next : (x y : ℕ) → x ≤ 9 → y ≡ sum * 2 + x → y ≡ doubled 19 (v * 10 + x)
+  sum-next x y k g =
       let f = inv .from in
       let b : v < 10 ^ 18 = omega (arith, inv .small, ten-le (i - at) 18 (omega arith)) in
-      sym (doubled-more 18 v x b (omega arith) ∙ rw (← e))
+      g ∙ sym (doubled-more 18 v x b (omega arith) ∙ rw (← e))
 
-pub ruleset sums = (sum-start, fits-double, fits-double-more, sum-next)
+pub ruleset sums = (sum-start, sum-fits, sum-next)
 
 -- ---- numbers of ten digits or fewer
 
@@ -59,8 +54,8 @@ module _ (s : List ℕ) (at e v : ℕ) where
   base-small g = digits-sound 0 10 (run 10 (drop at s)) v g
 
   -- behind a dash at `at`
-  pub base-inside : e ≡ at + 1 + length (run 10 (drop (at + 1) s)) → at < length s → e ≤ length s
-  base-inside h l = run-inside s (at + 1) 10 e v h (omega arith)
+  pub base-inside : (most : ℕ) → e ≡ at + 1 + length (run most (drop (at + 1) s)) → at < length s → e ≤ length s
+  base-inside most h l = run-inside s (at + 1) most e v h (omega arith)
 
   module _ (h : e ≡ at + length (run 16 (drop at s))) (g : digits 0 16 (run 16 (drop at s)) ≡ value v) where
     ten-digits : e - at ≤ 10 → v < 10000000000

@@ -36,11 +36,8 @@ mul-v c = search (turns, sums, needs)
 add-v : tie.Need-add-v Inv-loop μ-loop
 add-v c = search (turns, sums, needs)
 
-mul-sum : tie.Need-mul-sum Inv-loop μ-loop
-mul-sum c = search (turns, sums, needs)
-
-add-sum : tie.Need-add-sum Inv-loop μ-loop
-add-sum c = search (turns, sums, needs)
+next-digit-requires : tie.Need-next-digit-requires Inv-loop μ-loop
+next-digit-requires c κs = search (turns, sums, needs)
 
 add-i : tie.Need-add-i Inv-loop μ-loop
 add-i c = search (turns, sums, needs)
@@ -67,8 +64,7 @@ sum-run-spec =
     returns
     mul-v
     add-v
-    mul-sum
-    add-sum
+    next-digit-requires
     add-i
     loop-less
     loop-again
