@@ -21,13 +21,13 @@ no-dash joined least f h = pick-false _ _ (le-ltb (seek dash f) (length f) h)
 
 -- the field f, and d where its dash was found
 module _ (f : List ℕ) (d : ℕ) (e : d ≡ 0 + seek dash f) where
-  place : seek dash f ≡ d
+  pub place : seek dash f ≡ d
   place = omega arith
 
-  front : take (d - 0) f ≡ before dash f
+  pub front : take (d - 0) f ≡ before dash f
   front = let z : d - 0 ≡ seek dash f = omega arith in rw z
 
-  behind : take (length f - (d + 1)) (drop (d + 1) f) ≡ drop (seek dash f + 1) f
+  pub behind : take (length f - (d + 1)) (drop (d + 1) f) ≡ drop (seek dash f + 1) f
   behind = rw place (take-all (length f - (d + 1)) (drop (d + 1) f) (omega (arith, length-drop (d + 1) f)))
 
   -- `only_zeros`

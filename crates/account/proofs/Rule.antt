@@ -48,7 +48,7 @@ lone (suc k) n h g =
     e (sym (mod-eq-of-lt {n = n % 10} {m = 11} (omega arith)) ∙ rw d at g))
 
 -- so a sum that divides by 11 and is not 0 has two digits or more that are not 0
-counted : (k b : ℕ) → doubled k b % 11 ≡ 0 → ltb 0 (doubled k b) ≡ leb 2 (nonZero k b)
+pub counted : (k b : ℕ) → doubled k b % 11 ≡ 0 → ltb 0 (doubled k b) ≡ leb 2 (nonZero k b)
 counted k b h =
     by-eq (nonZero k b) 0
     (λ e. rw (none k b e, e))

@@ -52,7 +52,7 @@ fn next_eight(sum: u64, n: u64) -> u64
 }
 
 // The last ten digits of n so. Zeros in front double nothing, so that four or eight will do where n has no more.
-fn doubled_sum(n: u64) -> u64
+pub fn doubled_sum(n: u64) -> u64
     ensures { λ r. ⌜ r ≡ doubled 10 n ⌝ }
 {
     if n < 10000 {

@@ -37,7 +37,7 @@ fn with_comma(f: &[u8], d: usize) -> Num
 }
 
 // An amount of 1 to `most` digits; if it `may`, one with a comma too.
-fn read_amount(f: &[u8], may: bool, most: usize) -> Num
+pub fn read_amount(f: &[u8], may: bool, most: usize) -> Num
     requires { ⌜ most ≤ 19 ⌝ }
     ensures { λ r. ⌜ number r ≡ readAmount may most (now (f .entry)) ⌝ }
 {

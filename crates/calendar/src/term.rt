@@ -16,7 +16,7 @@ pub enum Banks {
 }
 
 // Is an account file of this kind a collection whose days are judged for each item?
-fn is_collection(sh: Sheet, kind: u64) -> bool
+pub fn is_collection(sh: Sheet, kind: u64) -> bool
     ensures { λ r. ⌜ r ≡ collection sh kind ⌝ }
 {
     if kind == 1502 {

@@ -9,7 +9,7 @@ use lib.ListN.{length}
 use borrow.Author.Tests.{ne-eqb}
 use Rattle.base.proofs.Seek.{never}
 use Rattle.paper.specs.Bytes.{null}
-use Rattle.paper.specs.Batch.{Group}
+use Rattle.paper.specs.Batch.{Item, Group, sum}
 use Rattle.paper.specs.Spells.{groupItems}
 use Rattle.paper.specs.Judge.{revOn}
 
@@ -46,3 +46,8 @@ pub items-rev : (a m : List Group) → groupItems (revOn a m) ≡ groupItems a +
 unfolding groupItems
 items-rev [] m = omega arith
 items-rev (g ∷ a) m = omega (arith, items-rev a (g ∷ m))
+
+pub sum-rev : (a m : List Item) → sum (revOn a m) ≡ sum a + sum m
+unfolding sum
+sum-rev [] m = omega arith
+sum-rev (x ∷ a) m = omega (arith, sum-rev a (x ∷ m))

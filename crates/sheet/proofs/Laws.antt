@@ -88,7 +88,7 @@ module _ (b : ℕ) (s : Sheet) (named : sheetBy b ≡ known.Sheet s) where
 
 -- ---- its parameters
 
--- the bounds that every sheet keeps to. A tail that always has its text, which may be empty, has it as it stands. Where no header is read, none
+-- the bounds that every sheet keeps to. A text as it stands has no name and is one part. A tail that always has its text, which may be empty, has it as it stands. Where no header is read, none
 -- limits the numbers of account files.
 pub record Sane (s : Sheet) : Type 0 where
   pub base-some : 1 ≤ s .basemin
@@ -96,6 +96,7 @@ pub record Sane (s : Sheet) : Type 0 where
   pub parts-some : 0 < s .text .most
   pub parts-few : s .text .most ≤ 4
   pub names-av : s .text .av ≡ false → s .text .names ≡ false
+  pub part-alone : s .text .av ≡ false → s .text .most ≡ 1
   pub as-stands : s .fixedtail ≡ true → s .text .av ≡ false
   pub no-interval : s .header ≡ false → s .interval ≡ false
   pub digits-some : 1 ≤ s .itemdigits
@@ -112,6 +113,10 @@ pub record Sane (s : Sheet) : Type 0 where
 unless : (t u : Bool) → (t || not u) ≡ true → t ≡ false → u ≡ false
 unless t u e f = not-true u (rw f at e)
 
+-- .. or another one holds
+holds-or : (t u : Bool) → (t || u) ≡ true → t ≡ false → u ≡ true
+holds-or t u e f = rw f at e
+
 -- each bound is tested of every known sheet
 pub sane : (n : ℕ) (s : Sheet) → sheetOf n ≡ known.Sheet s → Sane s
 sane n s h =
@@ -122,6 +127,7 @@ sane n s h =
       parts-some = ltb-true _ _ (holds (λ x. ltb 0 (x .text .most)) refl);
       parts-few = leb-true _ _ (holds (λ x. leb (x .text .most) 4) refl);
       names-av = unless _ _ (holds (λ x. x .text .av || not (x .text .names)) refl);
+      part-alone = λ e. eqb-true _ _ (holds-or (s .text .av) (eqb (s .text .most) 1) (holds (λ x. x .text .av || eqb (x .text .most) 1) refl) e);
       as-stands = λ e. unless (not (s .fixedtail)) _ (holds (λ x. not (x .fixedtail) || not (x .text .av)) refl) (rw e);
       no-interval = unless _ _ (holds (λ x. x .header || not (x .interval)) refl);
       digits-some = leb-true _ _ (holds (λ x. leb 1 (x .itemdigits)) refl);

@@ -6,7 +6,7 @@ use Prim.Native.Nat.{_+_}
 use native.Mathlib.Omega.{arith}
 use lib.ListN.{length}
 use Rattle.base.specs.Pick.{pick}
-use Rattle.paper.specs.Batch.{Item, Group, AccountFile, Batch, Thing, sum, itemThings, groupThings, things}
+use Rattle.paper.specs.Batch.{Item, Group, AccountFile, Batch, Thing, itemThings, groupThings, things}
 use Rattle.paper.specs.Judge.{revOn}
 use Rattle.tally.specs.Abs.{groupRows, fileRows}
 
@@ -16,11 +16,6 @@ map-pick f true a b = refl
 map-pick f false a b = refl
 
 -- ---- the order does not matter
-
-pub sum-rev : (a m : List Item) → sum (revOn a m) ≡ sum a + sum m
-unfolding sum
-sum-rev [] m = omega arith
-sum-rev (x ∷ a) m = omega (arith, sum-rev a (x ∷ m))
 
 pub groupRows-rev : (a m : List Group) → groupRows (revOn a m) ≡ groupRows a + groupRows m
 unfolding groupRows

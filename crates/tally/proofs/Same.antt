@@ -11,11 +11,11 @@ use Rattle.paper.specs.Entries.{Entry, head, file, group, item, closeGroup, clo
 use Rattle.paper.specs.Spells.{readAs, differs, groupItems, fileItems}
 use Rattle.paper.specs.Judge.{InGroup, State, atFirst, atFile, atGroup, atItem, stop, seen, revOn}
 use Rattle.paper.specs.Judge as judge
-use Rattle.paper.proofs.Lists.{empty-null, length-rev, items-rev}
+use Rattle.paper.proofs.Lists.{empty-null, length-rev, items-rev, sum-rev}
 use Rattle.tally.specs.Tally.{brief}
 use Rattle.tally.specs.Tally as numbers
 use Rattle.tally.specs.Abs.{groupRows, fileRows, openBook, openShelf, openGroup, abs}
-use Rattle.tally.proofs.Abs.{map-pick, sum-rev, groupRows-rev, fileRows-rev, things-rows}
+use Rattle.tally.proofs.Abs.{map-pick, groupRows-rev, fileRows-rev, things-rows}
 
 -- ---- the context, what is due, and when it is full
 

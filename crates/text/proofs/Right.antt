@@ -98,7 +98,7 @@ module _ (y : Style) where
         (λ b. rw (b, clean-taken (before bar s)) (others-clean (at + 1) s))
         (λ n. rw (ne-eqb x 124 n, ← others-clean (at + 1) s) (both-tests (isClean x) (all isClean (before bar s)) (partsTaken y (others (at + 1) s))))
 
-  divide-taken : (at : ℕ) (s : List ℕ) → partsTaken y (divide at s) ≡ taken y s
+  pub divide-taken : (at : ℕ) (s : List ℕ) → partsTaken y (divide at s) ≡ taken y s
   unfolding partsTaken
   divide-taken at s =
       by-test (y .clean)

@@ -101,7 +101,7 @@ fn fit_at(y: Style, m: &[u8], from: usize, at: usize, len: usize) -> TextRead
 }
 
 // The sheet takes the bytes of m from `from` on.
-fn bytes_taken(y: Style, m: &[u8], from: usize) -> bool
+pub fn bytes_taken(y: Style, m: &[u8], from: usize) -> bool
     requires { ⌜ from ≤ length (now m) ⌝ }
     ensures { λ r. ⌜ r ≡ taken y (drop from (now (m .entry))) ⌝ }
 {
@@ -144,7 +144,7 @@ fn find_mark(s: &[u8], from: usize) -> usize
 }
 
 // Where the message that begins at `from` ends: before its first ` NP:`, where names are.
-fn message_end(y: Style, s: &[u8], from: usize) -> usize
+pub fn message_end(y: Style, s: &[u8], from: usize) -> usize
     requires { ⌜ from ≤ length (now s) ⌝ }
     ensures { λ r. ⌜ r ≡ from + messageEnd y (drop from (now (s .entry))) ⌝ }
 {
@@ -182,7 +182,7 @@ fn read_message(y: Style, s: &[u8], from: usize) -> TextRead
 }
 
 // The text is `NP:` and a name.
-fn only_name(y: Style, s: &[u8], from: usize) -> bool
+pub fn only_name(y: Style, s: &[u8], from: usize) -> bool
     requires { ⌜ from ≤ length (now s) ⌝ }
     ensures { λ r. ⌜ r ≡ pick (y .names) (starts np (drop from (now (s .entry)))) false ⌝ }
 {
@@ -219,7 +219,7 @@ fn begin_marked(y: Style, s: &[u8], from: usize) -> Begun
 }
 
 // The text has a byte or more, and the first is not a space.
-fn opens_at(s: &[u8], from: usize) -> bool
+pub fn opens_at(s: &[u8], from: usize) -> bool
     requires { ⌜ from ≤ length (now s) ⌝ }
     ensures { λ r. ⌜ r ≡ opens (drop from (now (s .entry))) ⌝ }
 {

@@ -47,15 +47,22 @@ module _ (sh : Sheet) (today : ℕ) where
     unfolding run
     stopped t ts st e = ap (λ s. run sh today size (suc k) ts s) e ∙ run-stop sh today size (suc k) ts _
 
+    -- a line that breaks a rule stops it
+    pub stops : {rb ts : List Line} {t : Line} {st : State} {a : Answer} → Lawful sh today rb st → Broken sh today size k st (t ∷ ts) a → step sh today k t st ≡ stop a
+    unfolding step onSaid meet isDue isFull onEntry onItem closed pick null
+    stops r (not-due {st = st} {t = t} d) = reads k t st r ∙ other k t st d
+    stops r (full {st = st} {t = t} d f) = reads k t st r ∙ over k t st d f
+    stops r (in-line {st = st} {t = t} {n = n} {off = off} d f q) = reads k t st r ∙ faulty k t st n off d f q
+    stops r (total {x = x} {t = t} some (p, q) e) =
+        passes sh today k t (atItem x) groupEnd _ (kind-group-end (told-line sh today _ (t .bytes) _ q)) (rw some) refl q ∙ pick-true _ _ e
+
     pub halts : {rb ts : List Line} {st : State} {a : Answer} → Lawful sh today rb st → Broken sh today size k st ts a → run sh today size k ts st ≡ a
-    unfolding run endOf step onSaid meet isDue isFull onEntry onItem closed pick null
+    unfolding run endOf
     halts r ends-first = refl
     halts r (ends-none {x = x} none) = pick-true _ _ none
     halts r ends-file = refl
     halts r ends-group = refl
-    halts r (not-due {st = st} {t = t} {ts = ts} d) = stopped t ts st (reads k t st r ∙ other k t st d)
-    halts r (full {st = st} {t = t} {ts = ts} d f) = stopped t ts st (reads k t st r ∙ over k t st d f)
-    halts r (in-line {st = st} {t = t} {ts = ts} {n = n} {off = off} d f q) = stopped t ts st (reads k t st r ∙ faulty k t st n off d f q)
-    halts r (total {x = x} {t = t} {ts = ts} some (p, q) e) =
-        stopped t ts (atItem x)
-        (passes sh today k t (atItem x) groupEnd _ (kind-group-end (told-line sh today _ (t .bytes) _ q)) (rw some) refl q ∙ pick-true _ _ e)
+    halts r (not-due {st = st} {t = t} {ts = ts} d) = stopped t ts st (stops r (not-due {ts = ts} d))
+    halts r (full {st = st} {t = t} {ts = ts} d f) = stopped t ts st (stops r (full {ts = ts} d f))
+    halts r (in-line {st = st} {t = t} {ts = ts} d f q) = stopped t ts st (stops r (in-line {ts = ts} d f q))
+    halts r (total {x = x} {t = t} {ts = ts} some q e) = stopped t ts (atItem x) (stops r (total {ts = ts} some q e))

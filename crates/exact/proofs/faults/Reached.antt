@@ -25,19 +25,26 @@ module _ (sh : Sheet) (today : ℕ) where
   pub going : {ts : List Line} {a : Answer} {A : Type 0} → Lawful sh today ts (stop a) → A
   going = elim [ ]
 
+  -- what goes on with each line that moves the state on comes to where lawful lines lead
+  module _ {B : Type 0} (g : ℕ → List Line → State → B)
+      (on : (k : ℕ) (t : Line) (st new : State) → Moves sh today k t st new → (after : List Line) → g k (t ∷ after) st ≡ g (suc k) after new) where
+    pub reached-by : {ts : List Line} {st : State} → Lawful sh today ts st → (after : List Line) → g 1 (revOn ts after) atFirst ≡ g (suc (length ts)) after st
+    reached-by nothing after = refl
+    reached-by (header {t = t} l q) after = reached-by l (t ∷ after) ∙ on _ _ _ _ (heads q) after
+    reached-by (opened {t = t} l few q) after = reached-by l (t ∷ after) ∙ on _ _ _ _ (opens few q) after
+    reached-by (begun {t = t} l q) after = reached-by l (t ∷ after) ∙ on _ _ _ _ (begins q) after
+    reached-by (added {t = t} l free (p, q)) after =
+        reached-by l (t ∷ after) ∙ on _ _ _ _ (more (rw (kind-item (told-line sh today _ (t .bytes) _ q)) at free) (p, q)) after
+    reached-by (closed {t = t} l some q good) after = reached-by l (t ∷ after) ∙ on _ _ _ _ (closes some q good) after
+    reached-by (finished {t = t} l some q) after = reached-by l (t ∷ after) ∙ on _ _ _ _ (finishes some q) after
+
+  -- so does the judge
   module _ (size : ℕ) where
-    moved : {k : ℕ} {t : Line} {st new : State} → Moves sh today k t st new → (after : List Line)
+    moved : (k : ℕ) (t : Line) (st new : State) → Moves sh today k t st new → (after : List Line)
         → run sh today size k (t ∷ after) st ≡ run sh today size (suc k) after new
     unfolding run
-    moved {k} m after = ap (λ s. run sh today size (suc k) after s) (moves-step sh today _ _ m)
+    moved k t st new m after = ap (λ s. run sh today size (suc k) after s) (moves-step sh today _ _ m)
 
     pub reached : {ts : List Line} {st : State} → Lawful sh today ts st → (after : List Line)
         → run sh today size 1 (revOn ts after) atFirst ≡ run sh today size (suc (length ts)) after st
-    reached nothing after = refl
-    reached (header {t = t} l q) after = reached l (t ∷ after) ∙ moved (heads q) after
-    reached (opened {t = t} l few q) after = reached l (t ∷ after) ∙ moved (opens few q) after
-    reached (begun {t = t} l q) after = reached l (t ∷ after) ∙ moved (begins q) after
-    reached (added {t = t} l free (p, q)) after =
-        reached l (t ∷ after) ∙ moved (more (rw (kind-item (told-line sh today _ (t .bytes) _ q)) at free) (p, q)) after
-    reached (closed {t = t} l some q good) after = reached l (t ∷ after) ∙ moved (closes some q good) after
-    reached (finished {t = t} l some q) after = reached l (t ∷ after) ∙ moved (finishes some q) after
+    reached = reached-by (λ k ts st. run sh today size k ts st) moved

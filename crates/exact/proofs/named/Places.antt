@@ -1,4 +1,4 @@
--- Every line lies inside its file, and so does the total of a group that lawful lines leave open. Assumes nothing.
+-- Every line lies inside its file, behind the one before it, and so does the total of a group that lawful lines leave open. Assumes nothing.
 use mathlib.Core.Path.{_≡_, refl}
 use mathlib.Core.List.{List, [], _∷_}
 use Prim.Native.Nat.{ℕ, suc, _+_, _≤_, _<_}
@@ -17,27 +17,40 @@ abbrev pub Within : ℕ → List Line → Type 0
 Within size [] = Unit {0}
 Within size (t ∷ ts) = (t .start + length (t .bytes) ≤ size) × Within size ts
 
+-- .. none of which starts before i, nor before the end of the one in front of it
+abbrev pub InRow : ℕ → ℕ → List Line → Type 0
+InRow size i [] = Unit {0}
+InRow size i (t ∷ ts) = (i ≤ t .start) × (t .start + length (t .bytes) ≤ size) × InRow size (t .start + length (t .bytes)) ts
+
 -- .. the first of which starts at i
 abbrev Laid : ℕ → ℕ → List Line → Type 0
 Laid size i [] = Unit {0}
-Laid size i (t ∷ ts) = (t .start ≡ i) × (t .start + length (t .bytes) ≤ size) × Within size ts
+Laid size i (t ∷ ts) = (t .start ≡ i) × (t .start + length (t .bytes) ≤ size) × InRow size (t .start + length (t .bytes)) ts
 
 module _ (size : ℕ) where
-  laid-within : (i : ℕ) (ts : List Line) → Laid size i ts → Within size ts
-  laid-within i [] g = tt
-  laid-within i (t ∷ ts) (s, l, w) = (l, w)
+  pub row-within : (i : ℕ) (ts : List Line) → InRow size i ts → Within size ts
+  row-within i [] g = tt
+  row-within i (t ∷ ts) (s, l, w) = (l, row-within _ ts w)
+
+  row-before : (i j : ℕ) (ts : List Line) → j ≤ i → InRow size i ts → InRow size j ts
+  row-before i j [] h g = tt
+  row-before i j (t ∷ ts) h (s, l, w) = (omega arith, l, w)
+
+  laid-row : (i j : ℕ) (ts : List Line) → j ≤ i → Laid size i ts → InRow size j ts
+  laid-row i j [] h g = tt
+  laid-row i j (t ∷ ts) h (s, l, w) = (omega arith, l, w)
 
   module _ (i : ℕ) (h : i < size) where
     laid-first : (b : ℕ) (ts : List Line) → Laid size (suc i) ts → Laid size i (first i b ts)
     laid-first b [] g = (refl, omega arith, tt)
-    laid-first b (t ∷ ts) (s, l, w) = (refl, omega arith, w)
+    laid-first b (t ∷ ts) (s, l, w) = (refl, omega arith, row-before _ _ ts (omega arith) w)
 
     laid-ended : (ts : List Line) → Laid size (suc i) ts → Laid size i (ended i ts)
-    laid-ended ts g = (refl, omega arith, laid-within (suc i) ts g)
+    laid-ended ts g = (refl, omega arith, laid-row (suc i) _ ts (omega arith) g)
 
     laid-behind : (ts : List Line) → Laid size (suc i) ts → Laid size i (behind i ts)
     laid-behind [] g = tt
-    laid-behind (t ∷ ts) (s, l, w) = (refl, omega arith, w)
+    laid-behind (t ∷ ts) (s, l, w) = (refl, omega arith, row-before _ _ ts (omega arith) w)
 
   lines-laid : (i : ℕ) (s : List ℕ) → i + length s ≤ size → Laid size i (linesOf i s)
   unfolding linesOf
@@ -55,8 +68,12 @@ module _ (size : ℕ) where
   split-within [] after w = (tt, w)
   split-within (t ∷ before) after w = let (b, (h, a)) = split-within before (t ∷ after) w in ((h, b), a)
 
+-- the lines of a file stand one behind the other
+pub lines-row : (f : List ℕ) → InRow (length f) 0 (linesOf 0 f)
+lines-row f = laid-row (length f) 0 0 (linesOf 0 f) (omega arith) (lines-laid (length f) 0 f (omega arith))
+
 pub lines-within : (f : List ℕ) → Within (length f) (linesOf 0 f)
-lines-within f = laid-within (length f) 0 (linesOf 0 f) (lines-laid (length f) 0 f (omega arith))
+lines-within f = row-within (length f) 0 (linesOf 0 f) (lines-row f)
 
 -- an open group's total stands in a line that was read, n being their number
 abbrev pub Kept : ℕ → ℕ → State → Type 0

@@ -88,7 +88,7 @@ overs-last zero k = refl
 overs-last (suc n) k = refl
 
 -- the parts behind the first begin where the first piece says
-others-skip : (at : ℕ) (s : List ℕ) → seek bar s < length s → others at s ≡ divide (at + suc (seek bar s)) (drop (suc (seek bar s)) s)
+pub others-skip : (at : ℕ) (s : List ℕ) → seek bar s < length s → others at s ≡ divide (at + suc (seek bar s)) (drop (suc (seek bar s)) s)
 unfolding others seek starts pick
 others-skip at [] h = absurd (omega arith)
 others-skip at (x ∷ s) h =
@@ -97,7 +97,7 @@ others-skip at (x ∷ s) h =
     let k : at + 1 + suc (seek bar s) ≡ at + suc (suc (seek bar s)) = omega arith in
     simp e (others-skip (at + 1) s (omega (arith, simp e at h)) ∙ ap (λ (a : ℕ). divide a (drop (suc (seek bar s)) s)) k))
 
-others-last : (at : ℕ) (s : List ℕ) → length s ≤ seek bar s → others at s ≡ []
+pub others-last : (at : ℕ) (s : List ℕ) → length s ≤ seek bar s → others at s ≡ []
 unfolding others seek starts pick
 others-last at [] h = refl
 others-last at (x ∷ s) h =

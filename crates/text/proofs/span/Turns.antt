@@ -29,7 +29,7 @@ others-none at [] h = refl
 others-none at (x ∷ s) h =
     by-test (eqb x 124) (λ e. absurd (omega (arith, simp e at h))) (λ e. simp e (others-none (at + 1) s (omega (arith, simp e at h))))
 
-others-some : (at : ℕ) (s : List ℕ) → seek bar s < length s → length (others at s) ≡ 1 + length (others (at + seek bar s + 1) (drop (seek bar s + 1) s))
+pub others-some : (at : ℕ) (s : List ℕ) → seek bar s < length s → length (others at s) ≡ 1 + length (others (at + seek bar s + 1) (drop (seek bar s + 1) s))
 unfolding others seek starts pick
 others-some at [] h = absurd (omega arith)
 others-some at (x ∷ s) h =

@@ -105,7 +105,7 @@ keep-none [] h = omega arith
 keep-none (q ∷ qs) h = absurd (omega arith)
 
 -- parts that are free of `|`, divided by `|`, are divided back
-others-free : (at : ℕ) (s : List ℕ) → Free bar s → others at s ≡ []
+pub others-free : (at : ℕ) (s : List ℕ) → Free bar s → others at s ≡ []
 unfolding others pick starts
 others-free at [] h = refl
 others-free at (x ∷ s) h =
@@ -114,7 +114,7 @@ others-free at (x ∷ s) h =
     (λ e. simp e (others-free (at + 1) s (free-tail bar x s h)))
 
 -- the bytes are the same wherever the message begins
-others-anywhere : (a b : ℕ) (s : List ℕ) → bytesOf (others a s) ≡ bytesOf (others b s)
+pub others-anywhere : (a b : ℕ) (s : List ℕ) → bytesOf (others a s) ≡ bytesOf (others b s)
 unfolding others pick
 others-anywhere a b [] = refl
 others-anywhere a b (x ∷ s) =
