@@ -566,6 +566,47 @@ WRONG = [
         "refusal n k off",
         "gpcwhole",
     ),
+    # ---- why a line is refused
+    (
+        "a closing line, walked",
+        "a minus would close a group",
+        "why:Walk",
+        "pick (eqb x 43) (ended 43",
+        "pick (eqb x 45) (ended 43",
+        "why",
+    ),
+    (
+        "an account file's kind, allowed",
+        "every kind would be",
+        "why:Allowed",
+        "isTaken sh today c w fileKind s = isValue (readKind sh s)",
+        "isTaken sh today c w fileKind s = true",
+        "why",
+    ),
+    (
+        "an account file's line, walked",
+        "what follows the bank would not be told",
+        "why:Walk",
+        "      ended 42 payerBank a5 s5",
+        "      passed",
+        "why",
+    ),
+    (
+        "a total that is not the sum, found",
+        "the finding would name the refusal of a warning",
+        "why:Finding",
+        "(finding 10 100 (x .head .line)",
+        "(finding 0 100 (x .head .line)",
+        "why",
+    ),
+    (
+        "a total that differs, listed",
+        "it would be listed for the items behind the first alone",
+        "why:Warned",
+        "(λ i. i .amount + ahead sh today c ts)",
+        "(λ i. ahead sh today c ts)",
+        "why",
+    ),
 ]
 
 

@@ -36,6 +36,11 @@ STANDING = {
     "outcomes/proofs/firstwrong/Main": ("header-proper", "rows-proper", "header-carried", "rows-carried"),
     # the whole walk of refusal 20, without a sheet: no call has it yet; requests that export, join and pair batches are to call it
     "rows/src/walk": ("proper_rows",),
+    # what the findings of W-205 are, and that a line's walk and a sentence are theirs: no call lists findings yet
+    "why/proofs/Found": ("found-true",),
+    "why/proofs/Warned": ("as-many",),
+    "why/proofs/Onward": ("never-back",),
+    "why/proofs/Allowed": ("allowed-true",),
     # worked examples of a statement's fields
     "internal/proofs/Examples": "*",
     "turnover/proofs/Edges": "*",

@@ -1,0 +1,10 @@
+pub mod Agrees
+pub mod Fields
+pub mod Texts
+pub mod Walk
+pub mod Lines
+pub mod Found
+pub mod Warned
+pub mod Order
+pub mod Onward
+pub mod Allowed

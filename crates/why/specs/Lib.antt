@@ -1,0 +1,11 @@
+pub mod Rule
+pub mod Names
+pub mod Forms
+pub mod Texts
+pub mod Fields
+pub mod Walk
+pub mod Finding
+pub mod Told
+pub mod Blames
+pub mod Warned
+pub mod Allowed
