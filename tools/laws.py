@@ -41,6 +41,7 @@ STANDING = {
     "why/proofs/Warned": ("as-many",),
     "why/proofs/Onward": ("never-back",),
     "why/proofs/Allowed": ("allowed-true",),
+    "fault/src/known": ("walk_line",),
     # worked examples of a statement's fields
     "internal/proofs/Examples": "*",
     "turnover/proofs/Edges": "*",
