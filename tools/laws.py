@@ -42,6 +42,7 @@ STANDING = {
     "why/proofs/Onward": ("never-back",),
     "why/proofs/Allowed": ("allowed-true",),
     "fault/src/known": ("walk_line",),
+    "sentences/src/lib": ("put_sentence",),
     # worked examples of a statement's fields
     "internal/proofs/Examples": "*",
     "turnover/proofs/Edges": "*",

@@ -1,0 +1,2 @@
+-- Laws of how many digits a field has, by an answer of the sheet.
+mod Digits

@@ -1,0 +1,4 @@
+pub mod Phrases
+pub mod Quoted
+pub mod Allowed
+pub mod Sentences
