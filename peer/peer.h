@@ -13,6 +13,10 @@
  *   explain.c                                 answers in words; the rewriting
  *   read.c, write.c                           the calls for batches
  *   read_statement.c, write_statement.c       the calls for statements
+ *   findings.c, findings_text.c               the calls for findings
+ *   sentence; reason, warnings                findings in words; findings
+ *   spelling; reason_field                    the same of one field
+ *   pen.h; retrace                            words; a judged file again
  *   judge, fill; judge_batch                  passes over a file, over a batch
  *   judge_heads, judge_item; spell_batch      the lines of a file, of a batch
  *   judge_fields.h, split; batch.h            the parts of lines, of rows
@@ -20,6 +24,7 @@
  *   statement                                 its records and their rows
  *   internal.h                                accounts in statements
  *   account.h, lines.h                        accounts, and the kinds of lines
+ *   finding.h                                 what a finding says
  *   bytes.h, days.h, digits.h, header.h, sheet
  */
 #ifndef PEER_H
@@ -62,6 +67,26 @@ struct peer_text {
    `accepted rows R warnings W`, and LF. */
 struct peer_text peer_explain(const uint8_t *file, size_t len, uint64_t sheet,
                               uint64_t today, uint8_t *out, size_t out_len);
+
+/* number 0: findings filled, or 16: findings needed; refused is 1 if the sheet
+   asked for refuses the file, and bit n - 1 of sheets says that sheet n accepts
+   it that day.  With 1, 2 and 16 all else but needed is 0. */
+struct peer_list {
+    uint64_t number, refused, count, needed, sheets;
+};
+
+/* What is found in a file (request W-205): one refusal, or each warning in file
+   order.  A finding is 8 little-endian 64-bit words, lent as bytes of any
+   alignment: number (0 is a warning), cause, line, byte, length, field, least
+   and most. */
+struct peer_list peer_findings(const uint8_t *file, size_t len, uint64_t sheet,
+                               uint64_t today, uint8_t *out, size_t out_len);
+
+/* The same in words: how the sheet answers, a sentence for each finding, and a
+   line for each sheet.  Numbers 1 and 2 have no text. */
+struct peer_text peer_findings_text(const uint8_t *file, size_t len,
+                                    uint64_t sheet, uint64_t today,
+                                    uint8_t *out, size_t out_len);
 
 /* The rewriting program on slices: a sheet letter, a space, today as DDMMRR,
    a line end and a file come in; the canonical file or a refused line goes

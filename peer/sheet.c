@@ -2,8 +2,9 @@
 
 #define BELOW_10_12 UINT64_C(999999999999)
 
-static const struct peer_sheet sheets[] = {
-    { /* K */
+static const struct peer_sheet sheets[SHEETS] = {
+    {
+        .letter = 'K',
         .header = true, .short_header = true, .interval = true,
         .bank = 8100, .last_kind = 1501,
         .base_digits = 2,
@@ -13,7 +14,8 @@ static const struct peer_sheet sheets[] = {
         .item_most = AMOUNT_MOST, .all_items = UINT64_MAX,
         .tail = PEER_TAIL_AV,
     },
-    { /* S */
+    {
+        .letter = 'S',
         .header = true,
         .bank = 800, .last_kind = 1502,
         .base_digits = 1,
@@ -21,7 +23,8 @@ static const struct peer_sheet sheets[] = {
         .item_digits = 12, .item_most = BELOW_10_12, .all_items = 1000,
         .tail = PEER_TAIL_PART,
     },
-    { /* C */
+    {
+        .letter = 'C',
         .any_bank = true, .bank = 300, .last_kind = 1504,
         .joined = true, .base_digits = 1,
         .by_spaces = true, .long_date = true, .past_warns = true,
@@ -29,7 +32,8 @@ static const struct peer_sheet sheets[] = {
         .item_digits = AMOUNT_DIGITS, .item_most = AMOUNT_MOST,
         .all_items = UINT64_MAX, .tail = PEER_TAIL_AV_NP,
     },
-    { /* E */
+    {
+        .letter = 'E',
         .header = true,
         .bank = 6100, .last_kind = 1501,
         .base_digits = 1,
@@ -37,7 +41,8 @@ static const struct peer_sheet sheets[] = {
         .comma = true, .item_digits = AMOUNT_DIGITS, .item_most = BELOW_10_12,
         .all_items = UINT64_MAX, .tail = PEER_TAIL_AV,
     },
-    { /* P: the previous edition of C (request W-201) */
+    { /* the previous edition of C (request W-201) */
+        .letter = 'P',
         .header = true,
         .bank = 300, .last_kind = 1502,
         .joined = true, .base_digits = 1,
@@ -50,6 +55,5 @@ static const struct peer_sheet sheets[] = {
 
 const struct peer_sheet *peer_sheet_of(uint64_t number)
 {
-    const uint64_t count = sizeof sheets / sizeof *sheets;
-    return number >= 1 && number <= count ? &sheets[number - 1] : NULL;
+    return number >= 1 && number <= SHEETS ? &sheets[number - 1] : NULL;
 }

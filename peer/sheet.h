@@ -21,6 +21,8 @@ enum {
     USUAL_PRIORITY = 5,
     AMOUNT_DIGITS = 14
 };
+
+enum { SHEETS = 5 };
 #define AMOUNT_MOST UINT64_C(99999999999999)
 #define SYMBOL_MOST UINT64_C(9999999999)
 #define BASE_MOST UINT64_C(9999999999)
@@ -33,6 +35,8 @@ enum peer_tail {
 };
 
 struct peer_sheet {
+    char letter;
+
     /* The first line and the account file's head. */
     bool header;        /* the first line has fields */
     bool short_header;  /* it may stop after the interval, or six bytes on */

@@ -115,6 +115,14 @@ void not_written(const char *what, const struct batch_in *b, uint64_t sheet,
 void written(const char *what, const struct batch_in *b, uint64_t sheet,
              const char *text);
 
+/* ---- random files ---- */
+
+/* A file that the sheet accepts today, in its canonical spelling. */
+size_t draw_batch_file(unsigned sheet, uint8_t *out, size_t room);
+/* One to three bytes changed, put in or left out, at times the end cut off; the
+   file may grow by three bytes.  Gives back its length. */
+size_t damage_batch_file(uint8_t *file, size_t len);
+
 /* ---- the groups of tests ---- */
 
 void test_document(void);
@@ -130,5 +138,10 @@ void test_samples(void);
 void test_random(void);
 void test_statements(void);
 void test_random_statements(void);
+void test_findings(void);
+void test_warnings(void);
+void test_damage(void);
+void test_findings_text(void);
+void test_random_findings(void);
 
 #endif

@@ -1,5 +1,5 @@
 /* Runs every group; the last line of the output is the two counts. */
-#include "check.h"
+#include "check_findings.h"
 
 int main(void)
 {
@@ -16,7 +16,14 @@ int main(void)
     test_random();
     test_statements();
     test_random_statements();
+    test_findings();
+    test_warnings();
+    test_damage();
+    test_findings_text();
+    test_random_findings();
     free(test_out);
+    free(test_found);
+    free(test_text);
     printf("%lu %lu\n", test_passed, test_failed);
     return test_failed == 0 ? 0 : 1;
 }

@@ -136,6 +136,17 @@ static void draw_batch(unsigned sheet)
     }
 }
 
+size_t draw_batch_file(unsigned sheet, uint8_t *out, size_t room)
+{
+    draw_batch(sheet);
+    struct peer_written w = batch_write(&b, sheet, TODAY, room);
+    CHECK("random: a file is drawn", w.number == 0);
+    if (w.number != 0)
+        return 0;
+    memcpy(out, test_out, (size_t)w.bytes);
+    return (size_t)w.bytes;
+}
+
 /* Collections drawn so far: groups due today and one month ahead, and pairs of
    items that follow each other, one of them from 0300. */
 struct drawn {
@@ -280,7 +291,7 @@ static void round_trip(unsigned sheet, struct drawn *drawn)
                       (size_t)w.bytes));
 }
 
-static size_t damage(uint8_t *file, size_t len)
+size_t damage_batch_file(uint8_t *file, size_t len)
 {
     static const char bytes[] = " 0123456789-+|,\r\nAVNP:x\x7f\x01\xff  00#~";
     for (uint64_t times = 1 + below(3); times > 0 && len > 1; times--) {
@@ -317,7 +328,7 @@ static unsigned damaged_file(unsigned sheet)
         return 0;
     size_t len = (size_t)w.bytes;
     memcpy(canonical, test_out, len);
-    len = damage(canonical, len);
+    len = damage_batch_file(canonical, len);
     uint8_t *file = malloc(len);
     if (file == NULL)
         exit(2);
@@ -454,7 +465,7 @@ static void moves_to_c(int times)
         moved_to_c(test_out, (size_t)w.bytes, whole);
         size_t len = respelled(test_out, (size_t)w.bytes, file);
         moved_to_c(file, len, whole);
-        len = damage(file, len);
+        len = damage_batch_file(file, len);
         moved_to_c(file, len, hurt);
     }
     CHECK("random: P reads what is only respelled",
