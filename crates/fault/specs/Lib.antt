@@ -1,3 +1,4 @@
 pub mod field
 pub mod line
+pub mod item
 pub mod known

@@ -1,6 +1,7 @@
 // A file's first line walked from its left: fields by place, each judged by its rules; a line that ends inside a field is too short for it.
 use crate::field::Ruling;
 use crate::line::Walk;
+use crate::line::stopped;
 use numeral::Num;
 use sheet::Sheet;
 ghost use mathlib.Core.Path.{_≡_};
@@ -11,29 +12,6 @@ ghost use Rattle.why.specs.Forms.{spelled};
 ghost use Rattle.why.specs.Walk.{whyFirst};
 ghost use Rattle.fault.specs.line.Walks.{walk};
 ghost use Rattle.fault.specs.line.Stages.{fromDate, fromName, fromClient, fromStart, fromEnd, fromRest};
-
-// A field that broke a rule.
-fn stopped(
-    number: u64,
-    cause: u64,
-    offset: usize,
-    length: usize,
-    field: u64,
-    least: u64,
-    most: u64,
-) -> Walk
-    ensures { λ r. ⌜ r ≡ Walk.Stopped number cause offset length field least most ⌝ }
-{
-    Walk::Stopped {
-        number,
-        cause,
-        offset,
-        length,
-        field,
-        least,
-        most,
-    }
-}
 
 // The rest of the line.
 fn walk_rest(s: &[u8], sh: Sheet) -> Walk

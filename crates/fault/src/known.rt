@@ -31,7 +31,7 @@ pub fn walk_line(s: &[u8], sh: Sheet, today: u64, x: Bearing) -> Walk
     ensures { λ r. ⌜ ((c : Context) → Bears x c (kindOf (now (s .entry))) → r ≡ walk (whyAs sh today c (now (s .entry)) (kindOf (now (s .entry))))) ⌝ }
 {
     match scan::kind::kind_of(s) {
-        LineKind::Item => crate::line::walk_item(s, sh, today, x.kind, x.date, x.single),
+        LineKind::Item => crate::item::walk_item(s, sh, today, x.kind, x.date, x.single),
         LineKind::Group => crate::line::walk_group(s, sh, today, x.kind),
         LineKind::File => crate::line::walk_file(s, sh, x.from, x.to, x.seen),
         LineKind::Head => crate::first::walk_first(s, sh),

@@ -5,6 +5,7 @@ pub mod closing;
 pub mod due;
 pub mod field;
 pub mod first;
+pub mod item;
 pub mod known;
 pub mod line;
 pub mod texts;

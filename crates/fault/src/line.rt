@@ -1,23 +1,20 @@
-// A line walked from its left: the first field whose rules are broken, or the line's form.
+// The lines of an account file and of a group walked from their left: the first field whose rules are broken, or the line's form.
 use crate::field::Ruling;
 use fileline::seen::Seen;
 use sheet::Sheet;
 ghost use mathlib.Core.Path.{_≡_};
 ghost use mathlib.Core.List.{List};
-ghost use mathlib.Core.Bool.{true, false};
+ghost use mathlib.Core.Bool.{true};
 ghost use Prim.Native.Nat.{ℕ, _≤_};
 ghost use lib.ListN.{length, drop};
-ghost use Rattle.base.specs.Pick.{pick};
-ghost use Rattle.paper.specs.Bytes.{fieldOf};
 ghost use Rattle.paper.specs.Days.{realDay};
 ghost use Rattle.paper.specs.Batch.{Header};
 ghost use Rattle.paper.specs.GroupLine.{hasPayer};
 ghost use Rattle.paper.specs.Spells.{Context, after};
 ghost use Rattle.fileline.specs.seen.Bits.{Holds};
-ghost use Rattle.why.specs.Forms.{areDigits};
-ghost use Rattle.why.specs.Walk.{whyFile, whyTotal, whyGroup, whyBehind, whyOpen, whyPayee, whyItem};
+ghost use Rattle.why.specs.Walk.{whyFile, whyTotal, whyGroup};
 ghost use Rattle.fault.specs.line.Walks.{walk};
-ghost use Rattle.fault.specs.line.Stages.{fromCode, fromNumber, fromDay, fromPayer, fromText, fromSymbol, fromFixed, fromTail, fromBank, fromVariable, fromAmount, fromSingle};
+ghost use Rattle.fault.specs.line.Stages.{fromCode, fromNumber, fromDay, fromPayer};
 
 // The line breaks no rule; or its first fault: the refusal's number, the cause, the offset in the line, how many bytes were found there, the
 // field, and from what to what was allowed.
@@ -34,19 +31,34 @@ pub enum Walk {
     },
 }
 
-// 4 for the line's form.
-pub fn malformed(cause: u64, offset: usize, length: usize, field: u64) -> Walk
-    ensures { λ r. ⌜ r ≡ Walk.Stopped 4 cause offset length field 0 0 ⌝ }
+// A field that broke a rule.
+pub fn stopped(
+    number: u64,
+    cause: u64,
+    offset: usize,
+    length: usize,
+    field: u64,
+    least: u64,
+    most: u64,
+) -> Walk
+    ensures { λ r. ⌜ r ≡ Walk.Stopped number cause offset length field least most ⌝ }
 {
     Walk::Stopped {
-        number: 4,
+        number,
         cause,
         offset,
         length,
         field,
-        least: 0,
-        most: 0,
+        least,
+        most,
     }
+}
+
+// 4 for the line's form.
+pub fn malformed(cause: u64, offset: usize, length: usize, field: u64) -> Walk
+    ensures { λ r. ⌜ r ≡ Walk.Stopped 4 cause offset length field 0 0 ⌝ }
+{
+    stopped(4, cause, offset, length, field, 0, 0)
 }
 
 // ---- an account file's line
@@ -63,15 +75,7 @@ fn walk_code(s: &[u8], at: usize, sh: Sheet) -> Walk
             cause,
             least,
             most,
-        } => Walk::Stopped {
-            number,
-            cause,
-            offset: at,
-            length: end - at,
-            field: 12,
-            least,
-            most,
-        },
+        } => stopped(number, cause, at, end - at, 12, least, most),
         Ruling::Kept => {
             if end < s.len() {
                 return malformed(42, end, s.len() - end, 12);
@@ -93,15 +97,7 @@ fn walk_number(s: &[u8], at: usize, sh: Sheet, from: u64, to: u64, seen: Seen) -
             cause,
             least,
             most,
-        } => Walk::Stopped {
-            number,
-            cause,
-            offset: at,
-            length: end - at,
-            field: 11,
-            least,
-            most,
-        },
+        } => stopped(number, cause, at, end - at, 11, least, most),
         Ruling::Kept => {
             if end < s.len() {
                 return walk_code(s, end + 1, sh);
@@ -123,15 +119,7 @@ pub fn walk_file(s: &[u8], sh: Sheet, from: u64, to: u64, seen: Seen) -> Walk
             cause,
             least,
             most,
-        } => Walk::Stopped {
-            number,
-            cause,
-            offset: 2,
-            length: end - 2,
-            field: 10,
-            least,
-            most,
-        },
+        } => stopped(number, cause, 2, end - 2, 10, least, most),
         Ruling::Kept => {
             if end < s.len() {
                 return walk_number(s, end + 1, sh, from, to, seen);
@@ -163,15 +151,7 @@ fn walk_day(s: &[u8], at: usize, sh: Sheet, today: u64, kind: u64) -> Walk
             cause,
             least,
             most,
-        } => Walk::Stopped {
-            number,
-            cause,
-            offset: at,
-            length: end - at,
-            field: 22,
-            least,
-            most,
-        },
+        } => stopped(number, cause, at, end - at, 22, least, most),
         Ruling::Kept => {
             if end < s.len() {
                 return malformed(42, end, s.len() - end, 22);
@@ -194,15 +174,7 @@ fn walk_total(s: &[u8], at: usize, sh: Sheet, today: u64, kind: u64) -> Walk
             cause,
             least,
             most,
-        } => Walk::Stopped {
-            number,
-            cause,
-            offset: at,
-            length: end - at,
-            field: 21,
-            least,
-            most,
-        },
+        } => stopped(number, cause, at, end - at, 21, least, most),
         Ruling::Kept => {
             if end < s.len() {
                 return walk_day(s, end + 1, sh, today, kind);
@@ -241,15 +213,7 @@ fn walk_payer(s: &[u8], sh: Sheet, today: u64, kind: u64) -> Walk
             cause,
             least,
             most,
-        } => Walk::Stopped {
-            number,
-            cause,
-            offset: 2,
-            length: end - 2,
-            field: 20,
-            least,
-            most,
-        },
+        } => stopped(number, cause, 2, end - 2, 20, least, most),
         Ruling::Kept => {
             if end < s.len() {
                 return walk_total(s, end + 1, sh, today, kind);
@@ -269,318 +233,4 @@ pub fn walk_group(s: &[u8], sh: Sheet, today: u64, kind: u64) -> Walk
         return walk_payer(s, sh, today, kind);
     }
     walk_total(s, 2, sh, today, kind)
-}
-
-// ---- an item's line
-
-// A text to the line's end.
-fn walk_text(s: &[u8], at: usize, sh: Sheet) -> Walk
-    requires { ⌜ at ≤ length (now s) ⌝ }
-    ensures { λ r. ⌜ ((today : ℕ) (c : Context) → r ≡ walk (fromText sh today c (now (s .entry)) at (drop at (now (s .entry))))) ⌝ }
-{
-    let n = s.len();
-    match crate::texts::check_text(&s[at..n], sh.text) {
-        Ruling::Broke {
-            number,
-            cause,
-            least,
-            most,
-        } => Walk::Stopped {
-            number,
-            cause,
-            offset: at,
-            length: n - at,
-            field: 36,
-            least,
-            most,
-        },
-        Ruling::Kept => Walk::Passed,
-    }
-}
-
-// Behind a symbol: nothing, or a space and a text.
-fn walk_behind(s: &[u8], at: usize, sh: Sheet) -> Walk
-    requires { ⌜ at ≤ length (now s) ⌝ }
-    ensures { λ r. ⌜ ((today : ℕ) (c : Context) → r ≡ walk (whyBehind sh today c (now (s .entry)) at (drop at (now (s .entry))))) ⌝ }
-{
-    if at < s.len() {
-        return walk_text(s, at + 1, sh);
-    }
-    Walk::Passed
-}
-
-// A symbol, and what follows it off S.
-fn walk_symbol(s: &[u8], at: usize, sh: Sheet) -> Walk
-    requires { ⌜ at ≤ length (now s) ⌝ }
-    ensures { λ r. ⌜ ((today : ℕ) (c : Context) → r ≡ walk (fromSymbol sh today c (now (s .entry)) at (drop at (now (s .entry))))) ⌝ }
-{
-    let end = scan::line::field_end(s, at);
-    match crate::field::check_symbol(&s[at..end], sh.fixedtail) {
-        Ruling::Broke {
-            number,
-            cause,
-            least,
-            most,
-        } => Walk::Stopped {
-            number,
-            cause,
-            offset: at,
-            length: end - at,
-            field: 35,
-            least,
-            most,
-        },
-        Ruling::Kept => walk_behind(s, end, sh),
-    }
-}
-
-// A symbol or none, a space and a text (S).
-fn walk_fixed_symbol(s: &[u8], at: usize, sh: Sheet) -> Walk
-    requires { ⌜ at ≤ length (now s) ⌝ }
-    ensures { λ r. ⌜ ((today : ℕ) (c : Context) → r ≡ walk (fromFixed sh today c (now (s .entry)) at (drop at (now (s .entry))))) ⌝ }
-{
-    let end = scan::line::field_end(s, at);
-    match crate::field::check_symbol(&s[at..end], sh.fixedtail) {
-        Ruling::Broke {
-            number,
-            cause,
-            least,
-            most,
-        } => Walk::Stopped {
-            number,
-            cause,
-            offset: at,
-            length: end - at,
-            field: 35,
-            least,
-            most,
-        },
-        Ruling::Kept => {
-            if end < s.len() {
-                return walk_text(s, end + 1, sh);
-            }
-            malformed(41, end, 0, 36)
-        }
-    }
-}
-
-// Whether what stands at `at` is no symbol, where a text may stand for it (`bare`).
-fn no_symbol(s: &[u8], at: usize, bare: bool) -> bool
-    requires { ⌜ at ≤ length (now s) ⌝ }
-    ensures { λ r. ⌜ r ≡ pick bare (pick (areDigits 1 10 (fieldOf (drop at (now (s .entry))))) false true) false ⌝ }
-{
-    if bare {
-        let end = scan::line::field_end(s, at);
-        return match crate::field::check_digits(&s[at..end], 1, 10) {
-            Ruling::Kept => false,
-            Ruling::Broke {
-                number: _,
-                cause: _,
-                least: _,
-                most: _,
-            } => true,
-        };
-    }
-    false
-}
-
-// The tail on K, C, E and P.
-fn walk_open(s: &[u8], at: usize, sh: Sheet) -> Walk
-    requires { ⌜ at ≤ length (now s) ⌝ }
-    ensures { λ r. ⌜ ((today : ℕ) (c : Context) → r ≡ walk (whyOpen sh today c (now (s .entry)) at (drop at (now (s .entry))))) ⌝ }
-{
-    if at < s.len() {
-        let from = at + 1;
-        if no_symbol(s, from, sh.bare) {
-            return walk_text(s, from, sh);
-        }
-        return walk_symbol(s, from, sh);
-    }
-    Walk::Passed
-}
-
-// The tail: on S a space always, elsewhere it may be missing.
-fn walk_tail(s: &[u8], at: usize, sh: Sheet) -> Walk
-    requires { ⌜ at ≤ length (now s) ⌝ }
-    ensures { λ r. ⌜ ((today : ℕ) (c : Context) → r ≡ walk (fromTail sh today c (now (s .entry)) at (drop at (now (s .entry))))) ⌝ }
-{
-    let fixed = sh.fixedtail;
-    if fixed {
-        if at < s.len() {
-            return walk_fixed_symbol(s, at + 1, sh);
-        }
-        return malformed(41, at, 0, 35);
-    }
-    walk_open(s, at, sh)
-}
-
-// The bank field, in an account file of that kind and a group of that date, and the tail.
-fn walk_bank(s: &[u8], at: usize, sh: Sheet, today: u64, kind: u64, date: u64) -> Walk
-    requires { ⌜ at ≤ length (now s) ⌝ }
-    requires { ⌜ realDay today ≡ true ⌝ }
-    ensures { λ r. ⌜ ((c : Context) → c .kind ≡ kind → c .date ≡ date → r ≡ walk (fromBank sh today c (now (s .entry)) at (drop at (now (s .entry))))) ⌝ }
-{
-    let end = scan::line::field_end(s, at);
-    match crate::banks::check_bank(
-        &s[at..end],
-        sh.priority,
-        calendar::term::is_collection(sh, kind),
-        sh.bank,
-        today,
-        date,
-    ) {
-        Ruling::Broke {
-            number,
-            cause,
-            least,
-            most,
-        } => Walk::Stopped {
-            number,
-            cause,
-            offset: at,
-            length: end - at,
-            field: 34,
-            least,
-            most,
-        },
-        Ruling::Kept => walk_tail(s, end, sh),
-    }
-}
-
-// The variable symbol and what follows it.
-fn walk_variable(s: &[u8], at: usize, sh: Sheet, today: u64, kind: u64, date: u64) -> Walk
-    requires { ⌜ at ≤ length (now s) ⌝ }
-    requires { ⌜ realDay today ≡ true ⌝ }
-    ensures { λ r. ⌜ ((c : Context) → c .kind ≡ kind → c .date ≡ date → r ≡ walk (fromVariable sh today c (now (s .entry)) at (drop at (now (s .entry))))) ⌝ }
-{
-    let end = scan::line::field_end(s, at);
-    match crate::field::check_digits(&s[at..end], 1, 10) {
-        Ruling::Broke {
-            number,
-            cause,
-            least,
-            most,
-        } => Walk::Stopped {
-            number,
-            cause,
-            offset: at,
-            length: end - at,
-            field: 33,
-            least,
-            most,
-        },
-        Ruling::Kept => {
-            if end < s.len() {
-                return walk_bank(s, end + 1, sh, today, kind, date);
-            }
-            malformed(41, end, 0, 34)
-        }
-    }
-}
-
-// The amount and what follows it.
-fn walk_amount(s: &[u8], at: usize, sh: Sheet, today: u64, kind: u64, date: u64) -> Walk
-    requires { ⌜ at ≤ length (now s) ⌝ }
-    requires { ⌜ realDay today ≡ true ⌝ }
-    requires { ⌜ sh .itemdigits ≤ 19 ⌝ }
-    ensures { λ r. ⌜ ((c : Context) → c .kind ≡ kind → c .date ≡ date → r ≡ walk (fromAmount sh today c (now (s .entry)) at (drop at (now (s .entry))))) ⌝ }
-{
-    let end = scan::line::field_end(s, at);
-    match crate::field::check_amount(&s[at..end], sh.comma, sh.itemdigits, sh.itemmax) {
-        Ruling::Broke {
-            number,
-            cause,
-            least,
-            most,
-        } => Walk::Stopped {
-            number,
-            cause,
-            offset: at,
-            length: end - at,
-            field: 32,
-            least,
-            most,
-        },
-        Ruling::Kept => {
-            if end < s.len() {
-                return walk_variable(s, end + 1, sh, today, kind, date);
-            }
-            malformed(41, end, 0, 33)
-        }
-    }
-}
-
-// The payee's account and what follows it.
-fn walk_payee(s: &[u8], at: usize, sh: Sheet, today: u64, kind: u64, date: u64) -> Walk
-    requires { ⌜ at ≤ length (now s) ⌝ }
-    requires { ⌜ realDay today ≡ true ⌝ }
-    requires { ⌜ sh .itemdigits ≤ 19 ⌝ }
-    ensures { λ r. ⌜ ((c : Context) → c .kind ≡ kind → c .date ≡ date → r ≡ walk (whyPayee sh today c (now (s .entry)) at (drop at (now (s .entry))))) ⌝ }
-{
-    let end = scan::line::field_end(s, at);
-    match crate::accounts::check_account(&s[at..end], sh.joined, sh.basemin) {
-        Ruling::Broke {
-            number,
-            cause,
-            least,
-            most,
-        } => Walk::Stopped {
-            number,
-            cause,
-            offset: at,
-            length: end - at,
-            field: 31,
-            least,
-            most,
-        },
-        Ruling::Kept => {
-            if end < s.len() {
-                return walk_amount(s, end + 1, sh, today, kind, date);
-            }
-            malformed(41, end, 0, 32)
-        }
-    }
-}
-
-// The payer's account of an item, and what follows it.
-fn walk_single(s: &[u8], sh: Sheet, today: u64, kind: u64, date: u64) -> Walk
-    requires { ⌜ realDay today ≡ true ⌝ }
-    requires { ⌜ sh .itemdigits ≤ 19 ⌝ }
-    ensures { λ r. ⌜ ((c : Context) → c .kind ≡ kind → c .date ≡ date → r ≡ walk (fromSingle sh today c (now (s .entry)) 0 (now (s .entry)))) ⌝ }
-{
-    let end = scan::line::field_end(s, 0);
-    match crate::accounts::check_account(&s[0..end], sh.joined, sh.basemin) {
-        Ruling::Broke {
-            number,
-            cause,
-            least,
-            most,
-        } => Walk::Stopped {
-            number,
-            cause,
-            offset: 0,
-            length: end - 0,
-            field: 30,
-            least,
-            most,
-        },
-        Ruling::Kept => {
-            if end < s.len() {
-                return walk_payee(s, end + 1, sh, today, kind, date);
-            }
-            malformed(41, end, 0, 31)
-        }
-    }
-}
-
-// An item: the payer's account comes first where the group is single.
-pub fn walk_item(s: &[u8], sh: Sheet, today: u64, kind: u64, date: u64, single: bool) -> Walk
-    requires { ⌜ realDay today ≡ true ⌝ }
-    requires { ⌜ sh .itemdigits ≤ 19 ⌝ }
-    ensures { λ r. ⌜ ((c : Context) → c .kind ≡ kind → c .date ≡ date → c .single ≡ single → r ≡ walk (whyItem sh today c (now (s .entry)))) ⌝ }
-{
-    if single {
-        return walk_single(s, sh, today, kind, date);
-    }
-    walk_payee(s, 0, sh, today, kind, date)
 }

@@ -1,6 +1,7 @@
 pub mod Agrees
 pub mod Fields
 pub mod Texts
+pub mod Few
 pub mod Walk
 pub mod Lines
 pub mod Found
@@ -8,3 +9,4 @@ pub mod Warned
 pub mod Order
 pub mod Onward
 pub mod Allowed
+pub mod Ahead

@@ -2,12 +2,11 @@
 use mathlib.Core.Path.{_≡_, refl, sym, ap, _∙_}
 use mathlib.Core.Bool.{Bool, true, false}
 use mathlib.Core.List.{List, [], _∷_}
-use Prim.Native.Nat.{ℕ, _+_, _<_}
+use Prim.Native.Nat.{ℕ, _+_}
 use native.Mathlib.Omega.{arith}
 use lib.Dec.{eqb}
 use lib.ListN.{length, take, drop}
 use lib.Seq.{drop-drop}
-use borrow.Author.Tests.{lt-ltb, ne-eqb}
 use Rattle.base.specs.Pick.{pick}
 use Rattle.base.specs.Seek.{starts}
 use Rattle.base.proofs.Cases.{by-test, either-way, pick-true, pick-false}
@@ -15,7 +14,6 @@ use Rattle.base.proofs.Seek.{never}
 use Rattle.base.proofs.Lists.{drop-none}
 use Rattle.sheet.specs.declared.Sheet.{Sheet}
 use Rattle.sheet.proofs.Laws.{Sane}
-use Rattle.paper.specs.Read.{fault}
 use Rattle.paper.specs.Bytes.{space, fieldOf}
 use Rattle.paper.specs.Numerals.{digits}
 use Rattle.paper.specs.Days.{shortDay, readDue}
@@ -31,29 +29,17 @@ use Rattle.paper.specs.GroupLine.{hasPayer, totalAndDate, readGroup}
 use Rattle.paper.specs.ItemLine.{noTexts, readSymbol, readSymbolOrNone, isValue, fixedTail, afterSymbol, openTail, tail, fromPayee, readItem}
 use Rattle.paper.specs.ClosingLine.{plusAt, readClose}
 use Rattle.paper.specs.Spells.{Context, numberTest, readAs}
-use Rattle.why.specs.Rule.{Rule, rule, firstBroken}
+use Rattle.why.specs.Rule.{firstBroken}
 use Rattle.why.specs.Names.{Name, creationDay, firmName, clientNumber, intervalStart, intervalEnd, restOfLine, fileKind, fileNumber, payerBank, groupPayer, groupTotal, groupDay, itemPayer, payee, amount, variableSymbol, bankField, specificSymbol, message, groupClosing, fileClosing}
-use Rattle.why.specs.Forms.{areDigits, spelled, areText, isLong, isDay}
-use Rattle.why.specs.Fields.{rulesOf, dayRules, nameRules, symbolRules}
+use Rattle.why.specs.Forms.{areDigits, spelled}
+use Rattle.why.specs.Fields.{rulesOf, symbolRules}
 use Rattle.why.specs.Walk.{Walked, passed, ended, closingPlus, whyClose, whyFirst, whyFile, whyTotal, whyGroup, whyFixed, whyBehind, whyOpen, whyPayee, whyItem, whyAs, last, mark}
 use Rattle.why.specs.Told.{Clear, begins, divides, closing, Told, fine, by-form}
-use Rattle.why.proofs.Agrees.{Agrees, breaks, digits-are, digits-spelled}
+use Rattle.why.proofs.Agrees.{Agrees, digits-are, digits-spelled}
 use Rattle.why.proofs.Fields.{digits-agree, kind-agrees, code-agrees, number-agrees, name-agrees, end-agrees, rest-agrees, day-agrees, due-agrees, account-agrees, payer-agrees, total-agrees, amount-agrees, bank-agrees, symbol-agrees, symbol-or-none-agrees}
 use Rattle.why.proofs.Texts.{text-agrees}
+use Rattle.why.proofs.Few.{few-digits, few-day, few-name}
 use Rattle.why.proofs.Walk.{Here, columns, spots, lasts, gaps, ends}
-
--- fewer digits than are wanted are refused
-few-digits : {A : Type 0} (n : ℕ) (rs : List Rule) (t : List ℕ) → length t < n → Agrees {A = A} (fault 4) (firstBroken (rule 4 40 (areDigits n n) ∷ rs) t)
-unfolding areDigits
-few-digits n rs t l = breaks (rule 4 40 (areDigits n n)) rs t 4 refl (pick-true _ _ (lt-ltb (length t) n l))
-
-few-day : {A : Type 0} (t : List ℕ) → length t < 6 → Agrees {A = A} (fault 4) (firstBroken dayRules t)
-unfolding isDay isLong areDigits pick
-few-day t l = breaks _ _ t 4 refl (pick-true _ _ (lt-ltb (length t) 6 l))
-
-few-name : {A : Type 0} (n : ℕ) (t : List ℕ) → length t < n → Agrees {A = A} (fault 4) (firstBroken (nameRules n) t)
-unfolding areText
-few-name n t l = breaks (rule 4 40 (areText n)) [] t 4 refl (pick-false _ _ (ne-eqb (length t) n (λ e. absurd (omega arith))))
 
 -- what begins with a space has a first byte
 leading : (v : List ℕ) → starts space v ≡ true → (x : ℕ) × (s : List ℕ) × (v ≡ x ∷ s)

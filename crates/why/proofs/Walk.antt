@@ -1,5 +1,6 @@
 -- The walk of a line tells its fault truly: the ways to go over a line's fields. Assumes nothing.
 use mathlib.Core.Path.{_≡_, refl, sym, ap, _∙_}
+use mathlib.Core.Bool.{Bool}
 use mathlib.Core.List.{List, [], _∷_}
 use Prim.Native.Nat.{ℕ, zero, suc, _+_, _<_}
 use native.Mathlib.Omega.{arith}
@@ -15,7 +16,7 @@ use Rattle.paper.specs.Read.{Field, value, fault}
 use Rattle.paper.specs.Bytes.{space, fieldOf, restOf}
 use Rattle.paper.specs.Entries.{Said, no, onField, field, place, gap, lineEnd}
 use Rattle.paper.specs.Spells.{Context}
-use Rattle.why.specs.Rule.{Rule, Tested, kept, broke, firstBroken}
+use Rattle.why.specs.Rule.{Rule, rule, Tested, kept, broke, firstBroken}
 use Rattle.why.specs.Names.{Name}
 use Rattle.why.specs.Fields.{rulesOf}
 use Rattle.why.specs.Walk.{Walked, passed, onTested, divider, ended, column, spot, last}
@@ -49,10 +50,10 @@ module _ (sh : Sheet) (today : ℕ) (c : Context) (w : List ℕ) (from : ℕ) wh
     on name at n (fault m) (broke r) (refuses g) e clear h = by-rule g clear e
 
     -- .. of a line that is too short for it
-    short : {X : Type 0} (name : Name) (at n : ℕ) (q : Tested) (j : Walked) → Agrees {A = X} (fault 4) q → firstBroken (Rules name) (take n (drop at w)) ≡ q
+    short : (name : Name) (at n : ℕ) (q : Tested) (j : Walked) (form : List ℕ → Bool) → q ≡ broke (rule 4 40 form) → firstBroken (Rules name) (take n (drop at w)) ≡ q
         → Clear sh today c w from at → Tells (no 4 at) (onTested name at n q j)
     unfolding onTested
-    short name at n (broke r) j (refuses g) e clear = by-rule g clear e
+    short name at n q j form f e clear = rw f (by-rule refl clear (e ∙ f))
 
     -- ---- fields from left to right
 
@@ -68,17 +69,17 @@ module _ (sh : Sheet) (today : ℕ) (c : Context) (w : List ℕ) (from : ℕ) wh
 
     -- a field of n bytes by place, whose rules want as many
     pub spots : {X : Type 0} (n : ℕ) (read : List ℕ → Field X) (name : Name) → ((t : List ℕ) → length t ≡ n → Agrees (read t) (firstBroken (Rules name) t))
-        → ((t : List ℕ) → length t < n → Agrees {A = X} (fault 4) (firstBroken (Rules name) t)) → (at : ℕ) (s : List ℕ)
+        → {form : List ℕ → Bool} → ((t : List ℕ) → length t < n → firstBroken (Rules name) t ≡ broke (rule 4 40 form)) → (at : ℕ) (s : List ℕ)
         {k : X → ℕ → List ℕ → Said A} {j : ℕ → List ℕ → Walked} → Here at s → ((v : X) (a : ℕ) (r : List ℕ) → read (take n s) ≡ value v → a ≡ at + n → Here a r → Tells (k v a r) (j a r))
         → Tells (place n read at s k) (spot sh today c w n name at s j)
     unfolding place spot
-    spots n read name agree few at s here h =
+    spots n read name agree {form} few at s here h =
         let t : take (length (take n s)) (drop at w) ≡ take n s = rw (here .left) (take-taken n s) in
         by-test (ltb (length s) n)
         (λ l.
         let below : length (take n s) < n = omega (arith, ltb-true (length s) n l, length-take n s) in
         rw (pick-true _ _ l)
-        (short name at (length (take n s)) (firstBroken (Rules name) (take n s)) _ (few (take n s) below) (ap (firstBroken (Rules name)) t) (here .clear)))
+        (short name at (length (take n s)) (firstBroken (Rules name) (take n s)) _ form (few (take n s) below) (ap (firstBroken (Rules name)) t) (here .clear)))
         (λ l.
         let long : length (take n s) ≡ n = length-take-le n s (ltb-false (length s) n l) in
         rw (pick-false _ _ l)

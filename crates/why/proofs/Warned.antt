@@ -37,7 +37,7 @@ module _ (sh : Sheet) (today : ℕ) where
   -- ---- one line
 
   -- the line says an entry, with v warnings: its list, behind a total's
-  listed : (c : Context) (t : Line) {e : Entry} {v : ℕ} {p : Places} → readLine sh today c (t .bytes) ≡ said e v p
+  pub listed : (c : Context) (t : Line) {e : Entry} {v : ℕ} {p : Places} → readLine sh today c (t .bytes) ≡ said e v p
       → (ns : List Notice) × (readAs sh today c (kindOf (t .bytes)) (t .bytes) ≡ said e ns p) × (length ns ≡ v)
   unfolding readLine counted
   listed c t {e} {v} {p} q =
@@ -46,7 +46,7 @@ module _ (sh : Sheet) (today : ℕ) where
       (ns, r, same-parts same .1)
 
   module _ (k : ℕ) (t : Line) (ts : List Line) (c : Context) {e : Entry} {v : ℕ} {p : Places} (q : readLine sh today c (t .bytes) ≡ said e v p) where
-    length-line : (total : ℕ) → ((ns : List Notice) → length (totalWarned sh today k t ts (c .kind) (saying e ns p)) ≡ total) → length (lineWarned sh today k t ts c) ≡ total + v
+    pub length-line : (total : ℕ) → ((ns : List Notice) → length (totalWarned sh today k t ts (c .kind) (saying e ns p)) ≡ total) → length (lineWarned sh today k t ts c) ≡ total + v
     unfolding lineWarned onListed
     length-line total h =
         let (ns, r, n) = listed c t q in
@@ -73,12 +73,12 @@ module _ (sh : Sheet) (today : ℕ) where
   pending (stop a) ts = 0
 
   -- an item's line goes on with the sum, any other ends it
-  ahead-item : (c : Context) (t : Line) (ts : List Line) {i : Item} {v : ℕ} {p : Places} → readLine sh today c (t .bytes) ≡ said (item i) v p
+  pub ahead-item : (c : Context) (t : Line) (ts : List Line) {i : Item} {v : ℕ} {p : Places} → readLine sh today c (t .bytes) ≡ said (item i) v p
       → ahead sh today c (t ∷ ts) ≡ i .amount + ahead sh today c ts
   unfolding ahead onListed onItem onEntry
   ahead-item c t ts q = let (ns, r, n) = listed c t q in rw r
 
-  ahead-end : (c : Context) (t : Line) (ts : List Line) {v : ℕ} {p : Places} → readLine sh today c (t .bytes) ≡ said closeGroup v p → ahead sh today c (t ∷ ts) ≡ 0
+  pub ahead-end : (c : Context) (t : Line) (ts : List Line) {v : ℕ} {p : Places} → readLine sh today c (t .bytes) ≡ said closeGroup v p → ahead sh today c (t ∷ ts) ≡ 0
   unfolding ahead onListed onItem onEntry
   ahead-end c t ts q = let (ns, r, n) = listed c t q in rw r
 

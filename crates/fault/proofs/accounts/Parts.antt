@@ -168,15 +168,17 @@ module _ (s : List ℕ) (d : ℕ) (e : d ≡ 0 + seek dash s) where
               → pick (areDigits 1 6 (prefixBytes joined s)) (areDigits 10 10 (baseBytes joined s)) false ≡ pick (areDigits 1 6 u) (areDigits 10 10 v) false
           parts p b = rw (← p, ← b)
 
-pub few-digits : (joined : Bool) (s : List ℕ) → joined ≡ true → length s ≤ 10 → isJoined joined s ≡ false
+-- ten bytes or fewer are not joined
+pub not-joined : (joined : Bool) (s : List ℕ) → joined ≡ true → length s ≤ 10 → isJoined joined s ≡ false
 unfolding isJoined
-few-digits joined s o l = pick-true _ _ o ∙ le-ltb 10 (length s) l
+not-joined joined s o l = pick-true _ _ o ∙ le-ltb 10 (length s) l
 
+-- .. nor are any where the sheet takes no joined ones
 pub not-taken : (joined : Bool) (s : List ℕ) → joined ≡ false → isJoined joined s ≡ false
 unfolding isJoined
 not-taken joined s o = pick-false _ _ o
 
-pub ruleset splits = (split-dashed, split-joined, undashed, few-digits, not-taken)
+pub ruleset splits = (split-dashed, split-joined, undashed, not-joined, not-taken)
 
 -- ---- a group's payer
 

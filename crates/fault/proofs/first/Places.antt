@@ -6,8 +6,6 @@ use Prim.Native.Nat.{ℕ, _+_, _-_, _≤_, _<_}
 use native.Mathlib.Omega.{arith}
 use lib.ListN.{length, take, drop, length-drop, length-take}
 use lib.Seq.{drop-drop, length-take-le}
-use borrow.Author.Tests.{lt-ltb, ne-eqb}
-use Rattle.base.specs.Pick.{pick}
 use Rattle.base.proofs.Cases.{pick-true, pick-false}
 use Rattle.sheet.specs.declared.Sheet.{Sheet}
 use Rattle.paper.specs.Numerals.{digits}
@@ -16,10 +14,11 @@ use Rattle.numeral.specs.Told.{told}
 use Rattle.numeral.specs.declared.Num.{Num}
 use Rattle.numeral.specs.declared.Num.the-variants.{Value, Refused}
 use Rattle.why.specs.Rule.{Rule, rule, firstBroken}
-use Rattle.why.specs.Forms.{areDigits, spelled, areText, isLong, isDay}
+use Rattle.why.specs.Forms.{areDigits, spelled}
 use Rattle.why.specs.Names.{Name, fieldNumber, intervalStart}
 use Rattle.why.specs.Fields.{dayRules, nameRules, endRules, rulesOf}
 use Rattle.why.specs.Walk.{Walked, spot, whyFirst}
+use Rattle.why.proofs.Few.{few-digits, few-day, few-name}
 use Rattle.fault.specs.declared.field.Ruling.{Ruling}
 use Rattle.fault.specs.declared.field.Ruling.the-variants.{Kept, Broke}
 use Rattle.fault.specs.declared.line.Walk.{Walk}
@@ -27,22 +26,22 @@ use Rattle.fault.specs.declared.line.Walk.the-variants.{Passed, Stopped}
 use Rattle.fault.specs.field.Ruled.{ruling}
 use Rattle.fault.specs.line.Walks.{walk}
 use Rattle.fault.specs.line.Stages.{fromRest, fromEnd, fromStart, fromClient, fromName, fromDate}
-use Rattle.fault.proofs.field.Rulings.{first-broke, all-kept, digits-then, digits-broke, spelled-is}
+use Rattle.fault.proofs.field.Rulings.{all-kept, digits-then, digits-broke, spelled-is}
 use Rattle.fault.proofs.line.Steps.{on-kept, on-broke}
 
--- ---- too few bytes break a field's first rule
+-- ---- too few bytes: 4 by the field's form
 
-pub few-digits : (n : ℕ) (rs : List Rule) (t : List ℕ) → length t < n → ruling (firstBroken (rule 4 40 (areDigits n n) ∷ rs) t) ≡ Broke 4 40 0 0
-unfolding areDigits
-few-digits n rs t l = sym (first-broke (Broke 4 40 0 0) t (rule 4 40 (areDigits n n)) rs (pick-true _ _ (lt-ltb (length t) n l)) refl)
+pub short-digits : (n : ℕ) (rs : List Rule) (t : List ℕ) → length t < n → ruling (firstBroken (rule 4 40 (areDigits n n) ∷ rs) t) ≡ Broke 4 40 0 0
+unfolding ruling
+short-digits n rs t l = ap ruling (few-digits n rs t l)
 
-pub few-day : (t : List ℕ) → length t < 6 → ruling (firstBroken dayRules t) ≡ Broke 4 40 0 0
-unfolding isDay isLong areDigits pick
-few-day t l = sym (first-broke (Broke 4 40 0 0) t (rule 4 40 (isDay false)) _ (pick-true _ _ (lt-ltb (length t) 6 l)) refl)
+pub short-day : (t : List ℕ) → length t < 6 → ruling (firstBroken dayRules t) ≡ Broke 4 40 0 0
+unfolding ruling
+short-day t l = ap ruling (few-day t l)
 
-pub few-name : (n : ℕ) (t : List ℕ) → length t < n → ruling (firstBroken (nameRules n) t) ≡ Broke 4 40 0 0
-unfolding areText
-few-name n t l = sym (first-broke (Broke 4 40 0 0) t (rule 4 40 (areText n)) _ (pick-false _ _ (ne-eqb (length t) n (λ e. absurd (omega arith)))) refl)
+pub short-name : (n : ℕ) (t : List ℕ) → length t < n → ruling (firstBroken (nameRules n) t) ≡ Broke 4 40 0 0
+unfolding ruling
+short-name n t l = ap ruling (few-name n t l)
 
 -- ---- a field by place
 
@@ -120,14 +119,14 @@ end-known sh w z start r e h = rw e h
 
 pub ruleset places = (spot-kept, spot-broke, spot-short)
 
-pub ruleset ends = (few-digits, on-rest, end-known, places)
+pub ruleset ends = (short-digits, on-rest, end-known, places)
 
-pub ruleset starts = (few-digits, start-there, start-broke, spot-short)
+pub ruleset starts = (short-digits, start-there, start-broke, spot-short)
 
-pub ruleset clients = (few-digits, on-start, places)
+pub ruleset clients = (short-digits, on-start, places)
 
-pub ruleset names = (few-name, on-client, places)
+pub ruleset names = (short-name, on-client, places)
 
-pub ruleset dates = (few-day, on-name, places)
+pub ruleset dates = (short-day, on-name, places)
 
 pub ruleset firsts = (first-read, first-unread)

@@ -24,8 +24,11 @@ check-code-requires c κs = search needs
 enum-known-number : tie.Need-enum-known-number
 enum-known-number c = search needs
 
-sub-t15 : tie.Need-sub-t15
-sub-t15 c = search needs
+sub-stopped : tie.Need-sub-stopped
+sub-stopped c = search needs
+
+stopped-requires : tie.Need-stopped-requires
+stopped-requires c κs = search needs
 
 enum-told : tie.Need-enum-told
 enum-told c = search needs
@@ -58,7 +61,8 @@ walk-code-spec =
     part-check-code-end
     check-code-requires
     enum-known-number
-    sub-t15
+    sub-stopped
+    stopped-requires
     enum-told
     sub-malformed
     malformed-requires

@@ -25,8 +25,11 @@ check-kind-requires c κs = search needs
 enum-known-number : tie.Need-enum-known-number
 enum-known-number c = search needs
 
-sub-t17 : tie.Need-sub-t17
-sub-t17 c = search needs
+sub-stopped : tie.Need-sub-stopped
+sub-stopped c = search needs
+
+stopped-requires : tie.Need-stopped-requires
+stopped-requires c κs = search needs
 
 enum-told : tie.Need-enum-told
 enum-told c = search needs
@@ -62,7 +65,8 @@ walk-file-spec =
     part-check-kind-end
     check-kind-requires
     enum-known-number
-    sub-t17
+    sub-stopped
+    stopped-requires
     enum-told
     add-walk-number
     walk-number-requires

@@ -24,8 +24,11 @@ check-number-requires c κs = search needs
 enum-known-number : tie.Need-enum-known-number
 enum-known-number c = search needs
 
-sub-t18 : tie.Need-sub-t18
-sub-t18 c = search needs
+sub-stopped : tie.Need-sub-stopped
+sub-stopped c = search needs
+
+stopped-requires : tie.Need-stopped-requires
+stopped-requires c κs = search needs
 
 enum-told : tie.Need-enum-told
 enum-told c = search needs
@@ -61,7 +64,8 @@ walk-number-spec =
     part-check-number-end
     check-number-requires
     enum-known-number
-    sub-t18
+    sub-stopped
+    stopped-requires
     enum-told
     add-walk-code
     walk-code-requires

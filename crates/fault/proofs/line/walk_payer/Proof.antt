@@ -25,8 +25,11 @@ check-payer-requires c κs = search needs
 enum-known-number : tie.Need-enum-known-number
 enum-known-number c = search needs
 
-sub-t16 : tie.Need-sub-t16
-sub-t16 c = search needs
+sub-stopped : tie.Need-sub-stopped
+sub-stopped c = search needs
+
+stopped-requires : tie.Need-stopped-requires
+stopped-requires c κs = search needs
 
 enum-told : tie.Need-enum-told
 enum-told c = search needs
@@ -62,7 +65,8 @@ walk-payer-spec =
     part-check-payer-end
     check-payer-requires
     enum-known-number
-    sub-t16
+    sub-stopped
+    stopped-requires
     enum-told
     add-walk-total
     walk-total-requires

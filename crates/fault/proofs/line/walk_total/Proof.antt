@@ -26,8 +26,11 @@ check-total-requires c κs = search needs
 enum-known-number : tie.Need-enum-known-number
 enum-known-number c = search needs
 
-sub-t17 : tie.Need-sub-t17
-sub-t17 c = search needs
+sub-stopped : tie.Need-sub-stopped
+sub-stopped c = search needs
+
+stopped-requires : tie.Need-stopped-requires
+stopped-requires c κs = search needs
 
 enum-told : tie.Need-enum-told
 enum-told c = search needs
@@ -63,7 +66,8 @@ walk-total-spec =
     part-check-total-end
     check-total-requires
     enum-known-number
-    sub-t17
+    sub-stopped
+    stopped-requires
     enum-told
     add-walk-day
     walk-day-requires
