@@ -45,7 +45,7 @@ fn end_file(at: usize, line: u64, counts: Counts) -> Left
 }
 
 // An account file of this kind that has nothing yet.
-fn new_shelf(kind: u64) -> Shelf
+pub fn new_shelf(kind: u64) -> Shelf
     ensures { λ r. ⌜ r ≡ newShelf kind ⌝ }
 {
     Shelf {
@@ -56,7 +56,7 @@ fn new_shelf(kind: u64) -> Shelf
 }
 
 // The counts with an account file more.
-fn file_more(counts: Counts) -> Counts
+pub fn file_more(counts: Counts) -> Counts
     requires { ⌜ (counts .files < 1000) × (counts .rows ≤ 200000000) ⌝ }
     ensures { λ r. ⌜ r ≡ fileMore counts ⌝ }
 {
@@ -181,7 +181,7 @@ fn group_held(
 }
 
 // A line that begins a group, which is known as one: the bytes of the file from `at` to `stop`.
-fn group_opening(
+pub fn group_opening(
     f: &[u8],
     sh: Sheet,
     today: u64,

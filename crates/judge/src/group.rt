@@ -146,7 +146,7 @@ fn close_turn(f: &[u8], sh: Sheet, at: usize, stop: usize, held: Held) -> Turn
 }
 
 // One line of an open group: the bytes of the file from `at` to `stop`.
-fn item_step(f: &[u8], sh: Sheet, banks: Banks, at: usize, stop: usize, held: Held) -> Turn
+pub fn item_step(f: &[u8], sh: Sheet, banks: Banks, at: usize, stop: usize, held: Held) -> Turn
     requires { ⌜ Sane sh ⌝ }
     requires { ⌜ (at ≤ stop) × (stop ≤ length (now f)) ⌝ }
     ensures { λ r. ⌜ ((today : ℕ) → Banked sh today banks held → Turns sh today (lineIn (now (f .entry)) at stop) held r) ⌝ }
@@ -162,7 +162,7 @@ fn item_step(f: &[u8], sh: Sheet, banks: Banks, at: usize, stop: usize, held: He
 }
 
 // An item more, of that amount and with those warnings.
-fn held_more(x: Held, amount: u64, warnings: u64) -> Held
+pub fn held_more(x: Held, amount: u64, warnings: u64) -> Held
     requires { ⌜ LowItem (heldMore x amount warnings) ⌝ }
     ensures { λ r. ⌜ r ≡ heldMore x amount warnings ⌝ }
 {
@@ -197,7 +197,7 @@ fn held_more(x: Held, amount: u64, warnings: u64) -> Held
 }
 
 // The group's end: 10 at its total, or what stands behind it.
-fn close_group(strict: bool, at: usize, line: u64, held: Held) -> GroupEnd
+pub fn close_group(strict: bool, at: usize, line: u64, held: Held) -> GroupEnd
     requires { ⌜ LowItem held ⌝ }
     ensures { λ r. ⌜ r ≡ closedAs strict at line held ⌝ }
 {

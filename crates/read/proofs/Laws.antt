@@ -12,35 +12,15 @@ use Rattle.sheet.specs.declared.Known.the-variants as known
 use Rattle.paper.specs.Days.{realDay}
 use Rattle.paper.specs.Batch.{Batch, Header, things}
 use Rattle.paper.specs.Lines.{linesOf}
-use Rattle.paper.specs.Judge.{Answer, Refused, Accepted, judge}
+use Rattle.paper.specs.Judge.{Refused, Accepted, judge}
 use Rattle.paper.specs.Words.{rowsBytes}
 use Rattle.paper.specs.Rows.{rowSize, linesRows}
 use Rattle.paper.specs.Reading.{refusedAt, needs, acceptedAs, answered, readWith, filled, rowsWith}
-use Rattle.tally.specs.Tally.{No, Yes, brief, tally}
-use Rattle.tally.proofs.Same.{tally-is}
+use Rattle.tally.specs.Tally.{No, Yes, tally}
+use Rattle.tally.proofs.Same.{tally-is, refused-is, accepted-is}
 use Rattle.rowlaws.proofs.Main.{row-bytes}
 use Rattle.fill.specs.file.Judged.{AllSaid}
 use Rattle.read.proofs.Said.{file-said}
-
--- ---- what the judge answered, from its answer in brief
-
-refused-is : (a : Answer) (n l p : ℕ) → brief a ≡ No n l p → a ≡ Refused n l p
-unfolding brief
-refused-is (Refused n₁ l₁ p₁) n l p e =
-    let a : n₁ ≡ n = cc in
-    let b : l₁ ≡ l = cc in
-    let c : p₁ ≡ p = cc in
-    rw (a, b, c)
-refused-is (Accepted h b w) n l p e = absurd (let z : _≡_ {A = ℕ} 0 1 = cc in omega arith)
-
-accepted-is : (a : Answer) (h : Header) (n w : ℕ) → brief a ≡ Yes h n w → (b : Batch) × (a ≡ Accepted h b w) × (n ≡ length (things b))
-unfolding brief
-accepted-is (Refused n₁ l₁ p₁) h n w e = absurd (let z : _≡_ {A = ℕ} 0 1 = cc in omega arith)
-accepted-is (Accepted h₁ b w₁) h n w e =
-    let x : h₁ ≡ h = cc in
-    let y : w₁ ≡ w = cc in
-    let z : n ≡ length (things b) = cc in
-    (b, rw (x, y), z)
 
 -- ---- the answer and the rows
 

@@ -5,7 +5,7 @@ use Prim.Native.Nat.{ℕ, suc, _+_}
 use native.Mathlib.Omega.{arith}
 use lib.ListN.{length}
 use Rattle.sheet.specs.declared.Sheet.{Sheet}
-use Rattle.paper.specs.Batch.{sum, things}
+use Rattle.paper.specs.Batch.{Batch, Header, sum, things}
 use Rattle.paper.specs.Lines.{Line, linesOf}
 use Rattle.paper.specs.Entries.{Entry, head, file, group, item, closeGroup, closeFile, Places, saying, Counted, got, no, counted, Kind, kindOf, onHead, onFile, onGroup, onItem, onEntry}
 use Rattle.paper.specs.Spells.{readAs, differs, groupItems, fileItems}
@@ -19,7 +19,7 @@ use Rattle.tally.proofs.Abs.{map-pick, groupRows-rev, fileRows-rev, thi
 
 -- ---- the context, what is due, and when it is full
 
-contexts : (st : State) → judge.contextOf st ≡ numbers.contextOf (abs st)
+pub contexts : (st : State) → judge.contextOf st ≡ numbers.contextOf (abs st)
 unfolding abs judge.contextOf numbers.contextOf
 contexts atFirst = refl
 contexts (atFile x) = refl
@@ -27,7 +27,7 @@ contexts (atGroup x) = refl
 contexts (atItem x) = refl
 contexts (stop a) = refl
 
-dues : (kind : Kind) (st : State) → judge.isDue st kind ≡ numbers.isDue (abs st) kind
+pub dues : (kind : Kind) (st : State) → judge.isDue st kind ≡ numbers.isDue (abs st) kind
 unfolding abs judge.isDue numbers.isDue
 dues kind atFirst = refl
 dues kind (atFile y) = refl
@@ -35,7 +35,7 @@ dues kind (atGroup y) = rw (← (empty-null (y .groups)))
 dues kind (atItem y) = rw (← (empty-null (y .items)))
 dues kind (stop a) = refl
 
-fulls : (sh : Sheet) (kind : Kind) (st : State) → judge.isFull sh st kind ≡ numbers.isFull sh (abs st) kind
+pub fulls : (sh : Sheet) (kind : Kind) (st : State) → judge.isFull sh st kind ≡ numbers.isFull sh (abs st) kind
 unfolding abs judge.isFull numbers.isFull
 fulls sh kind atFirst = refl
 fulls sh kind (atFile y) = refl
@@ -134,7 +134,7 @@ module _ (sh : Sheet) (today k : ℕ) (t : Line) where
         fulls sh kind st,
       )
 
-  steps : (st : State) → abs (judge.step sh today k t st) ≡ numbers.step sh today k t (abs st)
+  pub steps : (st : State) → abs (judge.step sh today k t st) ≡ numbers.step sh today k t (abs st)
   unfolding judge.step numbers.step abs
   steps atFirst = reads (kindOf (t .bytes)) atFirst
   steps (atFile y) = reads (kindOf (t .bytes)) (atFile y)
@@ -165,3 +165,23 @@ same sh today n k (t ∷ ts) st =
 pub tally-is : (sh : Sheet) (today : ℕ) (f : List ℕ) → numbers.tally sh today f ≡ brief (judge.judge sh today f)
 unfolding numbers.tally judge.judge abs
 tally-is sh today f = sym (same sh today (length f) 1 (linesOf 0 f) atFirst)
+
+-- ---- what the judge answered, from its answer in brief
+
+pub refused-is : (a : judge.Answer) (n l p : ℕ) → brief a ≡ numbers.No n l p → a ≡ judge.Refused n l p
+unfolding brief
+refused-is (judge.Refused n₁ l₁ p₁) n l p e =
+    let a : n₁ ≡ n = cc in
+    let b : l₁ ≡ l = cc in
+    let c : p₁ ≡ p = cc in
+    rw (a, b, c)
+refused-is (judge.Accepted h b w) n l p e = absurd (let z : _≡_ {A = ℕ} 0 1 = cc in omega arith)
+
+pub accepted-is : (a : judge.Answer) (h : Header) (n w : ℕ) → brief a ≡ numbers.Yes h n w → (b : Batch) × (a ≡ judge.Accepted h b w) × (n ≡ length (things b))
+unfolding brief
+accepted-is (judge.Refused n₁ l₁ p₁) h n w e = absurd (let z : _≡_ {A = ℕ} 0 1 = cc in omega arith)
+accepted-is (judge.Accepted h₁ b w₁) h n w e =
+    let x : h₁ ≡ h = cc in
+    let y : w₁ ≡ w = cc in
+    let z : n ≡ length (things b) = cc in
+    (b, rw (x, y), z)

@@ -123,7 +123,7 @@ module _ (sh : Sheet) (f : List ℕ) (at k : ℕ) (c : Counts) (cut : Cut) (cuts
 
       module _ (room : c .files < 1000) (r : FileRead) (t : files.told r ≡ readFile sh (faultIn (sh .interval) from to words) (cut-of f at (cut .stop))) where
         -- r was found to be v; the header and the words say which numbers are allowed
-        says : (v : FileRead) → r ≡ v → (today : ℕ) (h : Header) → h .from ≡ from → h .to ≡ to → (l : List ℕ) → Holds words l
+        pub says : (v : FileRead) → r ≡ v → (today : ℕ) (h : Header) → h .from ≡ from → h .to ≡ to → (l : List ℕ) → Holds words l
             → onSaid sh k at (counted (files.told v)) (tFile (bookOf h l c)) ≡ step sh today k (lineIn f at (cut .stop)) (tFile (bookOf h l c))
         unfolding step isDue isFull contextOf readAs numberTest
         says v x today h p q l held =

@@ -191,7 +191,7 @@ module _ (sh : Sheet) (f : List ℕ) (at k : ℕ) (c : Counts) (s : Shelf) (cut 
         not-due sh today k (lineIn f at (cut .stop)) (inFile h l c s) refl fileEnd e (simp (eq-eqb _ _ z))
 
     module _ (z : s .groups ≡ 0 → ⊥) (r : CloseRead) (t : (x : Entry) → closes.told x r ≡ readClose (sh .near) x (cut-of f at (cut .stop))) where
-      closed-as : (v : CloseRead) → r ≡ v → (today : ℕ) (h : Header) (l : List ℕ) → onSaid sh k at (counted (closes.told closeFile v)) (inFile h l c s) ≡ step sh today k (lineIn f at (cut .stop)) (inFile h l c s)
+      pub closed-as : (v : CloseRead) → r ≡ v → (today : ℕ) (h : Header) (l : List ℕ) → onSaid sh k at (counted (closes.told closeFile v)) (inFile h l c s) ≡ step sh today k (lineIn f at (cut .stop)) (inFile h l c s)
       unfolding step isDue isFull readAs pick
       closed-as v q today h l = by-fields sh today k (lineIn f at (cut .stop)) (inFile h l c s) refl fileEnd e (simp (ne-eqb _ _ z)) refl _ (ap counted (rw q at (t closeFile)))
 
