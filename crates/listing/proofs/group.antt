@@ -1,0 +1,4 @@
+pub mod Spot
+pub mod Writes
+pub mod Sums
+pub mod Same
