@@ -1,0 +1,2 @@
+pub mod Lifts
+pub mod Leading

@@ -1,0 +1,4 @@
+pub mod Numbers
+pub mod Stages
+pub mod Exits
+pub mod Walks
