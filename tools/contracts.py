@@ -15,18 +15,19 @@ import time
 
 from copies import ROOT, Modules, complaints, copy, is_fact, is_ours, is_proved, is_refused, rlib, rt_check, stands_on
 
-CALLS = "abo"
+CALLS = ("abo", "tell")
 ABOVE = "demands"
 
 
 def promises():
     """Each exported call with its promises, as lines of its source."""
     calls, name = {}, None
-    for line in (ROOT / "crates" / CALLS / "src/lib.rt").read_text(encoding="utf-8").splitlines():
-        found = re.match(r'pub extern "C" fn (\w+)', line)
-        name = found.group(1) if found else None if line.startswith("}") else name
-        if name and line.strip().startswith("ensures"):
-            calls.setdefault(name, []).append(line)
+    for crate in CALLS:
+        for line in (ROOT / "crates" / crate / "src/lib.rt").read_text(encoding="utf-8").splitlines():
+            found = re.match(r'pub extern "C" fn (\w+)', line)
+            name = found.group(1) if found else None if line.startswith("}") else name
+            if name and line.strip().startswith("ensures"):
+                calls.setdefault(name, []).append(line)
     return calls
 
 
@@ -44,29 +45,33 @@ def ask(tree, kept):
     """What the prover says of the crate above, with the calls from their source and all else as it is proved."""
     words = ["--incremental", str(kept), "-L", f"dependency={ROOT / 'target/rlib'}"]
     for name in filter(is_ours, stands_on(ABOVE)):
-        if name == CALLS:
+        if name in CALLS:
             words += ["--lib", f"{name}:{','.join(stands_on(name))}={tree / name / 'src/lib.rt'}"]
         else:
             words += ["--extern", f"{name}={rlib(name)}"]
     return rt_check(tree / ABOVE, *words)
 
 
-def without(text, pairs):
+def without(texts, pairs):
+    """The sources of the calls' crates without these promises."""
     for call, number in pairs:
         line = promises()[call][number - 1] + "\n"
-        if text.count(line) != 1:
-            sys.exit(f"promise {number} of {call} stands {text.count(line)} times in the source")
-        text = text.replace(line, "")
-    return text
+        count = sum(text.count(line) for text in texts)
+        if count != 1:
+            sys.exit(f"promise {number} of {call} stands {count} times in the sources")
+        texts = [text.replace(line, "") for text in texts]
+    return texts
 
 
 def refused(tree, kept, pairs):
     """What the prover says of the crate above without these promises: a reason that it shows nothing, or None; and its complaints."""
-    source = tree / CALLS / "src/lib.rt"
-    text = source.read_text(encoding="utf-8")
-    source.write_text(without(text, pairs), encoding="utf-8")
+    sources = [tree / crate / "src/lib.rt" for crate in CALLS]
+    texts = [source.read_text(encoding="utf-8") for source in sources]
+    for source, text in zip(sources, without(texts, pairs)):
+        source.write_text(text, encoding="utf-8")
     status, said = ask(tree, kept)
-    source.write_text(text, encoding="utf-8")
+    for source, text in zip(sources, texts):
+        source.write_text(text, encoding="utf-8")
     found = complaints(said.replace(f"{tree}/", ""))
     others = [place for place, _ in found if not place.startswith(f"{ABOVE}/")]
     if not is_refused(status, said) or not found:
@@ -85,9 +90,9 @@ def main():
     with tempfile.TemporaryDirectory() as folder:
         work = pathlib.Path(folder).resolve()
         tree, kept = work / "crates", work / "kept"
-        for name in (CALLS, ABOVE):
+        for name in (*CALLS, ABOVE):
             copy(name, tree / name)
-        Modules(work / "learnt").put((CALLS, ABOVE), kept)
+        Modules(work / "learnt").put((*CALLS, ABOVE), kept)
         status, said = ask(tree, kept)
         if not is_proved(status, said):
             print(f"failed: {ABOVE} is not proved with all promises: {said[-300:]}\n0 passed, 1 failed")

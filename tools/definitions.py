@@ -607,6 +607,55 @@ WRONG = [
         "(λ i. ahead sh today c ts)",
         "why",
     ),
+    # ---- what is found in a file, listed and told
+    (
+        "what is found in a file, counted",
+        "an accepted file would have one finding more than warnings",
+        "findings:Findings",
+        "findingsOf sh today f (Accepted h b w) = warnedIn sh today f",
+        "findingsOf sh today f (Accepted h b w) = foundIn sh today f ∷ warnedIn sh today f",
+        "findings",
+    ),
+    (
+        "a list that has no room",
+        "16 would have the room in the place of the need",
+        "findings:Lists",
+        "(needsRoom (length (findings sh today f)))",
+        "(needsRoom room)",
+        "findings",
+    ),
+    (
+        "a sheet's line",
+        "rows would be told in the place of warnings",
+        "verdict:Sheets",
+        "(acceptedWords (v .warnings))",
+        "(acceptedWords (v .rows))",
+        "verdict",
+    ),
+    (
+        "the bit of a sheet",
+        "sheet n would have bit n",
+        "verdict:Sheets",
+        "(2 ^ (sh .number - 1)) 0",
+        "(2 ^ sh .number) 0",
+        "verdict",
+    ),
+    (
+        "the text of a file",
+        "a refused file would be said to be accepted",
+        "explain:Explanation",
+        "heading letter (Refused n l p) = refusedHeading letter",
+        "heading letter (Refused n l p) = acceptedHeading letter 0 0",
+        "explain",
+    ),
+    (
+        "a sentence's bytes",
+        "it would hold a byte of no ASCII",
+        "sentences:Quoted",
+        "pick (ltb 126 x) false",
+        "pick (ltb 127 x) false",
+        "sentences",
+    ),
 ]
 
 

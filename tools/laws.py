@@ -19,6 +19,7 @@ STANDING = {
     "demands/proofs/Demands": "*",
     "demands/proofs/Corollaries": "*",
     "demands/proofs/Statements": "*",
+    "demands/proofs/Findings": "*",
     # functions that make the calls as a user does, so that the calls' promises are used
     "demands/src/lib": "*",
     # document 01's cases and its sample run, and worked examples of each rule, computed from the definitions
@@ -26,8 +27,8 @@ STANDING = {
     "amount/proofs/Edges": "*",
     "bank/proofs/Edges": "*",
     "calendar/proofs/Examples": "*",
-    "explain/proofs/Examples": "*",
     "text/proofs/wording/Examples": "*",
+    "verdict/proofs/sheets/Examples": "*",
     # what docs/PROOFS.md says of days and sheets: a definition that computes is what the document names
     "calendar/proofs/Next": ("next-number", "next-real"),
     "calendar/proofs/Order": ("order", "one-day"),
@@ -36,13 +37,6 @@ STANDING = {
     "outcomes/proofs/firstwrong/Main": ("header-proper", "rows-proper", "header-carried", "rows-carried"),
     # the whole walk of refusal 20, without a sheet: no call has it yet; requests that export, join and pair batches are to call it
     "rows/src/walk": ("proper_rows",),
-    # what the findings of W-205 are, and that a line's walk and a sentence are theirs: no call lists findings yet
-    "why/proofs/Found": ("found-true",),
-    "why/proofs/Warned": ("as-many",),
-    "why/proofs/Onward": ("never-back",),
-    "why/proofs/Allowed": ("allowed-true",),
-    "fault/src/known": ("walk_line",),
-    "sentences/src/lib": ("put_sentence",),
     # worked examples of a statement's fields
     "internal/proofs/Examples": "*",
     "turnover/proofs/Edges": "*",
@@ -256,13 +250,13 @@ def spoken(files):
     """the files of definitions whose words say what is proved: those of the demands' statements and of the contracts of the calls and of
     the functions that make them, and from there on down"""
     todo = []
-    for key in ("demands/proofs/Demands", "demands/proofs/Corollaries", "demands/proofs/Statements"):
+    for key in ("demands/proofs/Demands", "demands/proofs/Corollaries", "demands/proofs/Statements", "demands/proofs/Findings"):
         stated = (line.split("-- ")[0] for line in files[key].lines if not re.match(r"\s*[^\s:]+( [^\s:]+)* = ", line))
         todo += named(files, files[key], set().union(*map(words, stated)))
     for line in files["demands/proofs/Demands/Words"].lines:
         found = re.match(r"pub use (\S+?)\.\{(.*?)\}$", line)
         todo += [(key_of(found.group(1)), name) for name in found.group(2).split(", ")] if found else []
-    for key in ("abo/src/lib.rt", "demands/src/lib.rt"):
+    for key in ("abo/src/lib.rt", "tell/src/lib.rt", "demands/src/lib.rt"):
         promised = (line for line in files[key].lines if line.strip().startswith(("requires", "ensures")))
         todo += named(files, files[key], set().union(*map(words, promised)))
     seen = set()

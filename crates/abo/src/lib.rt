@@ -1,6 +1,5 @@
 // The calls for a C program, on numbers and byte slices; each slice is a pointer and a count of bytes. Each is the call of the same contract in a
-// crate of its own.
-use explain::AboText;
+// crate of its own. Those that say what is found in a file are in `tell`.
 use read::AboAnswer;
 use reader::AboLine;
 use statement::reading::AboStatement;
@@ -9,11 +8,9 @@ ghost use mathlib.Core.Path.{_≡_};
 ghost use lib.ListN.{length};
 ghost use Rattle.paper.specs.Reading.{readAnswer, rowsAfter};
 ghost use Rattle.paper.specs.Writing.{draft, writtenIn, outputAfter};
-ghost use Rattle.paper.specs.Explaining.{explanation};
 ghost use Rattle.gpc.specs.Answers.{statementAnswer, statementRows, statementDraft};
 ghost use Rattle.read.specs.Told.{told as toldRead};
 ghost use Rattle.write.specs.Told.{told as toldWritten, headerOf};
-ghost use Rattle.explain.specs.Told.{told as toldText, textAnswer};
 ghost use Rattle.reader.specs.Named.{told as toldLine, lineAnswer};
 ghost use Rattle.statement.specs.reading.Told.{told as toldStatement};
 
@@ -44,15 +41,6 @@ pub extern "C" fn abo_write(
     ensures { λ _. ⌜ now (out .exit) ≡ outputAfter (now (out .entry)) (draft sheet today (headerOf date (now (name .entry)) client from to) (now (rows .entry)) (now (texts .entry))) ⌝ }
 {
     write::write_file(rows, texts, date, name, client, from, to, sheet, today, out)
-}
-
-// Says in a line of text what reading a file would answer: the refusal with its place, or the counts.
-#[no_mangle]
-pub extern "C" fn abo_explain(file: &[u8], sheet: u64, today: u64, out: &mut [u8]) -> AboText
-    ensures { λ r. ⌜ toldText r ≡ textAnswer (writtenIn (length (now (out .entry))) (explanation sheet today (now (file .entry)))) ⌝ }
-    ensures { λ _. ⌜ now (out .exit) ≡ outputAfter (now (out .entry)) (explanation sheet today (now (file .entry))) ⌝ }
-{
-    explain::explain_file(file, sheet, today, out)
 }
 
 // Finds the line of a number, as refusals count lines: from 1, and the file's end is one more, empty.

@@ -28,7 +28,7 @@ use Rattle.roundtrip.proofs.flat.Lengths.{canon-length}
 use Rattle.roundtrip.specs.whole.Carries.{FourParts, Carries}
 use Rattle.roundtrip.proofs.whole.Main.{sound}
 use Rattle.spelling.proofs.linelen.Lengths.{decimal-twenty, first-full, file-long}
-use Rattle.explain.proofs.Many.{count-eighth}
+use Rattle.verdict.proofs.Many.{count-eighth}
 use Rattle.bounds.specs.Most.{mostInput, mostRows, mostOutput}
 use Rattle.bounds.proofs.Items.{Within, proper-short, payer-most, item-most}
 

@@ -1,4 +1,4 @@
--- Worked examples of docs/DECISIONS.md, points 25, 32 and 33: whole answers of reading, rewriting and explaining, computed over the definitions.
+-- Worked examples of docs/DECISIONS.md, points 25 and 32: whole answers of reading and rewriting, computed over the definitions.
 -- Assumes nothing.
 use Prim.Native.Nat.{ℕ}
 use mathlib.Core.List.{List, [], _∷_, _++_}
@@ -10,8 +10,6 @@ use Rattle.paper.specs.Accounts.{Account, account, nobody}
 use Rattle.paper.specs.Batch.{Header, noHeader}
 use Rattle.paper.specs.Words.{blanks, rowsBytes}
 use Rattle.paper.specs.Reading.{ReadAnswer, readAnswer, rowsAfter}
-use Rattle.paper.specs.Writing.{drafted}
-use Rattle.paper.specs.Explaining.{explanation}
 use Rattle.paper.specs.Rewriting.{rewriting}
 use Rattle.sheet.specs.Sheets.{sheetK as K, sheetS as S, sheetC as C, sheetE as E}
 use Rattle.cases.specs.Asked.{today, rewrites}
@@ -76,11 +74,3 @@ pub runs :
     × (rewriting (bytes "C 0x0118\nx" ++ replicate 8183 120) ≡ bytes "refused 2 line 0 byte 0\n")
 unfolding rewrites
 runs = (refl, refl, refl, refl, refl, refl, refl, refl, refl, refl, refl, refl, refl)
-
--- Point 33: an explanation tells rows and warnings of what is accepted, and the refusal of what is not.
-pub explanations :
-    (explanation 3 today (group C "2 19-19 5002 311217" .file) ≡ drafted (bytes "accepted rows 3 warnings 2\n"))
-    × (explanation 1 today [] ≡ drafted (bytes "refused 3 line 1 byte 0\n"))
-    × (explanation 9 today [] ≡ drafted (bytes "refused 1 line 0 byte 0\n"))
-unfolding rewrites
-explanations = (refl, refl, refl)

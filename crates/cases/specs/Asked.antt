@@ -35,7 +35,7 @@ use Rattle.paper.specs.Reading.{refusedAt, needs, acceptedAs, answered, readWit
 use Rattle.paper.specs.Carried.{headerCarried, partsCarriedFrom, itemCarried, rowsCarried, batchCarried}
 use Rattle.paper.specs.Canonical.{spell, textOf, canon}
 use Rattle.paper.specs.Writing.{Draft, onVerdict, draftOf, draftWith, draft, writtenIn, outputAfter}
-use Rattle.paper.specs.Explaining.{refusedLine, acceptedLine, explained, explanation}
+use Rattle.paper.specs.Explaining.{refusedLine}
 use Rattle.paper.specs.Rewriting.{firstLine, pastLF, behindFirst, rewritten, onDay, dayField, onSheet, onLetter, rewriting}
 
 -- the day on which all is asked
@@ -63,5 +63,5 @@ written sh h ts = draftOf sh today h ts
 
 -- an input, as the rewriting program rewrites it
 unfoldable pub rewrites : String → List ℕ
-unfolding judged written sheetOf sheetBy wordOf wordBytes words rowsOn rowsOf textAt thingIn thingsIn blanks fileRow groupRow textWords textsWords itemRow entryRow lineRow singleAfter singleBehind linesRows wordsBytes rowsBytes refusedAt needs acceptedAs answered readWith readAnswer filled rowsWith rowsAfter draftWith draft writtenIn outputAfter refusedLine acceptedLine explained explanation firstLine pastLF behindFirst rewritten onDay dayField onSheet onLetter rewriting
+unfolding judged written sheetOf sheetBy wordOf wordBytes words rowsOn rowsOf textAt thingIn thingsIn blanks fileRow groupRow textWords textsWords itemRow entryRow lineRow singleAfter singleBehind linesRows wordsBytes rowsBytes refusedAt needs acceptedAs answered readWith readAnswer filled rowsWith rowsAfter draftWith draft writtenIn outputAfter refusedLine firstLine pastLF behindFirst rewritten onDay dayField onSheet onLetter rewriting
 rewrites s = rewriting (bytes s)

@@ -17,10 +17,9 @@ use Rattle.paper.specs.Spells.{Spells, dues}
 use Rattle.paper.specs.Judge.{Refused, Accepted, judge}
 use Rattle.paper.specs.FirstFault.{FirstFault}
 use Rattle.paper.specs.Rows.{rowSize}
-use Rattle.paper.specs.Reading.{rowCount, readAnswer, rowsAfter}
+use Rattle.paper.specs.Reading.{readAnswer, rowsAfter}
 use Rattle.paper.specs.Canonical.{canon}
 use Rattle.paper.specs.Writing.{drafted, draftOf, draft, writtenIn}
-use Rattle.paper.specs.Explaining.{refusedLine, acceptedLine, explanation}
 use Rattle.paper.specs.Rewriting.{rewritten, rewriting}
 use Rattle.calendar.specs.Ahead.{Ahead}
 use Rattle.account.specs.Decree.{decree, weighted, decreed, powers}
@@ -34,13 +33,11 @@ use Rattle.roundtrip.proofs.whole.Main as whole
 use Rattle.outcomes.specs.numbers.Gives.{NoSheet, NoDay, Spelled, FileOf}
 use Rattle.outcomes.proofs.numbers.Reading as read-numbers
 use Rattle.outcomes.proofs.numbers.Writing as write-numbers
-use Rattle.bounds.proofs.Explained as explained
 use Rattle.bounds.proofs.Input as input
 use Rattle.uncut.specs.Severe.{severe}
 use Rattle.uncut.proofs.Main as uncut
 use Rattle.moving.specs.Marks.{BatchUnmarked, headless}
 use Rattle.moving.proofs.Editions as editions
-use Rattle.explain.proofs.Laws as explain
 
 -- ---- 1, 2 and 16, whatever the sheet's number and the day
 
@@ -77,14 +74,6 @@ module _ (sheet today : ℕ) (h : Header) (rows texts : List ℕ) (room : ℕ) w
   -- and then its bytes are needed.
   pub write-needed : (n : ℕ) → FileOf sheet today h rows texts n → room < n → writtenIn room (draft sheet today h rows texts) .bytes ≡ n
   write-needed = write-numbers.needed-16 sheet today h rows texts room
-
--- No explanation has more than 65 bytes (ABO_EXPLAIN_BYTES in include/abo.h), whatever the sheet's number, the day and the file are:
-pub explain-most : (sheet today : ℕ) (f s : List ℕ) → explanation sheet today f ≡ drafted s → length s ≤ 65
-explain-most = explained.explained-most
-
--- with as many lent, abo_explain answers 0.
-pub explain-bytes : (sheet today : ℕ) (f out : List ℕ) → 65 ≤ length out → writtenIn (length out) (explanation sheet today f) .number ≡ 0
-explain-bytes sheet today f out = explained.explained-whole sheet today f (length out)
 
 -- The rewriting program reads 8,193 bytes at most, and what it does not read cannot matter.
 pub input-read : (s : List ℕ) → rewriting (take 8193 s) ≡ rewriting s
@@ -181,15 +170,6 @@ module _ (sheet : ℕ) (sh : Sheet) (named : sheetOf sheet ≡ known.Sheet sh) (
       let (least, most) = places.judge-named sh today f n l p e in
       let (line, byte) = places.judge-placed sh today f n l p e in
       (least, most, line, places.judge-lined sh today f n l p e, byte)
-
-  -- The explanation says this refusal, or the counts of the batch and of the warnings.
-  module _ (real : realDay today ≡ true) where
-    pub refused-line : (f : List ℕ) (n l p : ℕ) → judge sh today f ≡ Refused n l p → explanation sheet today f ≡ drafted (refusedLine n l p)
-    refused-line f = explain.refused-line sheet today f sh named real
-
-    pub accepted-line : (f : List ℕ) (h : Header) (b : Batch) (w : ℕ) → judge sh today f ≡ Accepted h b w
-        → explanation sheet today f ≡ drafted (acceptedLine (rowCount b) w)
-    accepted-line f = explain.accepted-line sheet today f sh named real
 
 -- ---- the days of collections
 

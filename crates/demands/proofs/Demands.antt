@@ -1,5 +1,5 @@
 -- The three demands on the library, on one page. The definitions are those of document 01 (crate paper) which the contracts of the calls
--- name: `readAnswer` and `rowsAfter` of abo_read, `draft`, `writtenIn` and `outputAfter` of abo_write, `explanation` of abo_explain. Words
+-- name: `readAnswer` and `rowsAfter` of abo_read, `draft`, `writtenIn` and `outputAfter` of abo_write, `explanation` of abo_explain (crate explain). Words
 -- has them all; the functions that make calls are in ../src/lib.rt. Assumes nothing.
 use mathlib.Core.Path.{_≡_}
 use mathlib.Core.Bool.{true}
@@ -12,8 +12,8 @@ use Rattle.abo.proofs.abo_read.Statement as read-contract
 use Rattle.abo.proofs.abo_read.Met as read-call
 use Rattle.abo.proofs.abo_write.Statement as write-contract
 use Rattle.abo.proofs.abo_write.Met as write-call
-use Rattle.abo.proofs.abo_explain.Statement as explain-contract
-use Rattle.abo.proofs.abo_explain.Met as explain-call
+use Rattle.tell.proofs.abo_explain.Statement as explain-contract
+use Rattle.tell.proofs.abo_explain.Met as explain-call
 use Rattle.abo.proofs.abo_line.Statement as line-contract
 use Rattle.abo.proofs.abo_line.Met as line-call
 use Rattle.demands.proofs.read_twice.Statement as read-twice-contract

@@ -3,3 +3,4 @@ pub mod Round
 pub mod Demands
 pub mod Corollaries
 pub mod Statements
+pub mod Findings

@@ -14,6 +14,10 @@ use Rattle.write.proofs.Determined as write
 use Rattle.explain.specs.declared.AboText.{AboText}
 use Rattle.explain.specs.Told.{told as toldText, textAnswer}
 use Rattle.explain.proofs.Determined as explain
+use Rattle.findings.specs.declared.AboList.{AboList}
+use Rattle.findings.specs.Lists.{listAnswer, listAfter}
+use Rattle.findings.specs.Told.{told as toldList}
+use Rattle.findings.proofs.Determined as listing
 use Rattle.reader.specs.declared.AboLine.{AboLine}
 use Rattle.reader.specs.Named.{told as toldLine, lineAnswer}
 use Rattle.reader.proofs.Determined as reader
@@ -44,6 +48,15 @@ explained-alike d l m a b e x y = explain.told-one a b (x ∙ ap (λ (z : List �
 
 pub output-alike : (d : Draft) (l m o p : List ℕ) → l ≡ m → o ≡ outputAfter l d → p ≡ outputAfter m d → o ≡ p
 output-alike d l m o p e x y = x ∙ ap (λ (z : List ℕ). outputAfter z d) e ∙ sym y
+
+-- ---- listing: l and m are the bytes lent
+
+pub lists-alike : (sheet today : ℕ) (f l m : List ℕ) (a b : AboList) → l ≡ m
+    → toldList a ≡ listAnswer sheet today f l → toldList b ≡ listAnswer sheet today f m → a ≡ b
+lists-alike sheet today f l m a b e x y = listing.told-one a b (x ∙ ap (λ (z : List ℕ). listAnswer sheet today f z) e ∙ sym y)
+
+pub listed-alike : (sheet today : ℕ) (f l m r q : List ℕ) → l ≡ m → r ≡ listAfter sheet today f l → q ≡ listAfter sheet today f m → r ≡ q
+listed-alike sheet today f l m r q e x y = x ∙ ap (λ (z : List ℕ). listAfter sheet today f z) e ∙ sym y
 
 -- ---- reading statements: l and m are the rows lent
 

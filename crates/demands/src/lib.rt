@@ -1,5 +1,6 @@
 // The demands, kept by functions that make the shipped calls: a call made twice answers alike, and what is written is read back.
 use explain::AboText;
+use findings::AboList;
 use read::AboAnswer;
 use reader::AboLine;
 use statement::reading::AboStatement;
@@ -100,9 +101,26 @@ pub fn explain_twice(file: &[u8], sheet: u64, today: u64, a: &mut [u8], b: &mut 
     ensures { λ r. ⌜ r .first ≡ r .second ⌝ }
     ensures { λ _. ⌜ now (a .exit) ≡ now (b .exit) ⌝ }
 {
-    let first = abo::abo_explain(file, sheet, today, a);
-    let second = abo::abo_explain(file, sheet, today, b);
+    let first = tell::abo_explain(file, sheet, today, a);
+    let second = tell::abo_explain(file, sheet, today, b);
     TwoTexts { first, second }
+}
+
+// two answers of listing
+pub struct TwoLists {
+    pub first: AboList,
+    pub second: AboList,
+}
+
+// Lists what is found in a file twice, into bytes that were lent alike.
+pub fn findings_twice(file: &[u8], sheet: u64, today: u64, a: &mut [u8], b: &mut [u8]) -> TwoLists
+    requires { ⌜ now a ≡ now b ⌝ }
+    ensures { λ r. ⌜ r .first ≡ r .second ⌝ }
+    ensures { λ _. ⌜ now (a .exit) ≡ now (b .exit) ⌝ }
+{
+    let first = tell::abo_findings(file, sheet, today, a);
+    let second = tell::abo_findings(file, sheet, today, b);
+    TwoLists { first, second }
 }
 
 // two answers of finding a line

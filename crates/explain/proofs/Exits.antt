@@ -1,10 +1,11 @@
--- How the functions end: from what a function is told to the verdict, the answer and the lent output. Assumes nothing.
+-- How explaining ends: the text put or not, 2 and 1. Assumes nothing.
 use mathlib.Core.Path.{_≡_, sym, ap, _∙_}
 use mathlib.Core.Bool.{Bool, true, false}
 use mathlib.Core.List.{List, _++_}
-use Prim.Native.Nat.{ℕ, _+_, _≤_, _<_}
+use Prim.Native.Nat.{ℕ, _+_, _-_, _^_, _≤_, _<_}
 use native.Mathlib.Omega.{arith}
-use lib.ListN.{length, drop}
+use lib.ListN.{length, take, drop}
+use lib.Seq.{take-append-seam}
 use borrow.Author.Tests.{lt-ltb, le-ltb}
 use Rattle.base.specs.Pick.{pick}
 use Rattle.base.specs.Put.{put}
@@ -14,88 +15,122 @@ use Rattle.sheet.specs.declared.Known.the-variants as known
 use Rattle.sheet.specs.Sheets.{sheetOf}
 use Rattle.sheet.proofs.Laws.{sheet-sane}
 use Rattle.paper.specs.Days.{realDay}
-use Rattle.paper.specs.Reading.{refusedAt, readWith}
 use Rattle.paper.specs.Writing.{drafted, writtenIn, outputAfter}
-use Rattle.paper.specs.Explaining.{explanation}
-use Rattle.tally.specs.Tally.{No, Yes, tally}
-use Rattle.judge.specs.declared.file.Head.{Head}
-use Rattle.judge.specs.declared.file.FileJudged.{FileJudged}
-use Rattle.judge.specs.declared.file.FileJudged.the-variants as judged
-use Rattle.judge.specs.file.Answer as reading
 use Rattle.numeral.specs.counted.Counted.{Counted}
 use Rattle.numeral.proofs.counted.Laws.{counted-wrote}
-use Rattle.explain.specs.declared.Verdict.{Verdict}
-use Rattle.explain.specs.Told.{textAnswer}
-use Rattle.explain.specs.Wording.{verdictOf, lineOf}
-use Rattle.explain.proofs.Laws.{inBrief, day-verdict, no-day-verdict, explanation-is}
-use Rattle.explain.proofs.Wording.{line-most}
+use Rattle.tracing.specs.declared.file.Outcome.{Outcome}
+use Rattle.tracing.specs.file.Comes.{Comes}
+use Rattle.verdict.specs.Sheets.{sheetLines}
+use Rattle.findings.specs.Findings.{inWords}
+use Rattle.explain.specs.Explanation.{textOn, explanationWith, explanation}
+use Rattle.explain.specs.Parts.{textIn}
+use Rattle.explain.specs.Told.{TextAnswer, textAnswer}
+use Rattle.explain.proofs.Text.{text-is}
+use Rattle.explain.proofs.Lengths.{lines-short, text-low}
 
--- ---- the day and the file
-
-module _ (sh : Sheet) (today : ℕ) (f : List ℕ) where
-  -- t says whether today is a day
-  module _ (t : Bool) (g : t ≡ realDay today) where
-    pub real-known : t ≡ true → realDay today ≡ true
-    real-known e = sym g ∙ e
-
-    pub no-day : t ≡ false → inBrief (No 2 0 0) ≡ verdictOf (readWith (known.Sheet sh) today f (length f))
-    no-day e = sym (no-day-verdict sh today f (sym g ∙ e))
-
-  -- j is what the file was judged to be
-  module _ (j : FileJudged) (g : reading.told f j ≡ tally sh today f) (real : realDay today ≡ true) where
-    pub refused : (n l p : ℕ) → j ≡ judged.Refused n l p → inBrief (No n l p) ≡ verdictOf (readWith (known.Sheet sh) today f (length f))
-    refused n l p e = sym (day-verdict sh today f real ∙ ap inBrief (sym g ∙ ap (reading.told f) e))
-
-    pub accepted : (h : Head) (n w : ℕ) → j ≡ judged.Accepted h n w → inBrief (Yes (reading.headOf f h) n w) ≡ verdictOf (readWith (known.Sheet sh) today f (length f))
-    accepted h n w e = sym (day-verdict sh today f real ∙ ap inBrief (sym g ∙ ap (reading.told f) e))
-
-pub ruleset verdicts = (real-known, no-day, refused, accepted)
-
--- ---- the sheet
-
--- r is the sheet that the number names
-module _ (r : Known) (n : ℕ) (g : r ≡ sheetOf n) where
-  module _ (today : ℕ) (f : List ℕ) where
-    pub on-sheet : (v : Verdict) (sh : Sheet) → r ≡ known.Sheet sh → v ≡ verdictOf (readWith (known.Sheet sh) today f (length f))
-        → v ≡ verdictOf (readWith (sheetOf n) today f (length f))
-    on-sheet v sh e h = h ∙ rw (← g, e)
-
-    -- 1: the number names none
-    pub no-sheet : r ≡ known.Nothing → inBrief (No 1 0 0) ≡ verdictOf (readWith (sheetOf n) today f (length f))
-    unfolding readWith refusedAt
-    no-sheet e = rw (← g, e)
-
-pub ruleset sheets = (sheet-sane, on-sheet, no-sheet)
-
--- ---- the output o, and o1 afterwards; n is the length of v's line
+-- ---- the output o, and o1 afterwards; n is the length of the text s
 
 -- at the front of o
 put-front : (o s : List ℕ) → put o 0 s ≡ s ++ drop (length s) o
 unfolding put
 put-front o s = let e : 0 + length s ≡ length s = omega arith in ap (λ (n : ℕ). s ++ drop n o) e
 
-module _ (sheet today : ℕ) (f o : List ℕ) (v : Verdict) (n : ℕ) where
-  module _ (g : v ≡ verdictOf (readWith (sheetOf sheet) today f (length f))) (long : n ≡ length (lineOf v)) where
-    is : explanation sheet today f ≡ drafted (lineOf v)
-    is = sym (explanation-is sheet today f) ∙ ap (λ (x : Verdict). drafted (lineOf x)) (sym g)
+module _ (o s : List ℕ) (n : ℕ) (long : n ≡ length s) where
+  -- 16, with the bytes needed, and the output as it was
+  pub short-answer : length o < n → record { number = 16; bytes = n } ≡ textAnswer (writtenIn (length o) (drafted s))
+  unfolding writtenIn pick
+  short-answer h = rw (← long, lt-ltb (length o) n h)
 
-    -- 16, with the bytes needed, and the output as it was
-    pub short-answer : length o < n → record { number = 16; bytes = n } ≡ textAnswer (writtenIn (length o) (explanation sheet today f))
-    unfolding writtenIn pick
-    short-answer h = rw (is, ← long, lt-ltb (length o) n h)
+  pub short-output : length o < n → o ≡ outputAfter o (drafted s)
+  unfolding outputAfter pick
+  short-output h = rw (← long, lt-ltb (length o) n h)
 
-    pub short-output : length o < n → o ≡ outputAfter o (explanation sheet today f)
-    unfolding outputAfter pick
-    short-output h = rw (is, ← long, lt-ltb (length o) n h)
+  -- 0, with the bytes written, and the text in front
+  pub full-answer : n ≤ length o → record { number = 0; bytes = n } ≡ textAnswer (writtenIn (length o) (drafted s))
+  unfolding writtenIn pick
+  full-answer h = rw (← long, le-ltb (length o) n h)
 
-    -- 0, with the bytes written, and the line in front
-    pub full-answer : n ≤ length o → record { number = 0; bytes = n } ≡ textAnswer (writtenIn (length o) (explanation sheet today f))
-    unfolding writtenIn pick
-    full-answer h = rw (is, ← long, le-ltb (length o) n h)
+  pub full-output : n ≤ length o → length s < 2 ^ 64 → (o1 : List ℕ) (r : ℕ) → Counted o 0 s o1 r → o1 ≡ outputAfter o (drafted s)
+  unfolding outputAfter pick
+  full-output h low o1 r w =
+      counted-wrote w (omega (arith, low)) (omega arith) .left ∙ put-front o s ∙ rw (← long, le-ltb (length o) n h)
 
-    pub full-output : n ≤ length o → (o1 : List ℕ) (r : ℕ) → Counted o 0 (lineOf v) o1 r → o1 ≡ outputAfter o (explanation sheet today f)
-    unfolding outputAfter pick
-    full-output h o1 r w =
-        counted-wrote w (omega (arith, line-most v)) (omega arith) .left ∙ put-front o (lineOf v) ∙ rw (is, ← long, le-ltb (length o) n h)
+pub ruleset outputs = (short-answer, short-output, full-answer, full-output, text-low)
 
-pub ruleset outputs = (short-answer, short-output, full-answer, full-output)
+-- ---- the sheets' lines, put aside in 1,024 bytes: n is the place behind them
+
+module _ (today : ℕ) (f o o1 : List ℕ) (n : ℕ) (w : Counted o 0 (sheetLines today f) o1 n) (room : length o ≡ 1024) where
+  aside-long : n ≡ length (sheetLines today f)
+  aside-long = omega (arith, w .next (omega (arith, lines-short today f)))
+
+  pub aside-few : n ≤ length o1
+  aside-few = omega (arith, aside-long, lines-short today f, w .long)
+
+  pub aside-lines : take (n - 0) (drop 0 o1) ≡ sheetLines today f
+  aside-lines =
+      let kept = counted-wrote w (omega (arith, lines-short today f)) (omega (arith, lines-short today f)) .left ∙ put-front o (sheetLines today f) in
+      let e : n - 0 ≡ length (sheetLines today f) = omega (arith, aside-long) in
+      rw (e, kept) (take-append-seam (sheetLines today f) _)
+
+  pub aside-short : length (take (n - 0) (drop 0 o1)) ≤ 1024
+  aside-short = rw aside-lines (omega (arith, lines-short today f))
+
+  -- the text with them is the file's
+  module _ (sh : Sheet) (s : Outcome) (comes : Comes sh today f s) where
+    pub aside-answer : (l : List ℕ) (a : TextAnswer) → a ≡ textAnswer (writtenIn (length l) (drafted (textIn (inWords sh today) f s (take (n - 0) (drop 0 o1)))))
+        → a ≡ textAnswer (writtenIn (length l) (drafted (textOn sh today f)))
+    aside-answer l a e = e ∙ rw (aside-lines, text-is sh today f s comes)
+
+    pub aside-output : (l l1 : List ℕ) → l1 ≡ outputAfter l (drafted (textIn (inWords sh today) f s (take (n - 0) (drop 0 o1)))) → l1 ≡ outputAfter l (drafted (textOn sh today f))
+    aside-output l l1 e = e ∙ rw (aside-lines, text-is sh today f s comes)
+
+pub ruleset asides = (aside-few, aside-short, aside-answer, aside-output)
+
+-- ---- 2: t says whether today is a day
+
+module _ (sh : Sheet) (today : ℕ) (f l l1 : List ℕ) (a : TextAnswer) (t : Bool) (g : t ≡ realDay today) where
+  pub real-known : t ≡ true → realDay today ≡ true
+  real-known e = sym g ∙ e
+
+  pub that-day : t ≡ true → a ≡ textAnswer (writtenIn (length l) (drafted (textOn sh today f))) → a ≡ textAnswer (writtenIn (length l) (explanationWith (known.Sheet sh) today f))
+  unfolding explanationWith pick
+  that-day e h = h ∙ rw (← g, e)
+
+  pub output-that-day : t ≡ true → l1 ≡ outputAfter l (drafted (textOn sh today f)) → l1 ≡ outputAfter l (explanationWith (known.Sheet sh) today f)
+  unfolding explanationWith pick
+  output-that-day e h = h ∙ rw (← g, e)
+
+  pub no-day : t ≡ false → a ≡ record { number = 2; bytes = 0 } → a ≡ textAnswer (writtenIn (length l) (explanationWith (known.Sheet sh) today f))
+  unfolding explanationWith writtenIn pick
+  no-day e h = h ∙ rw (← g, e)
+
+  pub output-no-day : t ≡ false → l1 ≡ l → l1 ≡ outputAfter l (explanationWith (known.Sheet sh) today f)
+  unfolding explanationWith outputAfter pick
+  output-no-day e h = h ∙ rw (← g, e)
+
+pub ruleset on-days = (real-known, that-day, output-that-day, no-day, output-no-day)
+
+-- ---- 1: r is the sheet that the number names
+
+module _ (r : Known) (n : ℕ) (g : r ≡ sheetOf n) where
+  pub sheet-known : (sh : Sheet) → r ≡ known.Sheet sh → sheetOf n ≡ known.Sheet sh
+  sheet-known sh e = sym g ∙ e
+
+  module _ (today : ℕ) (f l l1 : List ℕ) (a : TextAnswer) where
+    pub on-sheet : (sh : Sheet) → r ≡ known.Sheet sh → a ≡ textAnswer (writtenIn (length l) (explanationWith (known.Sheet sh) today f)) → a ≡ textAnswer (writtenIn (length l) (explanation n today f))
+    unfolding explanation
+    on-sheet sh e h = h ∙ rw (← g, e)
+
+    pub output-on-sheet : (sh : Sheet) → r ≡ known.Sheet sh → l1 ≡ outputAfter l (explanationWith (known.Sheet sh) today f) → l1 ≡ outputAfter l (explanation n today f)
+    unfolding explanation
+    output-on-sheet sh e h = h ∙ rw (← g, e)
+
+    pub no-sheet : r ≡ known.Nothing → a ≡ record { number = 1; bytes = 0 } → a ≡ textAnswer (writtenIn (length l) (explanation n today f))
+    unfolding explanation explanationWith writtenIn
+    no-sheet e h = h ∙ rw (← g, e)
+
+    pub output-no-sheet : r ≡ known.Nothing → l1 ≡ l → l1 ≡ outputAfter l (explanation n today f)
+    unfolding explanation explanationWith outputAfter
+    output-no-sheet e h = h ∙ rw (← g, e)
+
+pub ruleset on-sheets = (sheet-sane, sheet-known, on-sheet, output-on-sheet, no-sheet, output-no-sheet)

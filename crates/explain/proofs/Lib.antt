@@ -1,9 +1,6 @@
--- Laws of explaining: how many rows a file can have, which line is its, that the answer is one and a refusal writes nothing; and how the functions end.
-pub mod Bytes
-pub mod Least
-pub mod Many
-pub mod Laws
+-- Laws of explaining: the text by its parts, how long it is, that it can be shown as it stands, how the call ends, and that an answer is known by what it tells.
+pub mod Text
+pub mod Lengths
+pub mod Printable
+pub mod Exits
 pub mod Determined
-pub mod Examples
-pub mod Wording
-mod Exits

@@ -1,2 +1,3 @@
-pub mod Wording
+pub mod Explanation
+pub mod Parts
 pub mod Told

@@ -1,158 +1,163 @@
-// A judged file in a line of text. Which answer it is (`Verdict`) is known apart from how it is worded (`put_line`).
-use judge::file::FileJudged;
+// What is found in a file, in sentences for the clerk: whether it is refused, why or what it warns of, and what each sheet says of it.
+use listing::Telling;
 use sheet::Known;
 use sheet::Sheet;
+use tracing::file::Outcome;
 ghost use mathlib.Core.Path.{_≡_};
-ghost use mathlib.Core.List.{_++_};
+ghost use mathlib.Core.Bool.{true};
+ghost use Prim.Native.Nat.{_≤_};
 ghost use lib.ListN.{length};
 ghost use Rattle.sheet.specs.declared.Known.the-variants as known;
 ghost use Rattle.sheet.specs.Sheets.{sheetOf};
 ghost use Rattle.sheet.proofs.Laws.{Sane};
-ghost use Rattle.paper.specs.Numerals.{decimal};
-ghost use Rattle.paper.specs.Reading.{readWith};
-ghost use Rattle.paper.specs.Writing.{writtenIn, outputAfter};
-ghost use Rattle.paper.specs.Explaining.{refusedLine, acceptedLine, explanation};
+ghost use Rattle.paper.specs.Days.{realDay};
+ghost use Rattle.paper.specs.Writing.{drafted, writtenIn, outputAfter};
 ghost use Rattle.numeral.specs.counted.Counted.{Counted};
+ghost use Rattle.tracing.specs.file.Comes.{Comes};
+ghost use Rattle.explain.specs.Explanation.{refusedHeading, countsWords, acceptedHeading, textOn, explanationWith, explanation};
+ghost use Rattle.explain.specs.Parts.{headingIn, textIn};
 ghost use Rattle.explain.specs.Told.{textAnswer, told};
-ghost use Rattle.explain.specs.Wording.{verdictOf, lineOf};
 
-// The whole answer: number 0 and the bytes written, or 16 and the bytes needed.
+// The whole answer: number 0 and the bytes written, or 16 and the bytes needed; 1 and 2 with none.
 #[repr(C)]
 pub struct AboText {
     pub number: u64,
     pub bytes: u64,
 }
 
-// What is to be said of a file: a refusal's number, line and byte; or number 0, and the counts of rows and warnings.
-pub struct Verdict {
-    pub number: u64,
-    pub line: u64,
-    pub byte: u64,
-    pub rows: u64,
-    pub warnings: u64,
+// ---- the text
+
+// `Refused on sheet K.`
+fn put_refused(out: &mut [u8], at: usize, letter: u8) -> usize
+    ensures { λ r. ⌜ Counted (now (out .entry)) at (refusedHeading letter) (now (out .exit)) r ⌝ }
+{
+    let d = numeral::counted::put_bytes(out, at, b"Refused on sheet ");
+    let e = numeral::counted::put_byte(out, d, letter);
+    numeral::counted::put_bytes(out, e, b".\n")
 }
 
-// ---- which answer it is
-
-// The verdict on the sheet sh: 2, or what the file is judged to be.
-fn verdict_on(file: &[u8], sh: Sheet, today: u64) -> Verdict
-    requires { ⌜ Sane sh ⌝ }
-    ensures { λ r. ⌜ r ≡ verdictOf (readWith (known.Sheet sh) today (now (file .entry)) (length (now (file .entry)))) ⌝ }
+// `, rows R, warnings W.`
+fn put_counts(out: &mut [u8], at: usize, rows: u64, warnings: u64) -> usize
+    ensures { λ r. ⌜ Counted (now (out .entry)) at (countsWords rows warnings) (now (out .exit)) r ⌝ }
 {
-    if calendar::real_day(today) {
-        match judge::file::judge_file(file, sh, today) {
-            FileJudged::Refused(n, line, byte) => Verdict {
-                number: n,
-                line,
-                byte,
-                rows: 0,
-                warnings: 0,
-            },
-            FileJudged::Accepted {
-                head: _,
-                rows,
-                warnings,
-            } => Verdict {
-                number: 0,
-                line: 0,
-                byte: 0,
-                rows,
-                warnings,
-            },
-        }
-    } else {
-        Verdict {
-            number: 2,
-            line: 0,
-            byte: 0,
-            rows: 0,
-            warnings: 0,
-        }
+    let e = verdict::put_said(out, at, b", rows ", rows);
+    let f = verdict::put_said(out, e, b", warnings ", warnings);
+    numeral::counted::put_bytes(out, f, b".\n")
+}
+
+// `Accepted on sheet K, rows R, warnings W.`
+fn put_accepted(out: &mut [u8], at: usize, letter: u8, rows: u64, warnings: u64) -> usize
+    ensures { λ r. ⌜ Counted (now (out .entry)) at (acceptedHeading letter rows warnings) (now (out .exit)) r ⌝ }
+{
+    let c = numeral::counted::put_bytes(out, at, b"Accepted on sheet ");
+    let d = numeral::counted::put_byte(out, c, letter);
+    put_counts(out, d, rows, warnings)
+}
+
+// The one or the other.
+fn put_heading(out: &mut [u8], at: usize, letter: u8, o: Outcome) -> usize
+    ensures { λ r. ⌜ Counted (now (out .entry)) at (headingIn letter o) (now (out .exit)) r ⌝ }
+{
+    match o {
+        Outcome::Found(_) => put_refused(out, at, letter),
+        Outcome::Passed { rows, warnings } => put_accepted(out, at, letter, rows, warnings),
     }
 }
 
-// The verdict on the sheet of that number.
-pub fn verdict_for(file: &[u8], sheet: u64, today: u64) -> Verdict
-    ensures { λ r. ⌜ r ≡ verdictOf (readWith (sheetOf sheet) today (now (file .entry)) (length (now (file .entry)))) ⌝ }
+// All of it, with the sheets' lines at its end.
+fn put_text(out: &mut [u8], at: usize, t: Telling, file: &[u8], o: Outcome, lines: &[u8]) -> usize
+    requires { ⌜ Sane (t .sheet) × (realDay (t .today) ≡ true) ⌝ }
+    requires { ⌜ Comes (t .sheet) (t .today) (now file) o ⌝ }
+    ensures { λ r. ⌜ Counted (now (out .entry)) at (textIn t (now (file .entry)) o (now (lines .entry))) (now (out .exit)) r ⌝ }
 {
-    match sheet::sheet_of(sheet) {
-        Known::Sheet(sh) => verdict_on(file, sh, today),
-        Known::Nothing => Verdict {
-            number: 1,
-            line: 0,
-            byte: 0,
-            rows: 0,
-            warnings: 0,
-        },
-    }
+    let d = put_heading(out, at, t.sheet.letter, o);
+    let e = findings::outcome::put_findings(out, d, t, file, o);
+    numeral::counted::put_bytes(out, e, lines)
 }
 
-// ---- how it is worded
-
-// A word and a number behind it.
-fn put_said(out: &mut [u8], at: usize, word: &[u8], n: u64) -> usize
-    ensures { λ r. ⌜ Counted (now (out .entry)) at (now (word .entry) ++ decimal n) (now (out .exit)) r ⌝ }
-{
-    let e = numeral::counted::put_bytes(out, at, word);
-    numeral::counted::put_number(out, e, n)
-}
-
-// The line of a refusal.
-pub fn put_refused(out: &mut [u8], at: usize, number: u64, line: u64, byte: u64) -> usize
-    ensures { λ r. ⌜ Counted (now (out .entry)) at (refusedLine number line byte) (now (out .exit)) r ⌝ }
-{
-    let e = put_said(out, at, b"refused ", number);
-    let f = put_said(out, e, b" line ", line);
-    let g = put_said(out, f, b" byte ", byte);
-    numeral::counted::put_byte(out, g, 10)
-}
-
-// The line of an accepted file.
-fn put_accepted(out: &mut [u8], at: usize, rows: u64, warnings: u64) -> usize
-    ensures { λ r. ⌜ Counted (now (out .entry)) at (acceptedLine rows warnings) (now (out .exit)) r ⌝ }
-{
-    let e = put_said(out, at, b"accepted rows ", rows);
-    let f = put_said(out, e, b" warnings ", warnings);
-    numeral::counted::put_byte(out, f, 10)
-}
-
-// The line.
-fn put_line(out: &mut [u8], at: usize, v: Verdict) -> usize
-    ensures { λ r. ⌜ Counted (now (out .entry)) at (lineOf v) (now (out .exit)) r ⌝ }
-{
-    if v.number == 0 {
-        return put_accepted(out, at, v.rows, v.warnings);
-    }
-    put_refused(out, at, v.number, v.line, v.byte)
-}
-
-// How many bytes the line has: it is put where nothing is lent.
-fn line_len(v: Verdict) -> usize
-    ensures { λ r. ⌜ r ≡ length (lineOf v) ⌝ }
+// How many bytes it has: it is put where nothing is lent.
+fn text_len(t: Telling, file: &[u8], o: Outcome, lines: &[u8]) -> usize
+    requires { ⌜ Sane (t .sheet) × (realDay (t .today) ≡ true) ⌝ }
+    requires { ⌜ Comes (t .sheet) (t .today) (now file) o ⌝ }
+    requires { ⌜ t .words ≡ true ⌝ }
+    requires { ⌜ length (now lines) ≤ 1024 ⌝ }
+    ensures { λ r. ⌜ r ≡ length (textIn t (now (file .entry)) o (now (lines .entry))) ⌝ }
 {
     let mut nothing = [0; 0];
-    put_line(&mut nothing, 0, v)
+    put_text(&mut nothing, 0, t, file, o, lines)
 }
 
-// ---- both
+// ---- where it has room
 
-// Judges a file on the sheet of that number, and puts the line that tells of it at the front of the output; where it has no room, the output is
-// left as it was.
-pub fn explain_file(file: &[u8], sheet: u64, today: u64, out: &mut [u8]) -> AboText
-    ensures { λ r. ⌜ told r ≡ textAnswer (writtenIn (length (now (out .entry))) (explanation sheet today (now (file .entry)))) ⌝ }
-    ensures { λ _. ⌜ now (out .exit) ≡ outputAfter (now (out .entry)) (explanation sheet today (now (file .entry))) ⌝ }
+// The text, or that it has no room.
+fn put_whole(t: Telling, file: &[u8], o: Outcome, lines: &[u8], out: &mut [u8]) -> AboText
+    requires { ⌜ Sane (t .sheet) × (realDay (t .today) ≡ true) ⌝ }
+    requires { ⌜ Comes (t .sheet) (t .today) (now file) o ⌝ }
+    requires { ⌜ t .words ≡ true ⌝ }
+    requires { ⌜ length (now lines) ≤ 1024 ⌝ }
+    ensures { λ r. ⌜ told r ≡ textAnswer (writtenIn (length (now (out .entry))) (drafted (textIn t (now (file .entry)) o (now (lines .entry))))) ⌝ }
+    ensures { λ _. ⌜ now (out .exit) ≡ outputAfter (now (out .entry)) (drafted (textIn t (now (file .entry)) o (now (lines .entry)))) ⌝ }
 {
-    let v = verdict_for(file, sheet, today);
-    let n = line_len(v);
+    let n = text_len(t, file, o, lines);
     if out.len() < n {
         return AboText {
             number: 16,
             bytes: n as u64,
         };
     }
-    put_line(out, 0, v);
+    put_text(out, 0, t, file, o, lines);
     AboText {
         number: 0,
         bytes: n as u64,
+    }
+}
+
+// On the sheet sh, which the number names, on a real day. The sheets' lines are put aside first, so that no sheet judges the file twice.
+fn explain_that_day(file: &[u8], sheet: u64, sh: Sheet, today: u64, out: &mut [u8]) -> AboText
+    requires { ⌜ Sane sh × (realDay today ≡ true) ⌝ }
+    requires { ⌜ sheetOf sheet ≡ known.Sheet sh ⌝ }
+    ensures { λ r. ⌜ told r ≡ textAnswer (writtenIn (length (now (out .entry))) (drafted (textOn sh today (now (file .entry))))) ⌝ }
+    ensures { λ _. ⌜ now (out .exit) ≡ outputAfter (now (out .entry)) (drafted (textOn sh today (now (file .entry)))) ⌝ }
+{
+    let o = tracing::file::follow(file, sh, today);
+    let v = findings::outcome::verdict_of(o);
+    let mut lines = [0u8; 1024];
+    let n = verdict::sheets::put_sheets(&mut lines, 0, file, today, sheet, v);
+    let t = Telling {
+        words: true,
+        sheet: sh,
+        today,
+    };
+    put_whole(t, file, o, &lines[0..n], out)
+}
+
+// On the sheet sh: 2, or the text.
+fn explain_on(file: &[u8], sheet: u64, sh: Sheet, today: u64, out: &mut [u8]) -> AboText
+    requires { ⌜ Sane sh ⌝ }
+    requires { ⌜ sheetOf sheet ≡ known.Sheet sh ⌝ }
+    ensures { λ r. ⌜ told r ≡ textAnswer (writtenIn (length (now (out .entry))) (explanationWith (known.Sheet sh) today (now (file .entry)))) ⌝ }
+    ensures { λ _. ⌜ now (out .exit) ≡ outputAfter (now (out .entry)) (explanationWith (known.Sheet sh) today (now (file .entry))) ⌝ }
+{
+    if calendar::real_day(today) {
+        return explain_that_day(file, sheet, sh, today, out);
+    }
+    no_text(2)
+}
+
+// 1 or 2, and no text.
+fn no_text(number: u64) -> AboText
+    ensures { λ r. ⌜ told r ≡ record { number = number; bytes = 0 } ⌝ }
+{
+    AboText { number, bytes: 0 }
+}
+
+// Explains a file on the sheet of that number, in the front of the output; where the text has no room, the output is left as it was.
+pub fn explain_file(file: &[u8], sheet: u64, today: u64, out: &mut [u8]) -> AboText
+    ensures { λ r. ⌜ told r ≡ textAnswer (writtenIn (length (now (out .entry))) (explanation sheet today (now (file .entry)))) ⌝ }
+    ensures { λ _. ⌜ now (out .exit) ≡ outputAfter (now (out .entry)) (explanation sheet today (now (file .entry))) ⌝ }
+{
+    match sheet::sheet_of(sheet) {
+        Known::Sheet(sh) => explain_on(file, sheet, sh, today, out),
+        Known::Nothing => no_text(1),
     }
 }

@@ -24,7 +24,7 @@ use Rattle.rewriting.specs.request.Asked.{answer, Sound}
 use Rattle.bounds.specs.Most.{mostInput, mostRows, mostOutput}
 use Rattle.numeral.specs.counted.Counted.{Counted}
 use Rattle.numeral.proofs.counted.Laws.{counted-wrote}
-use Rattle.explain.proofs.Wording.{refused-most}
+use Rattle.verdict.proofs.Wording.{refused-most}
 use Rattle.rewriting.proofs.Front.{wrote-same}
 use Rattle.rewriting.proofs.Read.{Outcome, refuses, accepts, outcome}
 

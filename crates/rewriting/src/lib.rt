@@ -56,7 +56,7 @@ fn rewrite_file(file: &[u8], sh: Sheet, today: u64, rows: &mut [u8], out: &mut [
         let end = 192 * (a.rows as usize);
         return write_back(&rows[0..end], file, a.header, sh.number, today, out);
     }
-    explain::put_refused(out, 0, a.number, a.line, a.byte)
+    verdict::put_refused(out, 0, a.number, a.line, a.byte)
 }
 
 // Puts at the output's front what the program writes for the input; the rows are room to work in. A line that gives a row has 8 bytes or
@@ -66,7 +66,7 @@ pub fn rewrite(input: &[u8], rows: &mut [u8], out: &mut [u8]) -> usize
     ensures { λ r. ⌜ Wrote (now (out .entry)) 0 (rewriting (now (input .entry))) (now (out .exit)) r ⌝ }
 {
     match crate::request::read_request(input) {
-        Request::Refused(n) => explain::put_refused(out, 0, n, 0, 0),
+        Request::Refused(n) => verdict::put_refused(out, 0, n, 0, 0),
         Request::File { sh, today, at } => rewrite_file(&input[at..], sh, today, rows, out),
     }
 }

@@ -1,0 +1,4 @@
+-- Laws of listing: how much is listed, and how the call ends.
+pub mod Lengths
+pub mod Exits
+pub mod Determined

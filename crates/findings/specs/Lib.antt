@@ -1,0 +1,4 @@
+pub mod Findings
+pub mod Lists
+pub mod Told
+pub mod outcome
