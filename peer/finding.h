@@ -87,8 +87,6 @@ enum { FINDING_BYTES = 64 };
 struct peer_finding {
     uint64_t number; /* of a refusal; 0 is a warning */
     uint64_t cause, line, byte, length, field, least, most;
-    /* Not in the list, but for the words: the field in front of this one. */
-    unsigned behind;
 };
 
 static inline void store_finding(uint8_t *out, const struct peer_finding *f)

@@ -138,7 +138,6 @@ void peer_field_reason(const struct retrace *r, const struct field *f,
 {
     const struct peer_sheet *sheet = r->sheet;
     out->field = f->id;
-    out->behind = f->behind;
     out->length = f->end - f->at;
     switch (out->number) {
     case 5:

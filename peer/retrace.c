@@ -35,7 +35,7 @@ static size_t end_of(const struct retrace *r, unsigned id, size_t at)
 static bool take_field(const struct retrace *r, struct field *f, unsigned id,
                        size_t at)
 {
-    *f = (struct field){id, f->id, at, end_of(r, id, at)};
+    *f = (struct field){id, at, end_of(r, id, at)};
     return true;
 }
 
@@ -52,7 +52,6 @@ static bool payer_stands(const struct retrace *r)
 
 bool peer_first_field(const struct retrace *r, struct field *f)
 {
-    f->id = 0;
     switch (r->kind) {
     case LINE_FIRST:
         return r->sheet->header &&

@@ -26,7 +26,7 @@ struct retrace {
 
 /* A field of the line in hand, up to the byte behind it. */
 struct field {
-    unsigned id, behind; /* behind: the field in front of it, or 0 */
+    unsigned id;
     size_t at, end;
 };
 

@@ -40,16 +40,17 @@ static void put_amount(struct pen *p, const struct peer_sheet *sheet,
                      : " digits");
 }
 
-static void put_text(struct pen *p, const struct peer_sheet *sheet,
-                     const struct peer_finding *f)
+/* C: a text may stand in the place of a symbol, so the digits of one are always
+   named with it, wherever it stands and whatever was found; behind a symbol
+   digits are a text too. */
+static void put_text(struct pen *p, const struct peer_sheet *sheet)
 {
-    bool bare = sheet->tail == PEER_TAIL_AV_NP && f->length == 0 &&
-                f->behind == FIELD_BANK_FIELD;
-    pen_words(p, bare ? "1 to 10 digits, or " : "");
+    bool or_symbol = sheet->tail == PEER_TAIL_AV_NP;
+    pen_words(p, or_symbol ? "1 to 10 digits, or " : "");
     pen_words(p, "text bytes, 32 to 255 but 127");
     if (sheet->tail == PEER_TAIL_PART)
         return;
-    pen_words(p, bare ? "" : ", one or more");
+    pen_words(p, or_symbol ? "" : ", one or more");
     pen_words(p, ", the first no space");
 }
 
@@ -108,6 +109,6 @@ void peer_spelling(struct pen *p, const struct peer_sheet *sheet,
         pen_words(p, " digits");
         break;
     default:
-        put_text(p, sheet, f);
+        put_text(p, sheet);
     }
 }

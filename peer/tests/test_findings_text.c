@@ -13,6 +13,7 @@
     "1 to 14 bytes: digits, and where there is a comma, two digits behind" \
     " it and one or more before it"
 #define TEXT_BYTES "text bytes, 32 to 255 but 127"
+#define C_TEXT "1 to 10 digits, or " TEXT_BYTES ", the first no space"
 
 /* One line of the frame replaced, on each sheet of these letters, and the words
    behind the place.  In a single group the item has a payer. */
@@ -243,21 +244,23 @@ static const struct wording tails[] = {
      "the specific symbol" WRONG "nothing; allowed: 1 to 10 digits.", 0},
     {"S", 4, ITEM "  \x1f", "the text" WRONG "\"\\x1F\"; allowed: " TEXT_BYTES ".",
      0},
-    {"KCEP", 4, ITEM " 17 ",
+    {"KEP", 4, ITEM " 17 ",
      "the text" WRONG "nothing; allowed: " TEXT_BYTES
      ", one or more, the first no space.", 0},
-    {"KCEP", 4, ITEM " 17  AV:x",
+    {"KEP", 4, ITEM " 17  AV:x",
      "the text" WRONG "\" AV:x\"; allowed: " TEXT_BYTES
      ", one or more, the first no space.", 0},
-    {"C", 4, ITEM " ",
-     "the text" WRONG "nothing; allowed: 1 to 10 digits, or " TEXT_BYTES
-     ", the first no space.", 0},
-    {"C", 4, "19 " ITEM " ",
-     "the text" WRONG "nothing; allowed: 1 to 10 digits, or " TEXT_BYTES
-     ", the first no space.", 1},
-    {"C", 4, ITEM "  ",
-     "the text" WRONG "\" \"; allowed: " TEXT_BYTES
-     ", one or more, the first no space.", 0},
+    {"C", 4, ITEM " ", "the text" WRONG "nothing; allowed: " C_TEXT ".", 0},
+    {"C", 4, "19 " ITEM " ", "the text" WRONG "nothing; allowed: " C_TEXT ".",
+     1},
+    {"C", 4, ITEM "  ", "the text" WRONG "\" \"; allowed: " C_TEXT ".", 0},
+    {"C", 4, ITEM " 1\x1f", "the text" WRONG "\"1\\x1F\"; allowed: " C_TEXT ".",
+     0},
+    {"C", 4, ITEM " 17 ", "the text" WRONG "nothing; allowed: " C_TEXT ".", 0},
+    {"C", 4, ITEM " 17  AV:x",
+     "the text" WRONG "\" AV:x\"; allowed: " C_TEXT ".", 0},
+    {"C", 4, ITEM " 17 1\x1f",
+     "the text" WRONG "\"1\\x1F\"; allowed: " C_TEXT ".", 0},
     {"KEP", 4, ITEM " 1 AV",
      BREAKS "\"AV\"; allowed: a text that begins with AV:.", 0},
     {"KCEP", 4, ITEM " 1 AV:||||",
