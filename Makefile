@@ -15,7 +15,7 @@
 # and linked -static; build/abo, build/orderbook and the installed abo are launchers over qemu, and the tests run the others by it.
 
 # The first number grows when a program must be changed to go on working, the second when a call or a constant is added.
-VERSION = 1.5
+VERSION = 1.6
 
 PREFIX = /usr/local
 BINDIR = $(PREFIX)/bin
@@ -119,6 +119,7 @@ prefix=$(PREFIX)
 includedir=$(patsubst $(PREFIX)/%,$${prefix}/%,$(INCLUDEDIR))
 libdir=$(patsubst $(PREFIX)/%,$${prefix}/%,$(LIBDIR))
 say=$(patsubst $(PREFIX)/%,$${prefix}/%,$(DATADIR))/abo/abo_say.c
+tell=$(patsubst $(PREFIX)/%,$${prefix}/%,$(DATADIR))/abo/abo_tell.c
 
 Name: abo
 Description: Czech ABO payment files and GPC statements, read, written and explained
@@ -133,12 +134,12 @@ $(BUILD)/abo.pc: FORCE
 	@mkdir -p $(BUILD)
 	@printf '%s\n' "$$pc" >$@
 
-# abo_say.c is no part of the archive: programs that want its words compile it in.
+# abo_say.c and abo_tell.c are no part of the archive: programs that want their words compile them in.
 page = $(wildcard host/abo/abo.1)
 install: $(archive) $(tool) $(BUILD)/abo.pc
 	install -d $(addprefix $(DESTDIR),$(INCLUDEDIR) $(LIBDIR)/pkgconfig $(DATADIR)/abo)
-	install -m 644 include/abo.h include/abo_say.h $(DESTDIR)$(INCLUDEDIR)
-	install -m 644 include/abo_say.c $(DESTDIR)$(DATADIR)/abo
+	install -m 644 include/abo.h include/abo_say.h include/abo_tell.h $(DESTDIR)$(INCLUDEDIR)
+	install -m 644 include/abo_say.c include/abo_tell.c $(DESTDIR)$(DATADIR)/abo
 	install -m 644 $(archive) $(DESTDIR)$(LIBDIR)/libabo.a
 	install -m 644 $(BUILD)/abo.pc $(DESTDIR)$(LIBDIR)/pkgconfig/abo.pc
 	$(if $(tool),install -d $(DESTDIR)$(BINDIR) && install -m 755 $(tool) $(DESTDIR)$(BINDIR)/abo)
@@ -147,7 +148,8 @@ install: $(archive) $(tool) $(BUILD)/abo.pc
 
 # Of the folders only those that nobody else has anything in.
 uninstall:
-	rm -f $(addprefix $(DESTDIR),$(INCLUDEDIR)/abo.h $(INCLUDEDIR)/abo_say.h $(DATADIR)/abo/abo_say.c $(LIBDIR)/libabo.a \
+	rm -f $(addprefix $(DESTDIR),$(INCLUDEDIR)/abo.h $(addprefix $(INCLUDEDIR)/,abo_say.h abo_tell.h) \
+	    $(addprefix $(DATADIR)/abo/,abo_say.c abo_tell.c) $(LIBDIR)/libabo.a \
 	    $(LIBDIR)/pkgconfig/abo.pc $(PROGRAMDIR)/abo $(BINDIR)/abo $(MANDIR)/man1/abo.1)
 	@rmdir $(addprefix $(DESTDIR),$(DATADIR)/abo $(PROGRAMDIR)) 2>/dev/null || true
 

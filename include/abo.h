@@ -1,6 +1,6 @@
 /*
  * Reading, writing and explaining Czech ABO (.kpc) payment files for the bank sheets K, S, C, E and P, finding their lines, and reading
- * and writing statements (GPC records 074 and 075): six calls, the rows that they take and give, and the numbers that they return.
+ * and writing statements (GPC records 074 and 075): seven calls, the rows that they take and give, and the numbers that they return.
  * For C99 and later and for C++; link with libabo.a.
  *
  * Days.  Every day is a number YYYYMMDD: the 2nd of January 2018 is 20180102.  So is `today`, which the caller gives with each
@@ -11,16 +11,18 @@
  * writes to must not overlap bytes that it reads.  Apart from that, any bytes and any numbers may be handed in.
  *
  * Refusals.  A call that returns another number than 0 has changed none of the lent bytes.  An accepted one has changed only
- * the rows or bytes that it counts in its answer; what is lent beyond them stays as it was.
+ * the rows, findings or bytes that it counts in its answer; what is lent beyond them stays as it was.
  *
- * Byte order.  Rows are lent as bytes: words of 64 bits, each with its lowest byte first, whatever the machine; 24 of them, and in
- * statements eight and then bytes of the record.  Where the machine's own order is the same, as on x86-64, an array of `union abo_row`
- * or `union abo_statement_row` is lent as it lies, which abo_read_rows, abo_write_rows and their kin do:
+ * Byte order.  Rows are lent as bytes: words of 64 bits, each with its lowest byte first, whatever the machine; 24 of them, in
+ * statements eight and then bytes of the record, and eight in a finding.  Where the machine's own order is the same, as on x86-64, an
+ * array of `union abo_row`, `union abo_statement_row` or `struct abo_finding` is lent as it lies, which abo_read_rows, abo_write_rows
+ * and their kin do:
  *
  *     union abo_row rows[1000];
  *     struct abo_answer a = abo_read_rows(file, len, ABO_SHEET_K, 20180101, rows, 1000);
  *
- * abo_say.h and abo_say.c, beside this file, have words for people: for numbers, fields and sheets.
+ * abo_say.h and abo_say.c, beside this file, have words for people, in Czech and in English: for numbers, fields and sheets; and
+ * abo_tell.h and abo_tell.c whole sentences: for what is found in a file, and for rows that are not written.
  *
  * The calls have no state, so any number of threads may call them at once on bytes of their own.
  */
@@ -43,8 +45,8 @@ extern "C" {
 /* ---- Version: the first part grows when a program must be changed to go on working, the second when something is added ---- */
 
 #define ABO_VERSION_MAJOR 1
-#define ABO_VERSION_MINOR 5
-#define ABO_VERSION "1.5"
+#define ABO_VERSION_MINOR 6
+#define ABO_VERSION "1.6"
 
 /* ---- Sheets: which bank's rules a file is judged by ---- */
 
@@ -87,12 +89,13 @@ enum abo_number {
 /* ---- Rows: the batch in order, an account file, its groups, behind each group its items ---- */
 
 enum abo_size {
-    ABO_ROW_WORDS = 24,     /* words of a row of a batch */
-    ABO_ROW_BYTES = 192,    /* bytes of a row */
-    ABO_PARTS = 4,          /* message parts of an item */
-    ABO_TEXT_BYTES = 35,    /* most bytes of a message part, or of an item's name */
-    ABO_NAME_BYTES = 20,    /* bytes of the header's name, always all of them */
-    ABO_EXPLAIN_BYTES = 65, /* room that is enough for every line of abo_explain */
+    ABO_ROW_WORDS = 24,       /* words of a row of a batch */
+    ABO_ROW_BYTES = 192,      /* bytes of a row */
+    ABO_PARTS = 4,            /* message parts of an item */
+    ABO_TEXT_BYTES = 35,      /* most bytes of a message part, or of an item's name */
+    ABO_NAME_BYTES = 20,      /* bytes of the header's name, always all of them */
+    ABO_FINDING_BYTES = 64,   /* bytes of a finding */
+    ABO_EXPLAIN_BYTES = 2048, /* room that is enough for what abo_explain says of any refused file */
 
     ABO_RECORD_BYTES = 130,        /* bytes of a statement's record, its CR LF among them */
     ABO_STATEMENT_WORDS = 8,       /* words of a statement's row that are numbers; bytes of the record follow */
@@ -275,15 +278,147 @@ static inline int abo_set_name(struct abo_header *header, const char *name)
     return 1;
 }
 
+/* ---- What is found in a file: why it is refused, or what it is warned of ---- */
+
+/* Which field a finding is about.  A field that is missing is named too, and of one divider too many the field before it. */
+enum abo_found_field {
+    ABO_FOUND_LINE = 0, /* the line itself: of a kind that is not due, or one too many */
+
+    ABO_FOUND_DATE = 1,   /* first line: creation date */
+    ABO_FOUND_FIRM = 2,   /* first line: the firm's name */
+    ABO_FOUND_CLIENT = 3, /* first line: client number */
+    ABO_FOUND_FROM = 4,   /* first line: interval start */
+    ABO_FOUND_TO = 5,     /* first line: interval end */
+    ABO_FOUND_REST = 6,   /* first line: what follows */
+
+    ABO_FOUND_KIND = 10,       /* account file: its kind */
+    ABO_FOUND_NUMBER = 11,     /* account file: its number */
+    ABO_FOUND_PAYER_BANK = 12, /* account file: the payer's bank */
+
+    ABO_FOUND_GROUP_PAYER = 20, /* group: payer */
+    ABO_FOUND_TOTAL = 21,       /* group: total */
+    ABO_FOUND_DUE = 22,         /* group: due date */
+
+    ABO_FOUND_PAYER = 30,    /* item: payer, in a single group */
+    ABO_FOUND_PAYEE = 31,    /* item: payee */
+    ABO_FOUND_AMOUNT = 32,   /* item: amount */
+    ABO_FOUND_VARIABLE = 33, /* item: variable symbol */
+    ABO_FOUND_BANK = 34,     /* item: bank field, the payee's bank and the constant symbol in one */
+    ABO_FOUND_SPECIFIC = 35, /* item: specific symbol */
+    ABO_FOUND_TEXT = 36,     /* item: text, all of it */
+    ABO_FOUND_PART_1 = 37,   /* item: first message part */
+    ABO_FOUND_PART_2 = 38,   /* item: second message part */
+    ABO_FOUND_PART_3 = 39,   /* item: third message part */
+    ABO_FOUND_PART_4 = 40,   /* item: fourth message part */
+    ABO_FOUND_NAME = 41,     /* item: payee's name */
+
+    ABO_FOUND_GROUP_END = 50, /* closing line of a group */
+    ABO_FOUND_FILE_END = 51   /* closing line of an account file */
+};
+
+/* Why: one number of a refusal may have several causes, which are listed here in the order in which they are tested.  Behind some
+   stands what `least` and `most` are; with the others both are 0. */
+enum abo_cause {
+    ABO_CAUSE_DUE_FIRST = 30,        /* a first line is due */
+    ABO_CAUSE_DUE_FILE = 31,         /* an account file is due */
+    ABO_CAUSE_DUE_GROUP = 32,        /* a group is due */
+    ABO_CAUSE_DUE_ITEM = 33,         /* an item is due */
+    ABO_CAUSE_DUE_ITEM_OR_END = 34,  /* an item or the group's end is due */
+    ABO_CAUSE_DUE_GROUP_OR_END = 35, /* a group or the account file's end is due */
+    ABO_CAUSE_DUE_FILE_OR_END = 36,  /* an account file or the end of the file is due */
+
+    ABO_CAUSE_SPELLING = 40,        /* wrong bytes, or a wrong count of them */
+    ABO_CAUSE_DIVIDER_MISSING = 41, /* the line ends where a space and this field are due */
+    ABO_CAUSE_DIVIDER_MORE = 42,    /* something follows this field, where the line's end is due */
+    ABO_CAUSE_CLOSING = 43,         /* a closing line is not spelled as one */
+
+    ABO_CAUSE_PREFIX_SUM = 50, /* the weighted digits of an account's prefix */
+    ABO_CAUSE_BASE_SUM = 51,   /* the weighted digits of its base */
+    ABO_CAUSE_BASE_ZEROS = 52, /* a base with fewer than two digits that are not zero */
+
+    ABO_CAUSE_AMOUNT_ZERO = 60, /* 1, the sheet's limit in haler */
+    ABO_CAUSE_AMOUNT_OVER = 61, /* 1, the sheet's limit in haler */
+
+    ABO_CAUSE_KIND = 70,       /* first kind, last kind */
+    ABO_CAUSE_PAYER_BANK = 80, /* the sheet's bank, twice */
+
+    ABO_CAUSE_INTERVAL_TURNED = 90, /* K: interval start, 999 */
+    ABO_CAUSE_NUMBER_OUTSIDE = 91,  /* K: interval start, interval end */
+    ABO_CAUSE_NUMBER_USED = 92,     /* K: interval start, interval end */
+
+    ABO_CAUSE_TOTAL_DIFFERS = 100, /* the sum of the items in haler, twice */
+    ABO_CAUSE_SUM_OVER = 101,      /* 0, the largest sum of 14 digits */
+
+    ABO_CAUSE_DAY_NOT_REAL = 110,     /* 20000101, 20991231 */
+    ABO_CAUSE_DAY_EARLY = 111,        /* today, or 0 where past days are taken; days ahead, or 0 where there is no limit */
+    ABO_CAUSE_DAY_LATE = 112,         /* as with 111 */
+    ABO_CAUSE_COLLECTION_EARLY = 113, /* today; 0 at the sheet's own bank, where today is taken, else 1 */
+    ABO_CAUSE_COLLECTION_LATE = 114,  /* today; 1, for one month */
+
+    ABO_CAUSE_PAYEE_BANK = 120,  /* 1, 9999 */
+    ABO_CAUSE_NINTH_DIGIT = 130, /* the ninth digit of the bank field, counted from the right; tested behind the tenth */
+    ABO_CAUSE_TENTH_DIGIT = 131, /* the tenth digit */
+
+    ABO_CAUSE_TEXT_START = 140,  /* most parts, most bytes of a part */
+    ABO_CAUSE_TEXT_PARTS = 141,  /* so too */
+    ABO_CAUSE_TEXT_LENGTH = 142, /* so too */
+    ABO_CAUSE_TEXT_BAR = 143,    /* S: so too */
+    ABO_CAUSE_TEXT_MARKS = 144,  /* P, # or ~: so too */
+
+    ABO_CAUSE_MANY_FILES = 150,      /* 0, most account files */
+    ABO_CAUSE_MANY_FILE_ITEMS = 151, /* 0, most items of an account file */
+    ABO_CAUSE_MANY_ITEMS = 152,      /* S: 0, most items of a file */
+
+    ABO_CAUSE_WARNED_TOTAL = 1010,   /* warning: the sum of the items in haler, twice */
+    ABO_CAUSE_WARNED_PAST = 1011,    /* warning: today, 0 */
+    ABO_CAUSE_WARNED_PART = 1012,    /* warning: 0, the bytes that are kept */
+    ABO_CAUSE_WARNED_NAME = 1013,    /* warning: 0, the bytes that are kept */
+    ABO_CAUSE_WARNED_PRIORITY = 1014 /* warning: the digit, the priority that it is read as */
+};
+
+struct abo_finding {
+    uint64_t number; /* of a refusal: 3 to 15; 0 is a warning */
+    uint64_t cause;  /* enum abo_cause */
+    uint64_t line;   /* from 1, as in refusals */
+    uint64_t byte;   /* its place in the file, from 0 */
+    uint64_t length; /* how many bytes were found there; 0 where nothing is */
+    uint64_t field;  /* enum abo_found_field */
+    uint64_t least, most; /* what was allowed, by the cause */
+};
+
+struct abo_list {
+    uint64_t number;  /* 0, 1, 2 or 16 */
+    uint64_t refused; /* 1 if the file is refused on the sheet asked for */
+    uint64_t count;   /* findings filled, else 0 */
+    uint64_t needed;  /* with 16: findings (not bytes) needed, else 0 */
+    uint64_t sheets;  /* bit n - 1: sheet n accepts the file that day; 0 with 1, 2 and 16 */
+};
+
+/* Lists what is found in a file: of a refused one the one finding that it is refused for, of an accepted one every warning, in the
+   order of their places.  A refused file is no refusal of this call.  `out_len` counts bytes, of which only whole findings are used. */
+struct abo_list abo_findings(const uint8_t *file, size_t len, uint64_t sheet,
+                             uint64_t today, uint8_t *out, size_t out_len);
+
+/* abo_findings into an array of findings, counted in findings. */
+static inline struct abo_list abo_findings_of(const uint8_t *file, size_t len,
+                                              uint64_t sheet, uint64_t today,
+                                              struct abo_finding *out,
+                                              size_t count)
+{
+    return abo_findings(file, len, sheet, today, (uint8_t *)out,
+                        count * sizeof *out);
+}
+
 /* ---- Explaining ---- */
 
 struct abo_text {
-    uint64_t number; /* 0 or 16, whatever the file */
-    uint64_t bytes;  /* with 0: bytes written; with 16: bytes needed */
+    uint64_t number; /* 0, 1, 2 or 16 */
+    uint64_t bytes;  /* with 0: bytes written; with 16: bytes needed; else 0 */
 };
 
-/* Says in a line of text, ended by LF and not by a zero byte, what reading the file would answer, given room enough:
-   `accepted rows R warnings W` or `refused N line L byte B`. */
+/* The same list in English, for a log: printable ASCII in lines that LF ends, and no zero byte.  First how the sheet answers,
+   `Refused on sheet K.` or `Accepted on sheet K, rows R, warnings W.`; then a sentence for each finding, with its line, byte and field,
+   the rule, the bytes found and what was allowed; then a line for each sheet, whether it accepts the file that day. */
 struct abo_text abo_explain(const uint8_t *file, size_t len, uint64_t sheet,
                             uint64_t today, uint8_t *out, size_t out_len);
 
@@ -459,9 +594,19 @@ ABO_HOLDS(movement_change, offsetof(struct abo_statement_movement, change) == 12
 ABO_HOLDS(movement_kind, offsetof(struct abo_statement_movement, kind) == 124);
 ABO_HOLDS(movement_due_day, offsetof(struct abo_statement_movement, due_day) == 128);
 ABO_HOLDS(movement_unused, offsetof(struct abo_statement_movement, unused) == 134);
+ABO_HOLDS(finding, sizeof(struct abo_finding) == ABO_FINDING_BYTES);
+ABO_HOLDS(finding_number, ABO_AT(abo_finding, number, 0));
+ABO_HOLDS(finding_cause, ABO_AT(abo_finding, cause, 1));
+ABO_HOLDS(finding_line, ABO_AT(abo_finding, line, 2));
+ABO_HOLDS(finding_byte, ABO_AT(abo_finding, byte, 3));
+ABO_HOLDS(finding_length, ABO_AT(abo_finding, length, 4));
+ABO_HOLDS(finding_field, ABO_AT(abo_finding, field, 5));
+ABO_HOLDS(finding_least, ABO_AT(abo_finding, least, 6));
+ABO_HOLDS(finding_most, ABO_AT(abo_finding, most, 7));
 ABO_HOLDS(header, sizeof(struct abo_header) == 56 && offsetof(struct abo_header, name) == 32);
 ABO_HOLDS(answer, sizeof(struct abo_answer) == 104 && offsetof(struct abo_answer, header) == 48);
 ABO_HOLDS(written, sizeof(struct abo_written) == 32);
+ABO_HOLDS(list, sizeof(struct abo_list) == 40 && offsetof(struct abo_list, sheets) == 32);
 ABO_HOLDS(text, sizeof(struct abo_text) == 16);
 ABO_HOLDS(found, sizeof(struct abo_found) == 24);
 ABO_HOLDS(statement_answer, sizeof(struct abo_statement_answer) == 40);

@@ -1,6 +1,7 @@
 /*
  * Words for people, over <abo.h>: what each number that the library returns means, what each field of a row or record is called and
- * what it may hold, and which bank each sheet is.  Optional: compile abo_say.c, which lies beside this file, into the program that wants it.
+ * what it may hold, and which bank each sheet is.  In English; what ends in _in also in Czech.  abo_tell.h has sentences.  Optional:
+ * compile abo_say.c, which lies beside this file, into the program that wants it.
  *
  * Every text is UTF-8, lasts as long as the program, and is a clause that begins with a small letter and has no full stop, so that
  * it goes into a sentence: "refused at line 4: this is no valid account number."
@@ -15,6 +16,12 @@
 #ifdef __cplusplus
 extern "C" {
 #endif
+
+/* Any other number than these stands for English. */
+enum abo_language {
+    ABO_ENGLISH = 0,
+    ABO_CZECH = 1
+};
 
 /* What a number of any call says, as "the payee's bank is 0000". */
 const char *abo_say_number(uint64_t number);
@@ -42,6 +49,18 @@ const char *abo_say_carried(uint64_t sheet, uint64_t row, uint64_t field);
 /* What an account file of a kind holds, in the plural: "payments" (1501), "collections" (1502), "priority payments" (1503),
    "instant payments" (1504); any other "items". */
 const char *abo_say_items(uint64_t kind);
+
+/* The same words in a language: each has its text in every language, or NULL in all.  Of an account file's items the word goes by
+   their count: "payment" for 1, "payments" for others; "platba", "platby", "plateb". */
+const char *abo_say_number_in(uint64_t language, uint64_t number);
+const char *abo_say_row_in(uint64_t language, uint64_t row);
+const char *abo_say_field_in(uint64_t language, uint64_t row, uint64_t field);
+const char *abo_say_allowed_in(uint64_t language, uint64_t row, uint64_t field);
+const char *abo_say_carried_in(uint64_t language, uint64_t sheet, uint64_t row, uint64_t field);
+const char *abo_say_items_in(uint64_t language, uint64_t kind, uint64_t count);
+
+/* A sheet's bank, as "ČSOB, previous edition"; NULL if there is no such sheet. */
+const char *abo_say_bank_in(uint64_t language, uint64_t sheet);
 
 /* What stands in a record of a statement: the place of its first byte in the record and how many bytes it has, what it is called, and
    what may stand there.  `row` is an enum abo_statement_row_kind and `place` what abo_statement_read gives as the byte, less the
