@@ -10,7 +10,9 @@
 #include <abo.h>
 #include "abo/arguments.h"
 #include "abo/help.h"
+#include "abo/json.h"
 #include "abo/rewriting.h"
+#include "abo/sheets_table.h"
 #include "abo/statement_command.h"
 #include "abo/table.h"
 #include "common/input.h"
@@ -49,9 +51,14 @@ static bool many(const struct job *j)
     return j->ask->count > 1;
 }
 
+static const char *name_of(const struct job *j)
+{
+    return many(j) ? j->name : NULL;
+}
+
 static enum status refused(const struct job *j, FILE *to)
 {
-    print_refusal(to, many(j) ? j->name : NULL, &j->file, j->ask->sheet, j->ask->today, &j->answer);
+    print_refusal(to, j->ask->language, name_of(j), &j->file, j->ask->sheet, j->ask->today, &j->answer);
     return REFUSED;
 }
 
@@ -64,24 +71,81 @@ static void begin_line(const struct job *j)
     fputs(": ", stdout);
 }
 
+/* What is accepted may not be good enough. */
+static enum status strictly(const struct job *j)
+{
+    return j->ask->strict && j->answer.warnings > 0 ? REFUSED : ACCEPTED;
+}
+
 static enum status print_accepted(const struct job *j)
 {
     begin_line(j);
-    fputs("accepted, ", stdout);
-    print_payments(stdout, j->rows, (size_t)j->answer.rows);
+    fputs(j->ask->language == ABO_CZECH ? "přijato, " : "accepted, ", stdout);
+    print_payments(stdout, j->ask->language, j->rows, (size_t)j->answer.rows);
     fputs(", ", stdout);
-    print_count(stdout, j->answer.warnings, "warning");
+    print_warnings(stdout, j->ask->language, j->answer.warnings);
     fputc('\n', stdout);
-    return j->ask->strict && j->answer.warnings > 0 ? REFUSED : ACCEPTED;
+    return strictly(j);
+}
+
+/* Lists what is found: one refusal, or as many warnings as reading counted. */
+static bool list_findings(struct job *j)
+{
+    uint64_t count = j->answer.number != ABO_ACCEPTED ? 1 : j->answer.warnings;
+    bool fits = count < SIZE_MAX / sizeof *j->findings;
+    j->findings = fits ? malloc((size_t)(count + 1) * sizeof *j->findings) : NULL; /* never room of no bytes */
+    if (j->findings == NULL)
+        return false;
+    j->list = abo_findings_of(j->file.bytes, j->file.len, j->ask->sheet, j->ask->today, j->findings, (size_t)count);
+    return j->list.number == ABO_ACCEPTED;
+}
+
+static enum status no_list(void)
+{
+    return trouble("There is not enough memory for what is found in the file.");
+}
+
+static enum status check_accepted(struct job *j)
+{
+    uint64_t language = j->ask->language;
+    if (j->answer.warnings > 0 && !list_findings(j))
+        return no_list();
+    enum status status = print_accepted(j);
+    for (uint64_t i = 0; i < j->list.count; i++)
+        print_warning(stdout, language, name_of(j), &j->file, j->ask->sheet, j->ask->today, &j->findings[i]);
+    note_utf8(stdout, language, utf8_texts(j->rows, (size_t)j->answer.rows, j->file.bytes) +
+                                    looks_like_utf8(j->answer.header.name, ABO_NAME_BYTES));
+    return status;
+}
+
+static enum status check_for_programs(struct job *j)
+{
+    if (!list_findings(j))
+        return no_list();
+    print_json(stdout, j);
+    return j->list.refused != 0 ? REFUSED : strictly(j);
+}
+
+/* Without a sheet there is the table alone, and no answer of one sheet. */
+static enum status check_by_all(const struct job *j)
+{
+    if (many(j)) {
+        put_name(stdout, j->name);
+        fputs(":\n", stdout);
+    }
+    print_sheets_table(stdout, j);
+    return by_any_sheet(j);
 }
 
 static enum status check(struct job *j)
 {
-    if (j->answer.number != ABO_ACCEPTED)
-        return refused(j, stdout);
-    enum status status = print_accepted(j);
-    note_utf8(stdout, utf8_texts(j->rows, (size_t)j->answer.rows, j->file.bytes) +
-                          looks_like_utf8(j->answer.header.name, ABO_NAME_BYTES));
+    if (j->ask->json)
+        return check_for_programs(j);
+    if (j->ask->sheet == 0)
+        return check_by_all(j);
+    enum status status = j->answer.number == ABO_ACCEPTED ? check_accepted(j) : refused(j, stdout);
+    if (j->ask->all_sheets && status != TROUBLE)
+        print_sheets_table(stdout, j);
     return status;
 }
 
@@ -93,16 +157,23 @@ static enum status show(struct job *j)
     return print_accepted(j);
 }
 
+static struct abo_text explain_into(const struct job *j, uint8_t *out, size_t len)
+{
+    return abo_explain(j->file.bytes, j->file.len, j->ask->sheet, j->ask->today, out, len);
+}
+
+/* A text has a sentence for each warning, so its length is asked for. */
 static enum status explain(struct job *j)
 {
-    uint8_t line[ABO_EXPLAIN_BYTES];
-    struct abo_text t = abo_explain(j->file.bytes, j->file.len, j->ask->sheet, j->ask->today, line, sizeof line);
-    if (t.number != ABO_ACCEPTED)
-        return trouble("The library's line is longer than its header says.");
+    struct abo_text t = explain_into(j, NULL, 0);
+    uint8_t *text = t.bytes <= SIZE_MAX ? malloc((size_t)t.bytes) : NULL;
+    if (text == NULL)
+        return trouble("There is not enough memory for the explanation.");
+    t = explain_into(j, text, (size_t)t.bytes);
     begin_line(j);
-    fwrite(line, 1, (size_t)t.bytes, stdout);
-    bool accepted = j->answer.number == ABO_ACCEPTED && !(j->ask->strict && j->answer.warnings > 0);
-    return accepted ? ACCEPTED : REFUSED;
+    fwrite(text, 1, (size_t)t.bytes, stdout);
+    free(text);
+    return j->answer.number == ABO_ACCEPTED ? strictly(j) : REFUSED;
 }
 
 static enum status rewrite(struct job *j)
@@ -120,6 +191,10 @@ static const struct command {
 static bool fits(const struct command *c, const struct arguments *a)
 {
     bool rewrites = c->run == rewrite;
+    if (c->run != check && (a->all_sheets || a->json))
+        return misused("Only check takes ", a->all_sheets ? "--all-sheets" : "--json", ".");
+    if (a->all_sheets && a->json)
+        return misused("With --json every sheet is told anyway, so it does not go with ", "--all-sheets", ".");
     if (a->check || a->csv)
         return misused("Only statement takes ", a->check ? "--check" : "--csv", ".");
     if (!rewrites && (a->out != NULL || a->accept_warnings))
@@ -137,19 +212,21 @@ static bool complete(const struct arguments *a)
 {
     if (a->count == 0)
         return misused("No file was ", "named", ".");
-    if (a->sheet == 0 || a->today == 0)
-        return misused("The option ", a->sheet == 0 ? "--sheet" : "--day", " is missing.");
-    if (abo_read(NULL, 0, a->sheet, a->today, NULL, 0).number == ABO_BAD_TODAY)
+    bool no_sheet = a->sheet == 0 && !a->all_sheets;
+    if (no_sheet || a->today == 0)
+        return misused("The option ", no_sheet ? "--sheet" : "--day", " is missing.");
+    if (abo_read(NULL, 0, ABO_SHEET_K, a->today, NULL, 0).number == ABO_BAD_TODAY)
         return misused("The day ", a->day_word, " is no real day of 2000 to 2099.");
     return true;
 }
 
 static enum status run_on(const struct command *c, const struct arguments *a, const char *name)
 {
-    struct job j = {a, name, {NULL, 0}, {0}, NULL};
+    struct job j = {.ask = a, .name = name};
     enum status status = TROUBLE;
     if (read_whole(&j.file, "abo", name))
         status = judge(&j) ? c->run(&j) : trouble("There is not enough memory for the file's rows.");
+    free(j.findings);
     free(j.rows);
     free(j.file.bytes);
     return status;

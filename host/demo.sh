@@ -1,11 +1,12 @@
 #!/bin/sh
-# The order book at work, as README shows it: a ledger becomes the file for a bank, is read back and shown; two refusals, with the place
-# marked; and the tool on the same file. Each command is printed before what it says. `make demo` builds what it needs.
+# The order book at work, as README shows it: a ledger becomes the file for a bank, is read back and shown; refusals, with the place
+# marked, in English and Czech; and the tool on the same file. Each command is printed before what it says. `make demo` builds what it needs.
 #
 #   host/demo.sh
 set -u
 cd "$(dirname "$0")/.." || exit 2
 . host/target.sh
+unset LC_ALL LC_MESSAGES LANG # README shows what is said where no language is asked for
 out=$(mktemp -d) || exit 2
 trap 'rm -rf "$out"' EXIT
 
@@ -25,4 +26,6 @@ tr -d '\r' <"$out/pond.kpc"
 shows 0 abo check "$out/pond.kpc" --sheet K --day 2026-11-15
 shows 1 abo check "$out/pond.kpc" --sheet S --day 2026-11-15
 shows 1 abo check host/ledger/bad_total.kpc --sheet K --day 2026-11-15
+shows 1 abo check host/ledger/bad_total.kpc --sheet K --day 2026-11-15 --lang cs
+shows 0 abo check host/ledger/bad_total.kpc --day 2026-11-15 --all-sheets
 shows 1 orderbook host/ledger/bad_account.txt --sheet K --day 2026-11-15 -o wages.kpc

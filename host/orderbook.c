@@ -44,11 +44,11 @@ static void show_accepted(FILE *out, const struct abo_answer *a,
 {
     show_table(out, rows, (size_t)a->rows, file);
     fputs("The bank accepts it: ", out);
-    print_payments(out, rows, (size_t)a->rows);
+    print_payments(out, ABO_ENGLISH, rows, (size_t)a->rows);
     fputs(", ", out);
-    print_count(out, a->warnings, "warning");
+    print_warnings(out, ABO_ENGLISH, a->warnings);
     fputs(".\n", out);
-    note_utf8(out, utf8_texts(rows, (size_t)a->rows, file));
+    note_utf8(out, ABO_ENGLISH, utf8_texts(rows, (size_t)a->rows, file));
 }
 
 /* Which of the payments have left, by the statement that was named. */
@@ -92,7 +92,8 @@ static enum status read_file(const struct arguments *a, const char *name,
     }
     enum status status = answer.number == ABO_ACCEPTED ? DONE : REFUSED;
     if (status != DONE)
-        print_refusal(stderr, name, file, a->sheet, a->day, &answer);
+        print_refusal(stderr, ABO_ENGLISH, name, file, a->sheet, a->day,
+                      &answer);
     else if (a->paid != NULL)
         status = show_left(a, out, rows, (size_t)answer.rows);
     else
@@ -134,7 +135,7 @@ static enum status hand_over(const struct arguments *a, const struct ledger *l,
     /* who keeps the table for later sees this at once */
     if (warnings > 0 && out != stderr) {
         fputs("orderbook: the bank accepts it with ", stderr);
-        print_count(stderr, warnings, "warning");
+        print_warnings(stderr, ABO_ENGLISH, warnings);
         fputs(".\n", stderr);
     }
     return DONE;

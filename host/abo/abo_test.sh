@@ -70,7 +70,7 @@ same_answer() { # WHAT SHEET YYYYMMDD: all commands on the file, against the sec
     [ "$due" -eq 0 ] && said=$work/accepted || said=$work/line
     sed "$plainly" "$work/check.out" | head -n 1 >"$work/check.line"
     check "$1: check says what it should" cmp "$work/check.line" "$said"
-    check "$1: explain says what it should" cmp "$work/explain.out" "$work/line"
+    check "$1: explain says what it should" cmp "$work/explain.out" "$work/text"
     check "$1: rewrite writes what it should" cmp "$work/rewrite.out" "$work/canonical"
     grep -E '^    .*[0-9]\.[0-9]' "$work/show.out" | dotted | tr -s ' ' >"$work/show.items"
     tr -s ' ' <"$work/items" >"$work/items.squeezed"
@@ -81,6 +81,7 @@ same_answer() { # WHAT SHEET YYYYMMDD: all commands on the file, against the sec
 same_acceptance() { # WHAT SHEET: show ends as check does, and warnings count where they are asked to
     check "$1: show ends with what check says" same_end
     warnings=$(sed 's/.* //' "$work/line")
+    check "$1: check tells each warning" [ "$(grep -ac '^warning at line ' "$work/check.out")" -eq "$warnings" ]
     [ "$warnings" -eq 0 ] && strictly=0 || strictly=1
     tell rewrite "$file" --sheet "$2" --day "$day"
     check "$1: rewrite without --accept-warnings: the status is $strictly" [ "$status" -eq "$strictly" ]
@@ -128,7 +129,7 @@ run_of() { # NAME.in: the rewriting program and the tool agree, where the tool's
     fi
     same_answer "$name" "$(number_of "$letter")" "$today"
     if [ "$due" -eq 2 ] || grep -aq '^refused 16 ' "${1%.in}.out"; then return; fi
-    [ "$due" -eq 0 ] && said=$work/rewrite.out || said=$work/explain.out
+    [ "$due" -eq 0 ] && said=$work/rewrite.out || said=$work/line
     check "$name: what the rewriting program says" cmp "$said" "${1%.in}.out"
     tell check "$file" --sheet "$letter" --day "$today"
     check "$name: a letter is as good as a number" cmp "$work/out" "$work/check.out"
@@ -172,93 +173,95 @@ says() { # SHEET LINE-OF-FILE .. EXPECTED: the file, behind a first line, is ref
 }
 
 k='1 1501 001001 8100' c='1 1501 000000 0300' g='2 19 1 010118' i='19 1 0 03000558'
-says C "$c" 'refused at line 3, column 1, byte 24: the file ends too early (3).\n  (the file ends here)\n  ^'
-says C "$g" "refused at line 2, column 1, byte 5: another kind of line is due here, or the end of the file (3).\n  $g\n  ^"
+says C "$c" 'refused at line 3, column 1, byte 24: the line: an account file must begin with a group; found the end of the file; allowed: a group, 2 (3).\n  (the file ends here)\n  ^'
+says C "$g" "refused at line 2, column 1, byte 5: the line: an account file must follow the first line; found \"$g\"; allowed: an account file, 1 (3).\n  $g\n  ^"
 says C "$c" "$g" '19 1 x 03000558' \
-    'refused at line 4, column 6, byte 43: the bytes or the length of this field are wrong, or a divider is (4).\n  19 1 x 03000558\n       ^'
+    'refused at line 4, column 6, byte 43: the variable symbol: it is not spelled as it must be; found "x"; allowed: 1 to 10 digits (4).\n  19 1 x 03000558\n       ^'
 says C "$c" "$g" '19 1' \
-    'refused at line 4, column 5, byte 42: the line ends too early, or a divider is missing (4).\n  19 1\n      ^'
+    'refused at line 4, column 5, byte 42: the variable symbol: it is missing, and so is the space before it; found nothing; allowed: a space and the variable symbol behind it (4).\n  19 1\n      ^'
 says C "$c" "$g" '18 1 0 03000558' \
-    'refused at line 4, column 1, byte 38: this is no valid account number (5).\n  18 1 0 03000558\n  ^'
+    'refused at line 4, column 1, byte 38: the payee'"'"'s account: the base breaks the rule of weighted digits; found "18"; allowed: a base whose weighted digits add up to a multiple of 11 (5).\n  18 1 0 03000558\n  ^'
 says C "$c" "$g" '19 0 0 03000558' \
-    "refused at line 4, column 4, byte 41: the amount is zero or over the sheet's limit (6).\n  19 0 0 03000558\n     ^"
+    'refused at line 4, column 4, byte 41: the amount: it is zero; found "0"; allowed: 0.01 to 999999999999.99 crowns (6).\n  19 0 0 03000558\n     ^'
 says K '1 1502 001001 8100' \
-    'refused at line 2, column 3, byte 61: this kind of account file is not on the sheet (7).\n  1 1502 001001 8100\n    ^'
+    'refused at line 2, column 3, byte 61: the account file'"'"'s kind: this kind is not on the sheet; found "1502"; allowed: 1501 (7).\n  1 1502 001001 8100\n    ^'
 says K '1 1501 001001 0800' \
-    "refused at line 2, column 15, byte 73: the payer's bank is not the sheet's (8).\n  1 1501 001001 0800\n                ^
+    "refused at line 2, column 15, byte 73: the payer's bank: this bank is not the sheet's; found \"0800\"; allowed: 8100 (8).\n  1 1501 001001 0800\n                ^
 note: the file names bank 0800, Česká spořitelna, whose sheet is S; it was judged by sheet K, Komerční banka."
 says K '1 1501 000001 8100' \
-    "refused at line 2, column 8, byte 66: the number's first three digits are outside the interval or were used before (9).\n  1 1501 000001 8100\n         ^"
+    "refused at line 2, column 8, byte 66: the account file's number: its first three digits are outside the interval; found \"000001\"; allowed: first three digits 001 to 999 (9).\n  1 1501 000001 8100\n         ^"
 interval=002001
 says K "$k" \
-    "refused at line 1, column 44, byte 43: the interval's start is above its end (9).\n  UHL1010118Firma               1234567890002001000000000000\n$(printf '%45s' '')^"
+    "refused at line 1, column 44, byte 43: the interval's end: it is below the interval's start; found \"001\"; allowed: 002 to 999 (9).\n  UHL1010118Firma               1234567890002001000000000000\n$(printf '%45s' '')^"
 interval=
 says K "$k" '2 19 2 010118' "$i" '3 +' \
-    "refused at line 3, column 6, byte 83: the group's total is not the sum of its items (10).\n  2 19 2 010118\n       ^"
+    "refused at line 3, column 6, byte 83: the group's total: it is not the sum of the items; found \"2\"; allowed: the sum of the items, 1, which is 0.01 crowns (10).\n  2 19 2 010118\n       ^"
 much='19 99999999999999 0 03000558'
 says C "$c" "$g" "$much" "$i" '3 +' \
-    "refused at line 3, column 6, byte 29: the sum of the group's items has more than 14 digits (10).\n  $g\n       ^"
+    "refused at line 3, column 6, byte 29: the group's total: the sum of the items has too many digits; found \"1\"; allowed: items of at most 999999999999.99 crowns together (10).\n  $g\n       ^"
 says K "$k" '2 19 1 300218' \
-    'refused at line 3, column 8, byte 85: the day is not real, or not among the days that the sheet takes (11).\n  2 19 1 300218\n         ^'
+    'refused at line 3, column 8, byte 85: the due date: there is no such day; found "300218"; allowed: a real day of 2000 to 2099 (11).\n  2 19 1 300218\n         ^'
 # a collection's day is told at its item's bank, and the group's line in a note
 d='1 1502 000000 0300'
-from_own='a collection from bank 0300 may be due from today to one month ahead, and its group is not (11).'
-from_other='a collection from another bank than 0300 may be due from tomorrow to one month ahead, and its group is not (11).'
-says C "$d" "$g" '19 1 0 08000558' "refused at line 4, column 8, byte 45: $from_other\n  19 1 0 08000558\n         ^
+early="the bank field: the group's day is too early for a collection from this bank; found"
+late="the bank field: the group's day is too late for a collection; found"
+says C "$d" "$g" '19 1 0 08000558' "refused at line 4, column 8, byte 45: $early \"08000558\"; allowed: a group's day after 2018-01-01 (11).\n  19 1 0 08000558\n         ^
 note: its group is due 2018-01-01, by line 3; the file was judged on 2018-01-01."
-says P "$d" "$g" "$i" '19 1 0 0008000558 17' "refused at line 5, column 8, byte 115: $from_other\n  19 1 0 0008000558 17\n         ^
+says P "$d" "$g" "$i" '19 1 0 0008000558 17' "refused at line 5, column 8, byte 115: $early \"0008000558\"; allowed: a group's day after 2018-01-01 (11).\n  19 1 0 0008000558 17\n         ^
 note: its group is due 2018-01-01, by line 3; the file was judged on 2018-01-01."
-says C "$d\r\n2 19 1 20180202\r\n$i\r" "refused at line 4, column 8, byte 49: $from_own\n  $i\n         ^
+says C "$d\r\n2 19 1 20180202\r\n$i\r" "refused at line 4, column 8, byte 49: $late \"03000558\"; allowed: a group's day at most one month after 2018-01-01 (11).\n  $i\n         ^
 note: its group is due 2018-02-02, by line 3; the file was judged on 2018-01-01."
 says P "$d" "$g" "$i" '3 +' '2 1 311217' '19 19 1 0 0003000558' \
-    "refused at line 7, column 11, byte 133: $from_own\n  19 19 1 0 0003000558\n            ^
+    "refused at line 7, column 11, byte 133: $early \"0003000558\"; allowed: a group's day not before 2018-01-01 (11).\n  19 19 1 0 0003000558\n            ^
 note: its group is due 2017-12-31, by line 6; the file was judged on 2018-01-01."
 says C "$d" '2 19 1 290218' \
-    'refused at line 3, column 8, byte 31: the day is not real, or not among the days that the sheet takes (11).\n  2 19 1 290218\n         ^'
+    'refused at line 3, column 8, byte 31: the due date: there is no such day; found "290218"; allowed: a real day of 2000 to 2099 (11).\n  2 19 1 290218\n         ^'
 says C "$d" '2 19 1 010119' '19 1 0 00000558' \
-    "refused at line 4, column 8, byte 45: the payee's bank is 0000 (12).\n  19 1 0 00000558\n         ^"
+    "refused at line 4, column 8, byte 45: the bank field: the payee's bank is 0000; found \"00000558\"; allowed: 0001 to 9999 (12).\n  19 1 0 00000558\n         ^"
 says C "$c" "$g" '19 1 0 00000558' \
-    "refused at line 4, column 8, byte 45: the payee's bank is 0000 (12).\n  19 1 0 00000558\n         ^"
+    "refused at line 4, column 8, byte 45: the bank field: the payee's bank is 0000; found \"00000558\"; allowed: 0001 to 9999 (12).\n  19 1 0 00000558\n         ^"
 says C "$c" "$g" '19 1 0 103000558' \
-    'refused at line 4, column 8, byte 45: the ninth or tenth digit from the right is not allowed (13).\n  19 1 0 103000558\n         ^'
+    'refused at line 4, column 8, byte 45: the bank field: the ninth digit from the right is not allowed; found "103000558"; allowed: 0 as the ninth digit from the right (13).\n  19 1 0 103000558\n         ^'
 says C "$c" "$g" "$i 0 a|b|c|d|e" \
-    "refused at line 4, column 19, byte 56: the text breaks the sheet's rules on its start, its parts, their length or their bytes (14).\n  $i 0 a|b|c|d|e\n                    ^"
+    "refused at line 4, column 19, byte 56: the text: it has too many parts; found \"a|b|c|d|e\"; allowed: at most 4 parts (14).\n  $i 0 a|b|c|d|e\n                    ^"
 says P "$c" "$g" "$i 0 AV:a|b#" \
-    "refused at line 4, column 19, byte 110: the text holds # or ~, which the sheet does not take (14).\n  $i 0 AV:a|b#\n                    ^"
+    "refused at line 4, column 19, byte 110: the text: it holds # or ~; found \"AV:a|b#\"; allowed: no # and no ~ (14).\n  $i 0 AV:a|b#\n                    ^"
 says P "$c" "$g" "$i 0 AV:~" \
-    "refused at line 4, column 19, byte 110: the text holds # or ~, which the sheet does not take (14).\n  $i 0 AV:~\n                    ^"
+    "refused at line 4, column 19, byte 110: the text: it holds # or ~; found \"AV:~\"; allowed: no # and no ~ (14).\n  $i 0 AV:~\n                    ^"
 says P "$c" "$g" "$i 0 #" \
-    "refused at line 4, column 19, byte 110: the text holds # or ~, which the sheet does not take (14).\n  $i 0 #\n                    ^"
+    "refused at line 4, column 19, byte 110: the text: it does not begin with AV:; found \"#\"; allowed: a text that begins with AV: (14).\n  $i 0 #\n                    ^"
 says P "$c" "$g" "$i 0 AV:a|b|c|d|e" \
-    "refused at line 4, column 19, byte 110: the text breaks the sheet's rules on its start, its parts, their length or their bytes (14).\n  $i 0 AV:a|b|c|d|e\n                    ^"
+    "refused at line 4, column 19, byte 110: the text: it has too many parts; found \"AV:a|b|c|d|e\"; allowed: at most 4 parts (14).\n  $i 0 AV:a|b|c|d|e\n                    ^"
 says P "$c" '2 19 2 010118' "$i" '3 +' \
-    "refused at line 3, column 6, byte 83: the group's total is not the sum of its items (10).\n  2 19 2 010118\n       ^"
+    "refused at line 3, column 6, byte 83: the group's total: it is not the sum of the items; found \"2\"; allowed: the sum of the items, 1, which is 0.01 crowns (10).\n  2 19 2 010118\n       ^"
 says K '1 1501 001001 0300' \
-    "refused at line 2, column 15, byte 73: the payer's bank is not the sheet's (8).\n  1 1501 001001 0300\n                ^
+    "refused at line 2, column 15, byte 73: the payer's bank: this bank is not the sheet's; found \"0300\"; allowed: 8100 (8).\n  1 1501 001001 0300\n                ^
 note: the file names bank 0300, ČSOB, whose sheet is C or P; it was judged by sheet K, Komerční banka."
 says P "$k" \
-    "refused at line 2, column 15, byte 73: the payer's bank is not the sheet's (8).\n  $k\n                ^
+    "refused at line 2, column 15, byte 73: the payer's bank: this bank is not the sheet's; found \"8100\"; allowed: 0300 (8).\n  $k\n                ^
 note: the file names bank 8100, Komerční banka, whose sheet is K; it was judged by sheet P, ČSOB, previous edition."
 
 # ---- what is shown of a line: letters, a mark where there is none, and a piece of a long one ----
 
 says C "$c" "$g" "$i 0 \\0351\\t\\0001\\0177z" \
-    "refused at line 4, column 19, byte 56: the bytes or the length of this field are wrong, or a divider is (4).\n  $i 0 é���z\n                    ^"
+    "refused at line 4, column 19, byte 56: the text: it is not spelled as it must be; found \"\\\\xE9\\\\x09\\\\x01\\\\x7Fz\"; allowed: text bytes, 32 to 255 but 127, one or more, the first no space; or, right behind the bank field, 1 to 10 digits (4).\n  $i 0 é���z\n                    ^"
 long=$(printf '%0100d' 0)
+first60="\"$(printf '%060d' 0)\", the first 60 of"
 says C "$c" "$g" "$long$long" \
-    "refused at line 4, column 1, byte 38: the bytes or the length of this field are wrong, or a divider is (4).\n  $(printf '%072d' 0)..\n  ^"
+    "refused at line 4, column 1, byte 38: the payee's account: it is not spelled as it must be; found $first60 200 bytes; allowed: 1 to 16 digits, or 1 to 6 digits, a dash and 1 to 10 digits (4).\n  $(printf '%072d' 0)..\n  ^"
 says C "$long$long" \
-    "refused at line 2, column 1, byte 5: another kind of line is due here, or the end of the file (3).\n  $(printf '%072d' 0)..\n  ^"
+    "refused at line 2, column 1, byte 5: the line: an account file must follow the first line; found $first60 200 bytes; allowed: an account file, 1 (3).\n  $(printf '%072d' 0)..\n  ^"
 says C "$c\\r$g\\r19 0 0 03000558\\r" \
-    "refused at line 4, column 4, byte 41: the amount is zero or over the sheet's limit (6).\n  19 0 0 03000558\n     ^"
+    'refused at line 4, column 4, byte 41: the amount: it is zero; found "0"; allowed: 0.01 to 999999999999.99 crowns (6).\n  19 0 0 03000558\n     ^'
 far='000019-0000000019 000019-0000000019 00000000000001 0000000000 0003000558 0000000000 a|b|c|d|e'
 says C "$c" '2 1 010118' "$far" \
-    "refused at line 4, column 85, byte 119: the text breaks the sheet's rules on its start, its parts, their length or their bytes (14).
+    "refused at line 4, column 85, byte 119: the text: it has too many parts; found \"a|b|c|d|e\"; allowed: at most 4 parts (14).
   ..$(printf %s "$far" | tail -c 72)\n$(printf '%67s' '')^"
 head_of K | sed "s/000000000000\$/$long/" >"$file"
 tell check "$file" --sheet K --day 2018-01-01
 printf 'refused at line 1, column 47, byte 46: %s (4).\n  ..Firma%15s1234567890001999%036d..\n%40s^\n' \
-    'the bytes or the length of this field are wrong, or a divider is' '' 0 '' >"$work/wanted"
+    "the rest of the first line: it is not spelled as it must be; found $first60 100 bytes; allowed: 0 or 6 or 12 bytes of text" \
+    '' 0 '' >"$work/wanted"
 check 'a long line is cut on both sides' diff "$work/wanted" "$work/out"
 same_answer 'a long first line' 1 20180101
 { printf '%s%s 1 0 03000558 ' "$long" "$long"; head_of C; } >"$file"
@@ -271,11 +274,11 @@ lines() { # COUNT LINE ..: the lines so many times over, `@` in them replaced by
 }
 { head_of S; printf '1 1501 000001 0800\n2 19 1001 010118\n'; lines 1001 '19 1 0 03000558  \n'; printf '3 +\n5 +\n'; } >"$file"
 tell check "$file" --sheet S --day 2018-01-01
-check 'item 1,001 of S' grep -q 'this item is one more than the sheet takes (15)\.$' "$work/out"
+check 'item 1,001 of S' grep -q 'the line: this item is one too many in the file; found "19 1 0 03000558  "; allowed: at most 1000 items in a file (15)\.$' "$work/out"
 same_answer 'item 1,001 of S' 2 20180101
 { head_of C; lines 1001 "1 1501 @ 0300\n$g\n$i\n3 +\n5 +\n"; } >"$file"
 tell check "$file" --sheet C --day 2018-01-01
-check 'account file 1,001' grep -q 'this account file is one more than a file may have (15)\.$' "$work/out"
+check 'account file 1,001' grep -q 'the line: this account file is one too many; found "1 1501 001000 0300"; allowed: at most 1000 account files (15)\.$' "$work/out"
 same_answer 'account file 1,001' 3 20180101
 
 # ---- an empty file, and standard input ----
@@ -284,7 +287,7 @@ same_answer 'account file 1,001' 3 20180101
 for letter in K S C E P; do same_answer "an empty file, $letter" "$(number_of $letter)" 20180101; done
 tell check - --sheet C --day 2018-01-01 </dev/null
 check 'no standard input is an empty file' diff - "$work/out" <<END
-refused at line 1, column 1, byte 0: the file ends too early (3).
+refused at line 1, column 1, byte 0: the line: a file must begin with its first line; found the end of the file; allowed: a first line, UHL1 (3).
   (the file ends here)
   ^
 END
@@ -380,11 +383,13 @@ END
 tell check "$work/named" --sheet C --day 2018-01-01
 check 'one warning is left, of the past day' grep -qx 'accepted, 1 payment, 24500.00 crowns, 1 warning' "$work/out"
 tell check "$work/named" --sheet C --day 2018-01-01 --strict
-check '--strict: one warning is one too many' [ "$status $(cat "$work/out")" = '1 accepted, 1 payment, 24500.00 crowns, 1 warning' ]
+check '--strict: one warning is one too many' [ "$status $(cat "$work/out")" = '1 accepted, 1 payment, 24500.00 crowns, 1 warning
+warning at line 3, column 14, byte 39: the due date: the day is past; found "311217"; today is 2018-01-01.' ]
 tell check "$work/named" --sheet C --day 2017-12-31 --strict
 check '--strict: without warnings the status is 0' [ "$status $(cat "$work/out")" = '0 accepted, 1 payment, 24500.00 crowns, 0 warnings' ]
 tell explain "$work/named" --sheet C --day 2018-01-01 --strict
-check '--strict: explain too' [ "$status $(cat "$work/out")" = '1 accepted rows 3 warnings 1' ]
+check '--strict: explain too' [ "$status $(head -n 2 "$work/out")" = '1 Accepted on sheet C, rows 3, warnings 1.
+Line 3, byte 39, the due date: the day is before 2018-01-01; found "311217".' ]
 { printf 'UHL1 and more\n%s\n' '1 1501 000000 0800'; printf '%s\n' "$g" "$i" '3 +' '5 +'; } >"$file"
 tell rewrite "$file" --sheet C --day 2018-01-01
 check 'what the sheet does not read: the status is 0' [ "$status" -eq 0 ]
@@ -441,7 +446,7 @@ END
 tell show "$file" --sheet K --day 2018-01-01
 check 'and show shows what the bank will see' grep -q '"PĹ™Ă�liĹˇ" "kĹŻĹ�" "plain"$' "$work/out"
 says K "$k" "$g" "$i 0 AV:řřřřřřřřřřřřřřřřřř" \
-    "refused at line 4, column 19, byte 110: the text breaks the sheet's rules on its start, its parts, their length or their bytes (14).
+    "refused at line 4, column 19, byte 110: the text: a part of it is too long; found \"AV:$(printf '\\\\xC5\\\\x99%.0s' $(seq 18))\"; allowed: at most 35 bytes in a part (14).
   $i 0 AV:Ĺ™Ĺ™Ĺ™Ĺ™Ĺ™Ĺ™Ĺ™Ĺ™Ĺ™Ĺ™Ĺ™Ĺ™Ĺ™Ĺ™Ĺ™Ĺ™Ĺ™Ĺ™\n                    ^
 note: 1 text looks like UTF-8; the bank reads Windows-1250 and counts each byte, so letters with marks would come out as two others."
 
@@ -475,7 +480,7 @@ tell check "$file" "$work/b file" "$work/none" --sheet S --day 2018-01-01
 check 'several files: the gravest status' [ "$status" -eq 2 ]
 check 'several files, each with its name' diff - "$work/out" <<END
 $file: accepted, 2 collections, 50.02 crowns, 0 warnings
-$work/b file:1:5: refused at line 1, column 5, byte 4: the line ends too early, or a divider is missing (4).
+$work/b file:1:5: refused at line 1, column 5, byte 4: the creation date: it is not spelled as it must be; found nothing; allowed: six digits, DDMMRR (4).
   UHL1
       ^
 note: the file names bank 0300, ČSOB, whose sheet is C or P; it was judged by sheet S, Česká spořitelna.
@@ -486,8 +491,9 @@ END
 tell check "$file" "$work/b file" --sheet S --day 2018-01-01
 check 'several files, one refused: the status is 1' [ "$status" -eq 1 ]
 tell explain "$file" "$work/b file" --sheet S --day 2018-01-01
-check 'several files explained' [ "$(cut -d : -f 2 "$work/out")" = ' accepted rows 5 warnings 0
- refused 4 line 1 byte 4' ]
+check 'several files explained' [ "$(grep -v '^Sheet ' "$work/out")" = "$file: Accepted on sheet S, rows 5, warnings 0.
+$work/b file: Refused on sheet S.
+Line 1, byte 4, the creation date: the field is not spelled as it must be (4); found nothing; allowed: six digits, DDMMRR." ]
 { printf 'UHL1\n'; for kind in 1501 1502 1502 1504; do printf '1 %s 000000 0300\n%s\n%s\n3 +\n5 +\n' $kind "$g" "$i"; done; } >"$file"
 tell check "$file" --sheet C --day 2018-01-01
 check 'kinds of account files by their names' [ "$(cat "$work/out")" = \
@@ -653,6 +659,17 @@ for day in 2018-02-29 29.2.2018 20180229 2018-13-01 2018-00-01 2018-01-00 1999-1
 done
 wrong "Only rewrite and statement take -o. $how" check "$file" --sheet C --day 2018-01-01 -o "$work/named"
 pond=host/statements/pond.gpc
+wrong "Only check takes --json. $how" show "$file" --sheet C --day 2018-01-01 --json
+wrong "Only check takes --all-sheets. $how" explain "$file" --day 2018-01-01 --all-sheets
+wrong "Only check takes --json. $how" statement "$pond" --json
+wrong "With --json every sheet is told anyway, so it does not go with --all-sheets. $how" \
+    check "$file" --sheet C --day 2018-01-01 --all-sheets --json
+wrong "The option --sheet is missing. $how" check "$file" --day 2018-01-01 --json
+wrong "Statements are told in English alone, so statement does not take --lang. $how" statement "$pond" --lang cs
+wrong "The option --lang lacks its value. $how" check "$file" --sheet C --day 2018-01-01 --lang
+for lang in '' CS cz cs_CZ english; do
+    wrong "The language $lang is none of cs and en. $how" check "$file" --sheet C --day 2018-01-01 --lang "$lang"
+done
 wrong "Only statement takes --csv. $how" show "$file" --sheet C --day 2018-01-01 --csv
 wrong "Only statement takes --check. $how" rewrite "$file" --sheet C --day 2018-01-01 --check
 wrong "No file was named. $how" statement --check
@@ -687,6 +704,14 @@ if [ -c /dev/full ]; then
     done
     wrong '/dev/full could not be written whole: No space left on device.' rewrite "$file" --sheet C --day 2018-01-01 -o /dev/full
 fi
+
+# ---- the page for C programs shows what explain says ----
+
+tell explain host/ledger/bad_total.kpc --sheet K --day 2026-11-15
+awk '/^<!-- explained -->$/ { marked = 1 } marked && open && /^```$/ { exit } open { print } marked && /^```$/ { open = 1 }' docs/C-API.md >"$work/wanted"
+check 'explain, word by word as docs/C-API.md has it' diff "$work/wanted" "$work/out"
+tell check host/ledger/bad_total.kpc --sheet K --day 2026-11-15 --lang cs
+check 'and the sentence in Czech' grep -qF "$(head -n 1 "$work/out" | sed 's/^[^:]*: //')" docs/C-API.md
 
 # ---- help and version ----
 

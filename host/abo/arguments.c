@@ -6,6 +6,7 @@
 
 #include "../common/sheet_and_day.h"
 #include "../common/names.h"
+#include "language.h"
 
 bool misused(const char *before, const char *word, const char *behind)
 {
@@ -40,11 +41,14 @@ static bool take_option(struct arguments *a, char ***at)
     const struct option options[] = {
         {"--sheet", NULL, &a->sheet_word},
         {"--day", NULL, &a->day_word},
+        {"--lang", NULL, &a->lang_word},
         {"-o", NULL, &a->out},
         {"--strict", &a->strict, NULL},
         {"--accept-warnings", &a->accept_warnings, NULL},
         {"--check", &a->check, NULL},
         {"--csv", &a->csv, NULL},
+        {"--all-sheets", &a->all_sheets, NULL},
+        {"--json", &a->json, NULL},
     };
     const char *word = **at;
     for (size_t i = 0; i < sizeof options / sizeof *options; i++) {
@@ -72,6 +76,10 @@ static bool take_words(struct arguments *a)
     char behind[160];
     a->sheet = a->sheet_word != NULL ? sheet_named(a->sheet_word) : 0;
     a->today = a->day_word != NULL ? day_named(a->day_word) : 0;
+    if (a->lang_word == NULL)
+        a->language = language_of_locale();
+    else if (!language_named(&a->language, a->lang_word))
+        return misused("The language ", a->lang_word, " is none of cs and en.");
     if (a->sheet_word != NULL && a->sheet == 0) {
         snprintf(behind, sizeof behind, " is none of %s.", sheets_are);
         return misused("The sheet ", a->sheet_word, behind);

@@ -7,12 +7,13 @@
 #include <stdint.h>
 
 struct arguments {
-    bool help, strict, accept_warnings, check, csv;
+    bool help, strict, accept_warnings, check, csv, all_sheets, json;
     char **files; /* `-` is standard input */
     size_t count;
     const char *out;                    /* NULL: standard output */
-    const char *sheet_word, *day_word;  /* as they were given; NULL: not given */
-    uint64_t sheet, today;              /* YYYYMMDD, of any digits */
+    const char *sheet_word, *day_word, *lang_word; /* as they were given; NULL: not given */
+    uint64_t sheet, today;                         /* YYYYMMDD, of any digits */
+    uint64_t language;                             /* enum abo_language: as given, or by the locale */
 };
 
 /* Takes the arguments behind a command, up to the NULL, and keeps the names of files in their place.  Says on standard error what

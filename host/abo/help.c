@@ -8,9 +8,12 @@
 static const char commands[] =
     "abo " ABO_VERSION ": Czech ABO (.kpc) payment files, judged by a bank's sheet, and statements\n"
     "\n"
-    "  abo check   FILE .. --sheet SHEET --day DAY [--strict]   is each file accepted, and if not, why and where\n"
+    "  abo check   FILE .. --sheet SHEET --day DAY [--strict]   is each file accepted, and if not, which field is wrong and why\n"
+    "  abo check   FILE .. [--sheet SHEET] --day DAY --all-sheets\n"
+    "                                                           and what every sheet makes of it, as a small table\n"
+    "  abo check   FILE .. --sheet SHEET --day DAY --json       the same for programs\n"
     "  abo show    FILE .. --sheet SHEET --day DAY [--strict]   its account files, groups and items as a table\n"
-    "  abo explain FILE .. --sheet SHEET --day DAY [--strict]   the library's answer in one line for programs\n"
+    "  abo explain FILE .. --sheet SHEET --day DAY [--strict]   the library's own text on it, for a log, proved to be true\n"
     "  abo rewrite FILE --sheet SHEET --day DAY [-o OUT] [--accept-warnings]\n"
     "                                                           its one canonical spelling, to standard output or OUT\n"
     "  abo statement FILE .. [--check]                          what a bank sent back (GPC records 074 and 075), as a table\n"
@@ -27,6 +30,9 @@ static const char words[] =
 
 static const char rest[] =
     "\n"
+    "--lang cs, en       the language of what is said of a file: Czech or English; without it by the locale (LC_ALL, LC_MESSAGES, LANG)\n"
+    "--all-sheets        of each sheet, whether it accepts the file that day; --sheet may be left out then\n"
+    "--json              an object of JSON in a line for each file, in ASCII: its findings by number and name, and every sheet\n"
     "--strict            a file with warnings is accepted, but the exit status is 1\n"
     "--accept-warnings   rewrite a file with warnings too: what was cut stays cut, and totals become the sums\n"
     "--check             of a statement, only whether it is accepted, and if not, why and where\n"
@@ -35,8 +41,9 @@ static const char rest[] =
     "A statement is the same for every bank and day. Its table has for each movement what it does to the balance, in crowns, and the\n"
     "balance behind it. A refusal says the record, of 128 bytes and CR LF, in the place of the line.\n"
     "\n"
-    "A refusal says the line and the column, counted from 1, and the byte, counted from 0 at the start of the file, and shows the\n"
-    "line with a caret. Texts are shown by Windows-1250, which banks read; a byte with no letter is shown as \xef\xbf\xbd. check prints a\n"
+    "A refusal says the line and the column, counted from 1, and the byte, counted from 0 at the start of the file; then the field, what is\n"
+    "wrong with it, what was found there and what is allowed; and shows the line with a caret. check says as much of each warning of a\n"
+    "file that is accepted. Texts are shown by Windows-1250, which banks read; a byte with no letter is shown as \xef\xbf\xbd. check prints a\n"
     "refusal to standard output, as --check does, rewrite, show and statement to standard error; with several files each begins NAME:LINE:COLUMN. The number at\n"
     "its end is the library's.\n"
     "\n"
@@ -45,7 +52,7 @@ static const char rest[] =
     "\n"
     "The exit status is 0 if each file is accepted, with warnings or without; 1 if one is refused, has warnings with --strict, or\n"
     "has warnings and is to be rewritten without --accept-warnings; 2 if the command line is wrong or something cannot be read or\n"
-    "written.\n";
+    "written. With --all-sheets and no sheet, a file is accepted if some sheet accepts it.\n";
 
 void print_help(void)
 {

@@ -4,16 +4,21 @@
 #include <stdlib.h>
 #include <string.h>
 
-#include <abo_say.h>
+#include <abo_tell.h>
 #include "../common/names.h"
 #include "../common/output.h"
 #include "../common/sums.h"
+
+static bool in_czech(const struct job *j)
+{
+    return j->ask->language == ABO_CZECH;
+}
 
 static void begin_sentence(const struct job *j)
 {
     fputs("abo: ", stderr);
     if (strcmp(j->name, "-") == 0)
-        fputs("standard input", stderr);
+        fputs(in_czech(j) ? "standardní vstup" : "standard input", stderr);
     else
         put_name(stderr, j->name);
 }
@@ -22,10 +27,12 @@ static void begin_sentence(const struct job *j)
 static enum status refuse_warnings(const struct job *j)
 {
     begin_sentence(j);
-    fputs(" is accepted with ", stderr);
-    print_count(stderr, j->answer.warnings, "warning");
-    fputs(", so its rewriting would not be the same file: texts that are too long would be cut, and totals become the sums. Nothing "
-          "was written. --accept-warnings writes it all the same.\n",
+    fputs(in_czech(j) ? " je přijat, má ale " : " is accepted with ", stderr);
+    print_warnings(stderr, j->ask->language, j->answer.warnings);
+    fputs(in_czech(j) ? ", takže by přepsaný soubor nebyl tentýž: příliš dlouhé texty by se zkrátily a uvedené součty by nahradily "
+                        "součty položek. Nic nebylo zapsáno. S --accept-warnings se zapíše i tak.\n"
+                      : ", so its rewriting would not be the same file: texts that are too long would be cut, and totals become the sums. "
+                        "Nothing was written. --accept-warnings writes it all the same.\n",
           stderr);
     return REFUSED;
 }
@@ -35,9 +42,9 @@ static void tell_warnings(const struct job *j)
     if (j->answer.warnings == 0)
         return;
     begin_sentence(j);
-    fputs(" was accepted with ", stderr);
-    print_count(stderr, j->answer.warnings, "warning");
-    fputs("; what is written is what the bank makes of it.\n", stderr);
+    fputs(in_czech(j) ? " byl přijat a má " : " was accepted with ", stderr);
+    print_warnings(stderr, j->ask->language, j->answer.warnings);
+    fputs(in_czech(j) ? "; zapsáno je to, co z něj udělá banka.\n" : "; what is written is what the bank makes of it.\n", stderr);
 }
 
 /* Is there anything in the first line behind what the sheet reads of it?  The zeros there are what is written, too. */
@@ -74,9 +81,14 @@ static bool other_bank(const struct job *j)
 static void tell_not_kept(const struct job *j)
 {
     if (more_in_first_line(j))
-        fputs("abo: note: of the first line, what the sheet does not read is not kept.\n", stderr);
+        fputs(in_czech(j) ? "abo: poznámka: z prvního řádku se nezachová to, co list nečte.\n"
+                          : "abo: note: of the first line, what the sheet does not read is not kept.\n",
+              stderr);
     if (other_bank(j))
-        fprintf(stderr, "abo: note: the account files' bank becomes the sheet's, %s.\n", abo_say_sheet(j->ask->sheet)->code);
+        fprintf(stderr,
+                in_czech(j) ? "abo: poznámka: bankou účetních souborů se stane banka listu, %s.\n"
+                            : "abo: note: the account files' bank becomes the sheet's, %s.\n",
+                abo_say_sheet(j->ask->sheet)->code);
 }
 
 static struct abo_written write_into(const struct job *j, uint8_t *out, size_t len)
@@ -91,21 +103,31 @@ static enum status trouble(const char *sentence)
     return TROUBLE;
 }
 
-/* What was read can be written on the same sheet and day, so the first call gives 16, the second 0. */
+/* What was read can be written on the same sheet and day; if it cannot, the row and the field say why. */
+static enum status not_written(const struct job *j, const struct abo_written *w)
+{
+    char sentence[ABO_TELL_BYTES];
+    uint64_t kind = w->row > 0 && w->row <= j->answer.rows ? j->rows[w->row - 1].word[ABO_FIELD_ROW] : 0;
+    abo_tell_written(j->ask->language, w, kind, j->ask->sheet, sentence, sizeof sentence);
+    trouble("The library does not write what it has read.");
+    return trouble(sentence);
+}
+
+/* The first call gives 16, the second 0. */
 enum status rewrite_accepted(const struct job *j)
 {
     if (j->answer.warnings > 0 && !j->ask->accept_warnings)
         return refuse_warnings(j);
     struct abo_written w = write_into(j, NULL, 0);
-    if (w.number != ABO_NO_ROOM || w.bytes > SIZE_MAX)
-        return trouble("The library does not write what it has read.");
-    uint8_t *out = malloc((size_t)w.bytes);
+    if (w.number != ABO_NO_ROOM)
+        return not_written(j, &w);
+    uint8_t *out = w.bytes <= SIZE_MAX ? malloc((size_t)w.bytes) : NULL;
     if (out == NULL)
         return trouble("There is not enough memory for the canonical file.");
     w = write_into(j, out, (size_t)w.bytes);
     enum status status = TROUBLE;
     if (w.number != ABO_ACCEPTED)
-        trouble("The library does not write what it has read.");
+        status = not_written(j, &w);
     else if (write_whole("abo", j->ask->out, out, (size_t)w.bytes)) {
         status = ACCEPTED;
         tell_warnings(j);

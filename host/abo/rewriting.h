@@ -16,6 +16,8 @@ struct job {
     struct input file;
     struct abo_answer answer;
     union abo_row *rows;
+    struct abo_list list;         /* of what was found, where it was asked for */
+    struct abo_finding *findings; /* as many as the list counts */
 };
 
 /* Writes the canonical spelling of a file that was accepted, without warnings or with --accept-warnings, and says on standard error

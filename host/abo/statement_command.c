@@ -17,6 +17,10 @@ static bool fits(const struct arguments *a)
         return misused("No file was ", "named", ".");
     if (no_sheet != NULL)
         return misused("A statement is the same for every bank and day, so statement does not take ", no_sheet, ".");
+    if (a->all_sheets || a->json)
+        return misused("Only check takes ", a->all_sheets ? "--all-sheets" : "--json", ".");
+    if (a->lang_word != NULL)
+        return misused("Statements are told in English alone, so statement does not take ", "--lang", ".");
     if (no_warning != NULL)
         return misused("A statement has no warnings, so statement does not take ", no_warning, ".");
     if (a->check && (a->csv || a->out != NULL))

@@ -3,7 +3,7 @@
 #include <inttypes.h>
 #include <string.h>
 
-#include <abo_say.h>
+#include <abo_tell.h>
 #include "letters.h"
 #include "names.h"
 #include "place.h"
@@ -33,60 +33,9 @@ static bool ends_early(const struct input *file, const struct abo_answer *a)
     return a->number == ABO_BAD_ORDER && a->byte == file->len;
 }
 
-/* Does a line hold `#` or `~` from this byte of the file on? */
-static bool holds_unclean(const struct line *l, size_t from)
+static bool is_line_end(uint8_t byte)
 {
-    const uint8_t *text = l->bytes + (from - l->at);
-    size_t len = l->len - (from - l->at);
-    return memchr(text, '#', len) != NULL || memchr(text, '~', len) != NULL;
-}
-
-/* A day is refused in the first line, in a group's or, if it is a collection's, in an item's. */
-static bool is_collection(const struct line *l, const struct abo_answer *a)
-{
-    return a->number == ABO_BAD_DAY && a->line > 1 && !starts(l, "2 ");
-}
-
-/* Is the bank whose field begins at this byte of the file the sheet's own?  Digits may stand before its four, and four follow. */
-static bool is_own_bank(const struct line *l, size_t at, uint64_t sheet)
-{
-    enum { BANK = 4, BEHIND = 4 };
-    const struct abo_sheet_words *words = abo_say_sheet(sheet);
-    size_t end = at - l->at;
-    while (end < l->len && l->bytes[end] != ' ')
-        end++;
-    return words != NULL && end >= BANK + BEHIND && memcmp(l->bytes + end - BEHIND - BANK, words->code, BANK) == 0;
-}
-
-static const char *day_reason(const struct line *l, uint64_t sheet, const struct abo_answer *a)
-{
-    if (!is_collection(l, a))
-        return "the day is not real, or not among the days that the sheet takes";
-    return is_own_bank(l, (size_t)a->byte, sheet)
-               ? "a collection from bank 0300 may be due from today to one month ahead, and its group is not"
-               : "a collection from another bank than 0300 may be due from tomorrow to one month ahead, and its group is not";
-}
-
-/* What the number says, or more closely where the place or the sheet tells more. */
-static const char *reason(const struct input *file, const struct line *l, uint64_t sheet, const struct abo_answer *a)
-{
-    bool warns = sheet == ABO_SHEET_C || sheet == ABO_SHEET_E;
-    if (ends_early(file, a))
-        return "the file ends too early";
-    if (a->number == ABO_BAD_FIELD && a->byte == l->at + l->len)
-        return "the line ends too early, or a divider is missing";
-    if (a->number == ABO_BAD_NUMBER)
-        return a->line == 1 ? "the interval's start is above its end"
-                            : "the number's first three digits are outside the interval or were used before";
-    if (a->number == ABO_BAD_TOTAL)
-        return warns ? "the sum of the group's items has more than 14 digits" : "the group's total is not the sum of its items";
-    if (a->number == ABO_BAD_DAY)
-        return day_reason(l, sheet, a);
-    if (a->number == ABO_BAD_TEXT && sheet == ABO_SHEET_P && holds_unclean(l, (size_t)a->byte))
-        return "the text holds # or ~, which the sheet does not take";
-    if (a->number == ABO_TOO_MANY)
-        return starts(l, "1 ") ? "this account file is one more than a file may have" : "this item is one more than the sheet takes";
-    return abo_say_number(a->number);
+    return byte == '\n' || byte == '\r';
 }
 
 /* The first sheet whose bank the file's first account file names, if that is known; else 0. */
@@ -104,31 +53,30 @@ static uint64_t named_sheet(const struct input *file)
 }
 
 /* The letters of a bank's sheets: C or P. */
-static void put_letters_of(FILE *to, const char *code)
+static void put_letters_of(FILE *to, uint64_t language, const char *code)
 {
     const struct abo_sheet_words *words;
     const char *before = "";
     for (uint64_t sheet = 1; (words = abo_say_sheet(sheet)) != NULL; sheet++)
         if (strcmp(words->code, code) == 0) {
             fprintf(to, "%s%c", before, words->letter);
-            before = " or ";
+            before = language == ABO_CZECH ? " nebo " : " or ";
         }
 }
 
 /* A file may be in order, and only be judged by another bank's rules. */
-static void note_other_sheet(FILE *to, const struct input *file, uint64_t sheet)
+static void note_other_sheet(FILE *to, uint64_t language, const struct input *file, uint64_t sheet)
 {
-    const struct abo_sheet_words *words = abo_say_sheet(named_sheet(file)), *asked = abo_say_sheet(sheet);
+    uint64_t named = named_sheet(file);
+    const struct abo_sheet_words *words = abo_say_sheet(named), *asked = abo_say_sheet(sheet);
+    bool czech = language == ABO_CZECH;
     if (words == NULL || asked == NULL || strcmp(words->code, asked->code) == 0)
         return;
-    fprintf(to, "note: the file names bank %s, %s, whose sheet is ", words->code, words->bank);
-    put_letters_of(to, words->code);
-    fprintf(to, "; it was judged by sheet %c, %s.\n", asked->letter, asked->bank);
-}
-
-static bool is_line_end(uint8_t byte)
-{
-    return byte == '\n' || byte == '\r';
+    fprintf(to, czech ? "poznámka: soubor uvádí banku %s, %s, jejíž list je " : "note: the file names bank %s, %s, whose sheet is ",
+            words->code, abo_say_bank_in(language, named));
+    put_letters_of(to, language, words->code);
+    fprintf(to, czech ? "; posouzen byl podle listu %c, %s.\n" : "; it was judged by sheet %c, %s.\n", asked->letter,
+            abo_say_bank_in(language, sheet));
 }
 
 /* The line before one that is not the first. */
@@ -159,17 +107,19 @@ static uint64_t day_in(const struct line *l)
 }
 
 /* The day of a collection is not in the line that is shown. */
-static void note_group_day(FILE *to, const struct input *file, struct line l, uint64_t today, const struct abo_answer *a)
+static void note_group_day(FILE *to, uint64_t language, const struct input *file, struct line l, uint64_t today,
+                           const struct abo_finding *f)
 {
-    uint64_t number = a->line;
-    if (!is_collection(&l, a))
+    uint64_t number = f->line;
+    bool czech = language == ABO_CZECH;
+    if (f->cause != ABO_CAUSE_COLLECTION_EARLY && f->cause != ABO_CAUSE_COLLECTION_LATE)
         return;
     for (; number > 1 && !starts(&l, "2 "); number--)
         l = line_before(file, &l);
-    fputs("note: its group is due ", to);
-    put_day(to, day_in(&l));
-    fprintf(to, ", by line %" PRIu64 "; the file was judged on ", number);
-    put_day(to, today);
+    fputs(czech ? "poznámka: skupina je splatná " : "note: its group is due ", to);
+    put_day_in(to, language, day_in(&l));
+    fprintf(to, czech ? " podle řádku %" PRIu64 "; soubor byl posouzen ke dni " : ", by line %" PRIu64 "; the file was judged on ", number);
+    put_day_in(to, language, today);
     fputs(".\n", to);
 }
 
@@ -187,35 +137,85 @@ size_t utf8_texts(const union abo_row *rows, size_t count, const uint8_t *file)
     return texts;
 }
 
-void note_utf8(FILE *to, size_t texts)
+void note_utf8(FILE *to, uint64_t language, size_t texts)
 {
-    if (texts > 0)
+    if (texts == 0)
+        return;
+    if (language == ABO_CZECH)
+        fprintf(to,
+                "poznámka: textů, které vypadají jako UTF-8: %zu; banka čte Windows-1250 a počítá každý bajt, takže z písmen s háčky a "
+                "čárkami by byla dvě jiná.\n",
+                texts);
+    else
         fprintf(to,
                 "note: %zu text%s like UTF-8; the bank reads Windows-1250 and counts each byte, so letters with marks would come out "
                 "as two others.\n",
                 texts, texts == 1 ? " looks" : "s look");
 }
 
-void print_refusal(FILE *to, const char *name, const struct input *file,
+/* "NAME:4:6: refused at line 4, column 6, byte 43: ". */
+static void begin_sentence(FILE *to, uint64_t language, const char *name, const struct abo_finding *f, size_t column)
+{
+    bool czech = language == ABO_CZECH, warns = f->number == ABO_ACCEPTED;
+    if (name != NULL) {
+        put_name(to, name);
+        fprintf(to, ":%" PRIu64 ":%zu: ", f->line, column);
+    }
+    fputs(czech ? (warns ? "varování" : "odmítnuto") : warns ? "warning" : "refused", to);
+    fprintf(to, czech ? " na řádku %" PRIu64 ", ve sloupci %zu, bajt %" PRIu64 ": " : " at line %" PRIu64 ", column %zu, byte %" PRIu64 ": ",
+            f->line, column, f->byte);
+}
+
+/* What is found where a file is refused, and its clause.  The library always finds it; without, the number's own words do. */
+static struct abo_finding find_reason(char text[ABO_TELL_BYTES], uint64_t language, const struct input *file,
+                                      uint64_t sheet, uint64_t today, const struct abo_answer *a)
+{
+    struct abo_finding f;
+    struct abo_list list = abo_findings_of(file->bytes, file->len, sheet, today, &f, 1);
+    if (list.number == ABO_ACCEPTED && list.refused != 0) {
+        abo_tell_reason(language, &f, file->bytes, file->len, sheet, today, text, ABO_TELL_BYTES);
+        return f;
+    }
+    snprintf(text, ABO_TELL_BYTES, "%s", abo_say_number_in(language, a->number));
+    return (struct abo_finding){.number = a->number, .line = a->line, .byte = a->byte};
+}
+
+static void show_line(FILE *to, uint64_t language, const struct input *file, const struct line *l, const struct abo_answer *a)
+{
+    if (ends_early(file, a))
+        fputs(language == ABO_CZECH ? "  (zde soubor končí)\n  ^\n" : "  (the file ends here)\n  ^\n", to);
+    else
+        show_place(to, l->bytes, l->len, (size_t)a->byte - l->at, 1);
+}
+
+void print_refusal(FILE *to, uint64_t language, const char *name, const struct input *file,
                    uint64_t sheet, uint64_t today, const struct abo_answer *a)
 {
     struct line l = line_of(file, a->line);
-    size_t at = (size_t)a->byte - l.at;
+    char text[ABO_TELL_BYTES];
     if (a->line == 0) { /* the sheet or the day, before the file is looked at */
-        fprintf(to, "refused: %s (%" PRIu64 ").\n", abo_say_number(a->number), a->number);
+        fprintf(to, language == ABO_CZECH ? "odmítnuto: %s (%" PRIu64 ").\n" : "refused: %s (%" PRIu64 ").\n",
+                abo_say_number_in(language, a->number), a->number);
         return;
     }
-    if (name != NULL) {
-        put_name(to, name);
-        fprintf(to, ":%" PRIu64 ":%zu: ", a->line, at + 1);
-    }
-    fprintf(to, "refused at line %" PRIu64 ", column %zu, byte %" PRIu64 ": %s (%" PRIu64 ").\n", a->line, at + 1, a->byte,
-            reason(file, &l, sheet, a), a->number);
-    if (ends_early(file, a))
-        fputs("  (the file ends here)\n  ^\n", to);
-    else
-        show_place(to, l.bytes, l.len, at, 1);
-    note_group_day(to, file, l, today, a);
-    note_other_sheet(to, file, sheet);
-    note_utf8(to, looks_like_utf8(l.bytes, l.len));
+    struct abo_finding f = find_reason(text, language, file, sheet, today, a);
+    begin_sentence(to, language, name, &f, (size_t)a->byte - l.at + 1);
+    fprintf(to, "%s (%" PRIu64 ").\n", text, a->number);
+    show_line(to, language, file, &l, a);
+    note_group_day(to, language, file, l, today, &f);
+    note_other_sheet(to, language, file, sheet);
+    note_utf8(to, language, looks_like_utf8(l.bytes, l.len));
+}
+
+/* Lines are not counted from the file's start, since a file may have a warning in each. */
+void print_warning(FILE *to, uint64_t language, const char *name, const struct input *file,
+                   uint64_t sheet, uint64_t today, const struct abo_finding *f)
+{
+    char text[ABO_TELL_BYTES];
+    size_t at = (size_t)f->byte, start = at;
+    while (start > 0 && !is_line_end(file->bytes[start - 1]))
+        start--;
+    abo_tell_reason(language, f, file->bytes, file->len, sheet, today, text, sizeof text);
+    begin_sentence(to, language, name, f, at - start + 1);
+    fprintf(to, "%s.\n", text);
 }

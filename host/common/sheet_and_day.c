@@ -91,3 +91,11 @@ void put_day(FILE *to, uint64_t day)
 {
     fprintf(to, "%04" PRIu64 "-%02" PRIu64 "-%02" PRIu64, day / 10000, day / 100 % 100, day % 100);
 }
+
+void put_day_in(FILE *to, uint64_t language, uint64_t day)
+{
+    if (language == ABO_CZECH)
+        fprintf(to, "%" PRIu64 ". %" PRIu64 ". %" PRIu64, day % 100, day / 100 % 100, day / 10000);
+    else
+        put_day(to, day);
+}

@@ -12,8 +12,9 @@ uint64_t sheet_named(const char *word);
    zone; as YYYYMMDD.  0 if it is spelled in no such way.  Whether it is a real day is for the library to say. */
 uint64_t day_named(const char *word);
 
-/* A day of YYYYMMDD as 2026-11-15. */
+/* A day of YYYYMMDD as 2026-11-15; in Czech as 15. 11. 2026. */
 void put_day(FILE *to, uint64_t day);
+void put_day_in(FILE *to, uint64_t language, uint64_t day);
 
 /* How sheets and days are spelled, for a sentence that says what is wanted. */
 extern const char sheets_are[], days_are[];

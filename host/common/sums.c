@@ -30,12 +30,21 @@ void print_count(FILE *to, uint64_t count, const char *noun)
     fprintf(to, "%" PRIu64 " %s%s", count, noun, count == 1 ? "" : "s");
 }
 
+/* Czech is the one word for any count. */
+void print_warnings(FILE *to, uint64_t language, uint64_t count)
+{
+    if (language == ABO_CZECH)
+        fprintf(to, "%" PRIu64 " varování", count);
+    else
+        print_count(to, count, "warning");
+}
+
 /* The items of account files of one kind; how many there are, and whether something stood before. */
-static bool print_kind(FILE *to, const union abo_row *rows, size_t count, uint64_t kind, bool behind)
+static bool print_kind(FILE *to, uint64_t language, const union abo_row *rows, size_t count, uint64_t kind, bool behind)
 {
     struct sum sum = {0, 0};
     uint64_t items = 0, file = 0;
-    char text[SUM_ROOM], noun[SUM_ROOM];
+    char text[SUM_ROOM];
     for (size_t i = 0; i < count; i++) {
         if (rows[i].word[ABO_FIELD_ROW] == ABO_ROW_FILE)
             file = rows[i].file.kind;
@@ -46,20 +55,17 @@ static bool print_kind(FILE *to, const union abo_row *rows, size_t count, uint64
     }
     if (items == 0)
         return behind;
-    /* the table has the plural; print_count adds the s where it belongs */
-    snprintf(noun, sizeof noun, "%s", abo_say_items(kind));
-    noun[strlen(noun) - 1] = '\0';
-    if (behind)
-        fputs(", ", to);
-    print_count(to, items, noun);
     spell_sum(text, sum);
-    fprintf(to, ", %s crowns", text);
+    if (language == ABO_CZECH)
+        *strchr(text, '.') = ',';
+    fprintf(to, "%s%" PRIu64 " %s, %s %s", behind ? ", " : "", items, abo_say_items_in(language, kind, items), text,
+            language == ABO_CZECH ? "Kč" : "crowns");
     return true;
 }
 
-void print_payments(FILE *to, const union abo_row *rows, size_t count)
+void print_payments(FILE *to, uint64_t language, const union abo_row *rows, size_t count)
 {
     bool behind = false;
     for (uint64_t kind = 1501; kind <= 1504; kind++)
-        behind = print_kind(to, rows, count, kind, behind);
+        behind = print_kind(to, language, rows, count, kind, behind);
 }

@@ -17,11 +17,14 @@ void add_haler(struct sum *s, uint64_t haler);
 enum { SUM_ROOM = 48 };
 void spell_sum(char text[SUM_ROOM], struct sum s);
 
-/* "6 payments, 81340.70 crowns"; with other kinds of account files each by its name: "1 payment, 5.00 crowns, 2 collections, 7.00
-   crowns". */
-void print_payments(FILE *to, const union abo_row *rows, size_t count);
+/* "6 payments, 81340.70 crowns", "6 plateb, 81340,70 Kč"; with other kinds of account files each by its name: "1 payment, 5.00 crowns, 2
+   collections, 7.00 crowns".  The language is an enum abo_language. */
+void print_payments(FILE *to, uint64_t language, const union abo_row *rows, size_t count);
 
-/* "1 warning", "2 warnings". */
+/* "1 warning", "2 warnings", "2 varování". */
+void print_warnings(FILE *to, uint64_t language, uint64_t count);
+
+/* "1 movement", "2 movements". */
 void print_count(FILE *to, uint64_t count, const char *noun);
 
 #endif
