@@ -60,12 +60,12 @@ symbols() { # TYPES: names of this archive that nm gives one of these types
     "$($cc -print-prog-name=nm)" "$lib" | awk -v types="^[$1]$" 'NF > 1 && $(NF - 1) ~ types { print $NF }' | sort -u
 }
 
-no_state() { # nothing that could change between calls is in the archive, and nothing but memcpy is wanted from elsewhere
-    [ -n "$(symbols T)" ] && [ -z "$(symbols BbCDdSs)" ] && [ "$(symbols U)" = memcpy ]
+no_state() { # nothing that could change between calls is in the archive, and nothing but memcpy and memset is wanted from elsewhere
+    [ -n "$(symbols T)" ] && [ -z "$(symbols BbCDdSs)" ] && [ "$(symbols U | tr '\n' ' ')" = 'memcpy memset ' ]
 }
 
 in_header() { # NAME: is declared, as a whole word
-    grep -qw "$1" include/abo.h include/abo_say.h
+    grep -qw "$1" include/abo.h include/abo_say.h include/abo_tell.h
 }
 
 block example.c >"$work/shown.c"
@@ -85,12 +85,12 @@ check "the example without a payee's bank says what the page says" refused
 check "the page's commands work" by_the_page
 check "the page's second program is host/api/example_statement.c" diff host/api/example_statement.c "$work/shown_statement.c"
 check "the page's second program prints what the page says" of_statements
-check "the archive has no state and calls nothing but memcpy" no_state
+check "the archive has no state and calls nothing but memcpy and memset" no_state
 # names of files apart
 for name in $(sed 's/[a-z_]*\.[ch]//g' "$page" | grep -oE '\b(ABO|abo)_[A-Za-z0-9_]+' | sort -u); do
     check "$name is in a header" in_header "$name"
 done
-for call in $(grep -ohE '\babo_[a-z_]+\(' include/abo.h include/abo_say.h | tr -d '(' | sort -u); do
+for call in $(grep -ohE '\babo_[a-z_]+\(' include/abo.h include/abo_say.h include/abo_tell.h | tr -d '(' | sort -u); do
     check "$call is in the page" grep -qw "$call" "$page"
 done
 last_line

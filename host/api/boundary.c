@@ -25,9 +25,9 @@ static uint64_t word_at(const void *from, size_t offset)
 }
 
 /* Which words of each kind of answer were anything but 0. */
-enum kind { ANSWER, WRITTEN, TEXT, FOUND, STATEMENT, KINDS };
+enum kind { ANSWER, WRITTEN, TEXT, FOUND, STATEMENT, LIST, KINDS };
 enum { MOST_WORDS = 10 };
-static const size_t words_of[KINDS] = {10, 4, 2, 3, 5};
+static const size_t words_of[KINDS] = {10, 4, 2, 3, 5, 5};
 static bool seen[KINDS][MOST_WORDS];
 
 static void check_words(enum kind kind, const char *what, const void *answer, const uint64_t *due)
@@ -164,7 +164,7 @@ static void check_writing(void)
     check_write("a priority on another sheet", &other, ROWS, ROOM);
 }
 
-/* ---- Explaining, and finding a line ---- */
+/* ---- Explaining, listing what is found, and finding a line ---- */
 
 static void check_explain(const char *what, uint64_t sheet, uint64_t today, size_t room)
 {
@@ -172,10 +172,22 @@ static void check_explain(const char *what, uint64_t sheet, uint64_t today, size
     memset(out, 0xa5, sizeof out);
     memset(due_out, 0xa5, sizeof due_out);
     struct abo_text t = abo_explain((const uint8_t *)accepted, sizeof accepted - 1, sheet, today, out, room);
-    struct peer_text p = peer_explain((const uint8_t *)accepted, sizeof accepted - 1, sheet, today, due_out, room);
+    struct peer_text p = peer_findings_text((const uint8_t *)accepted, sizeof accepted - 1, sheet, today, due_out, room);
     const uint64_t due[] = {p.number, p.bytes};
     check_words(TEXT, what, &t, due);
-    check(memcmp(out, due_out, sizeof out) == 0, what, "the line is the second program's");
+    check(memcmp(out, due_out, sizeof out) == 0, what, "the text is the second program's");
+}
+
+static void check_findings(const char *what, uint64_t sheet, uint64_t today, size_t room)
+{
+    uint8_t out[4 * ABO_FINDING_BYTES], due_out[4 * ABO_FINDING_BYTES];
+    memset(out, 0xa5, sizeof out);
+    memset(due_out, 0xa5, sizeof due_out);
+    struct abo_list l = abo_findings((const uint8_t *)accepted, sizeof accepted - 1, sheet, today, out, room);
+    struct peer_list p = peer_findings((const uint8_t *)accepted, sizeof accepted - 1, sheet, today, due_out, room);
+    const uint64_t due[] = {p.number, p.refused, p.count, p.needed, p.sheets};
+    check_words(LIST, what, &l, due);
+    check(memcmp(out, due_out, sizeof out) == 0, what, "the findings are the second program's");
 }
 
 static void check_lines(void)
@@ -254,6 +266,12 @@ int main(void)
     check_explain("an explanation with no room", ABO_SHEET_K, 20180101, 7);
     check_explain("an explanation of a refusal", ABO_SHEET_S, 20180101, ABO_EXPLAIN_BYTES);
     check_explain("a day in the sheet's place", 20180101, ABO_SHEET_K, ABO_EXPLAIN_BYTES);
+    check_explain("an explanation on another day", ABO_SHEET_K, 20180103, ABO_EXPLAIN_BYTES);
+    check_findings("two findings", ABO_SHEET_K, 20180101, 4 * ABO_FINDING_BYTES);
+    check_findings("two findings in room for one", ABO_SHEET_K, 20180101, 2 * ABO_FINDING_BYTES - 1);
+    check_findings("the finding of a refusal", ABO_SHEET_S, 20180101, ABO_FINDING_BYTES);
+    check_findings("findings on another day", ABO_SHEET_K, 20180103, 4 * ABO_FINDING_BYTES);
+    check_findings("a day in the sheet's place of findings", 20180101, ABO_SHEET_K, 4 * ABO_FINDING_BYTES);
     check_lines();
     check_statements();
     check_all_seen();

@@ -112,6 +112,58 @@ static struct numbered numbers[] = {
     RETURNED(ABO_BAD_BALANCE),
 };
 
+static struct numbered causes[] = {
+    RETURNED(ABO_CAUSE_DUE_FIRST),        RETURNED(ABO_CAUSE_DUE_FILE),
+    RETURNED(ABO_CAUSE_DUE_GROUP),        RETURNED(ABO_CAUSE_DUE_ITEM),
+    RETURNED(ABO_CAUSE_DUE_ITEM_OR_END),  RETURNED(ABO_CAUSE_DUE_GROUP_OR_END),
+    RETURNED(ABO_CAUSE_DUE_FILE_OR_END),  RETURNED(ABO_CAUSE_SPELLING),
+    RETURNED(ABO_CAUSE_DIVIDER_MISSING),  RETURNED(ABO_CAUSE_DIVIDER_MORE),
+    RETURNED(ABO_CAUSE_CLOSING),          RETURNED(ABO_CAUSE_PREFIX_SUM),
+    RETURNED(ABO_CAUSE_BASE_SUM),         RETURNED(ABO_CAUSE_BASE_ZEROS),
+    RETURNED(ABO_CAUSE_AMOUNT_ZERO),      RETURNED(ABO_CAUSE_AMOUNT_OVER),
+    RETURNED(ABO_CAUSE_KIND),             RETURNED(ABO_CAUSE_PAYER_BANK),
+    RETURNED(ABO_CAUSE_INTERVAL_TURNED),  RETURNED(ABO_CAUSE_NUMBER_OUTSIDE),
+    RETURNED(ABO_CAUSE_NUMBER_USED),      RETURNED(ABO_CAUSE_TOTAL_DIFFERS),
+    RETURNED(ABO_CAUSE_SUM_OVER),         RETURNED(ABO_CAUSE_DAY_NOT_REAL),
+    RETURNED(ABO_CAUSE_DAY_EARLY),        RETURNED(ABO_CAUSE_DAY_LATE),
+    RETURNED(ABO_CAUSE_COLLECTION_EARLY), RETURNED(ABO_CAUSE_COLLECTION_LATE),
+    RETURNED(ABO_CAUSE_PAYEE_BANK),       RETURNED(ABO_CAUSE_NINTH_DIGIT),
+    RETURNED(ABO_CAUSE_TENTH_DIGIT),      RETURNED(ABO_CAUSE_TEXT_START),
+    RETURNED(ABO_CAUSE_TEXT_PARTS),       RETURNED(ABO_CAUSE_TEXT_LENGTH),
+    RETURNED(ABO_CAUSE_TEXT_BAR),         RETURNED(ABO_CAUSE_TEXT_MARKS),
+    RETURNED(ABO_CAUSE_MANY_FILES),       RETURNED(ABO_CAUSE_MANY_FILE_ITEMS),
+    RETURNED(ABO_CAUSE_MANY_ITEMS),       RETURNED(ABO_CAUSE_WARNED_TOTAL),
+    RETURNED(ABO_CAUSE_WARNED_PAST),      RETURNED(ABO_CAUSE_WARNED_PART),
+    RETURNED(ABO_CAUSE_WARNED_NAME),      RETURNED(ABO_CAUSE_WARNED_PRIORITY),
+};
+
+static struct numbered found_fields[] = {
+    RETURNED(ABO_FOUND_LINE),       RETURNED(ABO_FOUND_DATE),
+    RETURNED(ABO_FOUND_FIRM),       RETURNED(ABO_FOUND_CLIENT),
+    RETURNED(ABO_FOUND_FROM),       RETURNED(ABO_FOUND_TO),
+    RETURNED(ABO_FOUND_REST),       RETURNED(ABO_FOUND_KIND),
+    RETURNED(ABO_FOUND_NUMBER),     RETURNED(ABO_FOUND_PAYER_BANK),
+    RETURNED(ABO_FOUND_GROUP_PAYER), RETURNED(ABO_FOUND_TOTAL),
+    RETURNED(ABO_FOUND_DUE),        RETURNED(ABO_FOUND_PAYER),
+    RETURNED(ABO_FOUND_PAYEE),      RETURNED(ABO_FOUND_AMOUNT),
+    RETURNED(ABO_FOUND_VARIABLE),   RETURNED(ABO_FOUND_BANK),
+    RETURNED(ABO_FOUND_SPECIFIC),   RETURNED(ABO_FOUND_TEXT),
+    RETURNED(ABO_FOUND_PART_1),     RETURNED(ABO_FOUND_PART_2),
+    RETURNED(ABO_FOUND_PART_3),     RETURNED(ABO_FOUND_PART_4),
+    RETURNED(ABO_FOUND_NAME),       RETURNED(ABO_FOUND_GROUP_END),
+    RETURNED(ABO_FOUND_FILE_END),
+};
+
+/* Words of a finding: the member that the page names, by its offset. */
+#define MEMBER(member)                                                        \
+    {NULL, "`" #member "`",                                                   \
+     (unsigned)(offsetof(struct abo_finding, member) / WORD), 0}
+
+static struct numbered finding_words[] = {
+    MEMBER(number), MEMBER(cause), MEMBER(line),  MEMBER(byte),
+    MEMBER(length), MEMBER(field), MEMBER(least), MEMBER(most),
+};
+
 /* Do these words begin the cell, and end where one of its words does? */
 static int begins(const char *cell, const char *words)
 {
@@ -166,6 +218,24 @@ static void check_numbered(struct numbered *list, size_t count,
     check(0, cell, "has a name in the header");
 }
 
+/* The word of a finding that this cell is about is the member it names last. */
+static void check_finding_word(const char *cell, const char *number)
+{
+    unsigned long word = strtoul(number, NULL, 10);
+    size_t len = strlen(cell);
+    for (size_t i = 0; i < COUNT_OF(finding_words); i++) {
+        size_t name = strlen(finding_words[i].name);
+        if (finding_words[i].number != word)
+            continue;
+        check(len > name &&
+                  strcmp(cell + len - name, finding_words[i].name) == 0,
+              cell, "is the member of that word");
+        check(finding_words[i].seen++ == 0, cell, "stands once in the page");
+        return;
+    }
+    check(0, cell, "is a word of a finding");
+}
+
 /* The heading of the table of rows: item (word 0 is 3, `ABO_ROW_ITEM`). */
 static void check_views(char *cells[CELLS], int count)
 {
@@ -207,6 +277,8 @@ static void check_rows_page(const char *path)
         else if (table == HEADER_TABLE)
             check_numbered(header_fields, COUNT_OF(header_fields), cells[1],
                            cells[0]);
+        else if (table == FINDING_TABLE)
+            check_finding_word(cells[1], cells[0]);
     }
     fclose(f);
     check(next == ABO_ROW_WORDS, path, "names every word of a row");
@@ -214,11 +286,24 @@ static void check_rows_page(const char *path)
 
 static void check_numbers_page(const char *path)
 {
+    enum rows_table table = NO_TABLE;
     char line[1024], *cells[CELLS];
     FILE *f = page(path);
-    while (fgets(line, sizeof line, f) != NULL)
-        if (cells_of(line, cells) > 1 && strspn(cells[0], "0123456789") > 0)
+    while (fgets(line, sizeof line, f) != NULL) {
+        int count = cells_of(line, cells);
+        table = table_of(table, cells, count);
+        if (count < 2 || strspn(cells[0], "0123456789") == 0)
+            continue;
+        else if (table == NUMBER_TABLE)
             check_numbered(numbers, COUNT_OF(numbers), cells[1], cells[0]);
+        else if (table == CAUSE_TABLE)
+            check_numbered(causes, COUNT_OF(causes), cells[1], cells[0]);
+        else if (table == FOUND_TABLE)
+            check_numbered(found_fields, COUNT_OF(found_fields), cells[1],
+                           cells[0]);
+        else
+            check(0, cells[1], "stands in a table that is known");
+    }
     fclose(f);
 }
 
@@ -233,7 +318,15 @@ static void check_all_seen(const struct numbered *list, size_t count,
    with no bytes. */
 static void check_answers(void)
 {
-    static const char line[] = "refused 3 line 1 byte 0\n";
+    static const char says[] =
+        "Refused on sheet K.\n"
+        "Line 1, byte 0, the line: another line is due (3); found the end of "
+        "the file; allowed: a first line, UHL1.\n"
+        "Sheet K: refused (3) at line 1, byte 0.\n"
+        "Sheet S: refused (3) at line 1, byte 0.\n"
+        "Sheet C: refused (3) at line 1, byte 0.\n"
+        "Sheet E: refused (3) at line 1, byte 0.\n"
+        "Sheet P: refused (3) at line 1, byte 0.\n";
     static const char spaces[] = "                    ";
     uint8_t out[ABO_EXPLAIN_BYTES];
     struct abo_answer a = abo_read(NULL, 0, ABO_SHEET_K, 20180101, NULL, 0);
@@ -248,17 +341,68 @@ static void check_answers(void)
           "has as many bytes as the header says");
     struct abo_text t =
         abo_explain(NULL, 0, ABO_SHEET_K, 20180101, out, sizeof out);
-    check(t.number == ABO_ACCEPTED && t.bytes == sizeof line - 1 &&
-              memcmp(out, line, sizeof line - 1) == 0,
+    check(t.number == ABO_ACCEPTED && t.bytes == sizeof says - 1 &&
+              memcmp(out, says, sizeof says - 1) == 0,
           "an empty file", "is explained");
     t = abo_explain(NULL, 0, ABO_SHEET_K, 20180101, NULL, 0);
-    check(t.number == ABO_NO_ROOM && t.bytes == sizeof line - 1,
+    check(t.number == ABO_NO_ROOM && t.bytes == sizeof says - 1,
           "explaining without room", "says the room needed");
+    t = abo_explain(NULL, 0, 0, 20180101, out, sizeof out);
+    check(t.number == ABO_BAD_SHEET && t.bytes == 0, "explaining on no sheet",
+          "is refused");
+    t = abo_explain(NULL, 0, ABO_SHEET_K, 0, out, sizeof out);
+    check(t.number == ABO_BAD_TODAY && t.bytes == 0, "explaining on no day",
+          "is refused");
     struct abo_written w = abo_write(NULL, 0, NULL, 0, 0, NULL, 0, 0, 0, 0,
                                      ABO_SHEET_C, 20180101, NULL, 0);
     check(w.number == ABO_NOT_A_BATCH && w.row == 1 &&
               w.field == ABO_FIELD_ROW && w.bytes == 0,
           "no rows", "lack the first row");
+}
+
+static int is_list(struct abo_list l, uint64_t number, uint64_t refused,
+                   uint64_t count, uint64_t needed, uint64_t sheets)
+{
+    return l.number == number && l.refused == refused && l.count == count &&
+           l.needed == needed && l.sheets == sheets;
+}
+
+/* A due date in the past, by C alone a warning; behind the header comes CR LF,
+   so that line and byte differ from each other. */
+static void check_findings(void)
+{
+    static const uint8_t file[] = "UHL1\r\n1 1501 000000 0300\r\n"
+                                  "2 19 1 311217\r\n19 1 0 03000558\r\n"
+                                  "3 +\r\n5 +\r\n";
+    enum { LEN = sizeof file - 1, PLENTY = 3, C_ALONE = 1 << 2 };
+    struct abo_finding f[PLENTY];
+    struct abo_list l = abo_findings_of(file, LEN, ABO_SHEET_C, 20180101, f, 3);
+    check(is_list(l, ABO_ACCEPTED, 0, 1, 0, C_ALONE), "a past day",
+          "is one finding, and C alone takes the file");
+    check(f[0].number == 0 && f[0].cause == ABO_CAUSE_WARNED_PAST &&
+              f[0].line == 3 && f[0].byte == 33 && f[0].length == 6 &&
+              f[0].field == ABO_FOUND_DUE && f[0].least == 20180101 &&
+              f[0].most == 0,
+          "a past day", "is found at the due date");
+    l = abo_findings_of(file, LEN, ABO_SHEET_K, 20180101, f, 1);
+    check(is_list(l, ABO_ACCEPTED, 1, 1, 0, C_ALONE) &&
+              f[0].number == ABO_BAD_FIELD &&
+              f[0].cause == ABO_CAUSE_SPELLING && f[0].line == 1 &&
+              f[0].byte == 4 && f[0].length == 0 &&
+              f[0].field == ABO_FOUND_DATE && f[0].least == 0 &&
+              f[0].most == 0,
+          "a file of C", "is refused on K at the creation date");
+    l = abo_findings_of(file, LEN, ABO_SHEET_C, 20180101, NULL, 0);
+    check(is_list(l, ABO_NO_ROOM, 0, 0, 1, 0), "no room",
+          "is answered by the findings needed");
+    l = abo_findings(file, LEN, ABO_SHEET_C, 20180101, (uint8_t *)f,
+                     ABO_FINDING_BYTES - 1);
+    check(is_list(l, ABO_NO_ROOM, 0, 0, 1, 0), "room of one byte too few",
+          "is no room");
+    l = abo_findings_of(file, LEN, 0, 20180101, f, 3);
+    check(is_list(l, ABO_BAD_SHEET, 0, 0, 0, 0), "no sheet", "is refused");
+    l = abo_findings_of(file, LEN, ABO_SHEET_C, 0, f, 3);
+    check(is_list(l, ABO_BAD_TODAY, 0, 0, 0, 0), "no day", "is refused");
 }
 
 /* Three words that differ, so that none can stand in another's place. */
@@ -408,18 +552,30 @@ static void check_helpers(void)
                      out);
 }
 
-/* ABO_EXPLAIN_BYTES is the longer of both lines, with the longest numbers. */
-static void check_longest_line(void)
+/* ABO_EXPLAIN_BYTES holds the longest text of a refused file: numbers of 20
+   digits, the longest field, rule and spelling, 60 bytes that are all escaped,
+   and six sheets, so that one more is no change for a program. */
+static void check_longest_text(void)
 {
-    char line[2 * ABO_EXPLAIN_BYTES];
+    enum { ESCAPED = 4 * 60, LONGEST_SHEETS = 6 };
+    char text[2 * ABO_EXPLAIN_BYTES], found[ESCAPED + 1];
     unsigned long long most = UINT64_MAX;
-    int accepted = snprintf(line, sizeof line,
-                            "accepted rows %llu warnings %llu\n", most, most);
-    int refused =
-        snprintf(line, sizeof line, "refused %d line %llu byte %llu\n",
-                 (int)ABO_TOO_MANY, most, most);
-    check((accepted > refused ? accepted : refused) == ABO_EXPLAIN_BYTES,
-          "the longest line", "is as long as the header says");
+    memset(found, 'x', ESCAPED);
+    found[ESCAPED] = '\0';
+    int len = snprintf(
+        text, sizeof text,
+        "Refused on sheet K.\nLine %llu, byte %llu, the account file's end: "
+        "the interval or the number is not allowed (%d); found \"%s\", the "
+        "first 60 of %llu bytes; allowed: 1 to 16 digits, or 1 to 6 digits, a "
+        "dash and 1 to 10 digits; nothing or zeros alone for a single group, "
+        "digits, and where there is a comma, two digits behind it and one or "
+        "more before it.\n",
+        most, most, (int)ABO_TOO_MANY, found, most);
+    int line = snprintf(text, sizeof text,
+                        "Sheet K: refused (%d) at line %llu, byte %llu.\n",
+                        (int)ABO_TOO_MANY, most, most);
+    check(len + LONGEST_SHEETS * line <= ABO_EXPLAIN_BYTES, "the longest text",
+          "has room in what the header says");
 }
 
 int main(int argc, char **argv)
@@ -435,9 +591,13 @@ int main(int argc, char **argv)
     check_all_seen(views, COUNT_OF(views), "views");
     check_all_seen(header_fields, COUNT_OF(header_fields), "header's fields");
     check_all_seen(numbers, COUNT_OF(numbers), "numbers returned");
+    check_all_seen(causes, COUNT_OF(causes), "causes");
+    check_all_seen(found_fields, COUNT_OF(found_fields), "found fields");
+    check_all_seen(finding_words, COUNT_OF(finding_words), "finding's words");
     check_answers();
+    check_findings();
     check_found();
-    check_longest_line();
+    check_longest_text();
     check_version();
     check_helpers();
     return last_line();

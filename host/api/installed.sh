@@ -29,7 +29,8 @@ asked() { # ARG ..: pkg-config, that sees nothing but what was installed
     PKG_CONFIG_PATH='' PKG_CONFIG_LIBDIR="$work/prefix/lib/pkgconfig" pkg-config "$@" abo
 }
 
-due='./bin/abo ./include/abo.h ./include/abo_say.h ./lib/libabo.a ./lib/pkgconfig/abo.pc ./share/abo/abo_say.c ./share/man/man1/abo.1'
+due='./bin/abo ./include/abo.h ./include/abo_say.h ./include/abo_tell.h ./lib/libabo.a ./lib/pkgconfig/abo.pc ./share/abo/abo_say.c
+    ./share/abo/abo_tell.c ./share/man/man1/abo.1'
 # where it is not x86-64, bin/abo is the launcher, and this the program
 [ -z "$static" ] || due="$due ./lib/abo/abo"
 
@@ -38,6 +39,17 @@ built_from_it() { # the example, with the words that it says, in a folder from w
     # shellcheck disable=SC2046,SC2086
     (cd "$work" && $cc -std=c99 $strict -pedantic $(asked --cflags) $static -o wages wages.c "$(asked --variable=say)" $(asked --libs)) &&
         $run "$work/wages"
+}
+
+told_from_it() { # sentences in Czech, by what pkg-config names
+    cat >"$work/told.c" <<'END'
+#include <abo_tell.h>
+#include <stdio.h>
+int main(void) { return puts(abo_tell_field(ABO_CZECH, ABO_FOUND_PAYEE)) < 0; }
+END
+    # shellcheck disable=SC2046,SC2086
+    (cd "$work" && $cc -std=c99 $strict -pedantic $(asked --cflags) $static -o told told.c "$(asked --variable=tell)" \
+        "$(asked --variable=say)" $(asked --libs)) && [ "$($run "$work/told")" = 'účet příjemce' ]
 }
 
 versions() { # the one of abo.pc, the header's and that of the header's parts: they are one
@@ -60,13 +72,14 @@ tool_runs() { # FOLDER: the tool there, as it is, and from a folder and by a lin
 check "make install" made install PREFIX="$work/prefix"
 # shellcheck disable=SC2086
 check "what is installed" same_tree "$work/prefix" $due
-for file in include/abo.h include/abo_say.h; do check "$file is the one here" cmp "$file" "$work/prefix/$file"; done
-check "abo_say.c is the one here" cmp include/abo_say.c "$work/prefix/share/abo/abo_say.c"
+for file in include/abo.h include/abo_say.h include/abo_tell.h; do check "$file is the one here" cmp "$file" "$work/prefix/$file"; done
+for file in abo_say.c abo_tell.c; do check "$file is the one here" cmp "include/$file" "$work/prefix/share/abo/$file"; done
 check "the page for man is the one here" cmp host/abo/abo.1 "$work/prefix/share/man/man1/abo.1"
 check "the archive is the one given" cmp "$lib" "$work/prefix/lib/libabo.a"
 check "pkg-config finds it" asked --exists
 check "its version is the header's" versions
 check "a program is built from it and runs" built_from_it
+check "a program with sentences is built from it and runs" told_from_it
 check "the installed tool runs" tool_runs "$work/prefix"
 check "make install with DESTDIR" made install DESTDIR="$work/dest" PREFIX=/usr/abo
 # shellcheck disable=SC2086

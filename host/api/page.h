@@ -64,22 +64,28 @@ static inline int cells_of(char *line, char *cells[CELLS])
     return count;
 }
 
-/* The tables of docs/ROWS.md, known by their first cell. */
+/* The tables of docs/ROWS.md and docs/NUMBERS.md, known by their first cell. */
 enum rows_table {
     NO_TABLE,
     ROWS_TABLE,
     HEADER_TABLE,
     STATEMENT_TABLE,
     HEAD_TABLE,
-    MOVEMENT_TABLE
+    MOVEMENT_TABLE,
+    FINDING_TABLE,
+    NUMBER_TABLE,
+    CAUSE_TABLE,
+    FOUND_TABLE
 };
 
 /* The table that a line with these cells is in, after a line of `table`. */
 static inline enum rows_table table_of(enum rows_table table, char **cells,
                                        int count)
 {
-    static const char *const names[] = {NULL, "word", "field", "statement word",
-                                        "head's byte", "movement's byte"};
+    static const char *const names[] = {
+        NULL,          "word",            "field",          "statement word",
+        "head's byte", "movement's byte", "finding's word", "no.",
+        "cause",       "found field"};
     if (count == 0)
         return NO_TABLE;
     for (size_t i = ROWS_TABLE; i < COUNT_OF(names); i++)

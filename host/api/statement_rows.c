@@ -165,7 +165,8 @@ static void check_page(const char *path)
         table = table_of(table, cells, count);
         if (count > 0 && strcmp(cells[0], "statement word") == 0)
             check_views(cells);
-        if (table < STATEMENT_TABLE || strspn(cells[0], "0123456789") == 0)
+        if (table < STATEMENT_TABLE || table > MOVEMENT_TABLE ||
+            strspn(cells[0], "0123456789") == 0)
             continue;
         if (table == STATEMENT_TABLE) {
             check(strtoul(cells[0], NULL, 10) == next[table], cells[0],

@@ -1,4 +1,4 @@
-/* Any of the six calls, made by the library and by the second program, which
+/* Any of the seven calls, made by the library and by the second program, which
    for the line of a number is lines.h: every slice at the edge of a page, the
    library on a stack of 64 KiB. */
 #ifndef HOST_ASK_EDGES_H

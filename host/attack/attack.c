@@ -1,5 +1,5 @@
 /*
- * An attack on the six calls.  Every slice is lent at the edge of a page that
+ * An attack on the seven calls.  Every slice is lent at the edge of a page that
  * nobody may touch, of no length at times, or at NULL; slices to be read lie
  * over one another; numbers come from all 64 bits; files and rows are valid,
  * next to valid, or without sense.  Each call is made on a stack of 64 KiB and
@@ -251,7 +251,8 @@ static void find_lines(const char *what, struct call c, uint64_t refused)
     ask(what, &c, 0);
 }
 
-/* Explained, read and, if it says a batch, written; and lines of it found. */
+/* Explained, what is found in it listed, read and, if it says a batch, written;
+   and lines of it found. */
 static void attack_made(const char *what, const struct made *made, bool wild)
 {
     struct call c = call_of_made(EXPLAINS, made);
@@ -259,6 +260,8 @@ static void attack_made(const char *what, const struct made *made, bool wild)
     c.file = lend_part(0, made->file.data, made->file.len);
     if (wild)
         wild_arguments(&c);
+    ask_rooms(what, &c);
+    c.which = LISTS;
     ask_rooms(what, &c);
     c.which = READS;
     struct outcome read = ask_rooms(what, &c);
@@ -393,8 +396,8 @@ static void attack_collections(void)
 static void report(struct seeds seeds)
 {
     static const uint64_t statements = UINT64_C(0xf) << 50 | 0x10001;
-    const uint64_t can_come[CALLS] = {0x1ffff,    0x310007,   0x10001, 3,
-                                      statements, statements};
+    const uint64_t can_come[CALLS] = {0x1ffff,    0x310007,   0x10007, 3,
+                                      statements, statements, 0x10007};
     bool tested = are_enough(seeds, ENOUGH);
     report_edges();
     for (unsigned which = 0; which < CALLS; which++)

@@ -1,7 +1,7 @@
 /*
- * The six calls on stacks of 64 KiB, on the files with the most lines of each
- * kind and on the corner files: each is explained, read and, if it says a batch,
- * written again, and its lines are walked to the last; on statements of many
+ * The seven calls on stacks of 64 KiB, on the files with the most lines of each
+ * kind and on the corner files: each is explained, what is found in it is
+ * listed, it is read and, if it says a batch, written again, and its lines are walked to the last; on statements of many
  * records and on many statements, which are read and written.  Code that calls itself
  * once a line, or keeps a line on the stack, does not come back from these.
  *
@@ -78,7 +78,9 @@ static uint64_t test_file(const char *what, unsigned place,
 {
     struct call c = call_of_made(EXPLAINS, made);
     c.file = lend_part(0, made->file.data, made->file.len);
-    ask(what, place, &c, ABO_EXPLAIN_BYTES);
+    ask_exact(what, place, &c);
+    c.which = LISTS;
+    ask_exact(what, place, &c);
     c.which = READS;
     struct outcome read = ask_exact(what, place, &c);
     if (read.number == ABO_ACCEPTED)

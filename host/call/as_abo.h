@@ -28,6 +28,11 @@ static inline struct abo_text text_of_peer(struct peer_text t)
     return (struct abo_text){t.number, t.bytes};
 }
 
+static inline struct abo_list list_of_peer(struct peer_list l)
+{
+    return (struct abo_list){l.number, l.refused, l.count, l.needed, l.sheets};
+}
+
 static inline struct abo_statement_answer
 statement_of_peer(struct peer_statement_answer a)
 {

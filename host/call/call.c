@@ -6,6 +6,7 @@
 
 const char *const call_names[CALLS] = {
     "read", "write", "explain", "line", "statement_read", "statement_write",
+    "findings",
 };
 
 struct outcome outcome_of_answer(const struct abo_answer *a)
@@ -54,6 +55,16 @@ struct outcome outcome_of_statement(const struct abo_statement_answer *a)
         .words = {a->line, a->byte, a->rows, a->needed},
         .written = a->number == 0 ? a->rows * ABO_STATEMENT_ROW_BYTES : 0,
         .needed = a->needed * ABO_STATEMENT_ROW_BYTES,
+    };
+}
+
+struct outcome outcome_of_list(const struct abo_list *l)
+{
+    return (struct outcome){
+        .number = l->number,
+        .words = {l->refused, l->count, l->needed, l->sheets},
+        .written = l->number == 0 ? l->count * ABO_FINDING_BYTES : 0,
+        .needed = l->needed * ABO_FINDING_BYTES,
     };
 }
 

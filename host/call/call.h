@@ -1,4 +1,4 @@
-/* Any of the six calls and its answer as values, whoever is asked. */
+/* Any of the seven calls and its answer as values, whoever is asked. */
 #ifndef HOST_CALL_H
 #define HOST_CALL_H
 
@@ -6,7 +6,8 @@
 #include <stdbool.h>
 
 enum which {
-    READS, WRITES, EXPLAINS, FINDS, READS_STATEMENT, WRITES_STATEMENT, CALLS
+    READS, WRITES, EXPLAINS, FINDS, READS_STATEMENT, WRITES_STATEMENT, LISTS,
+    CALLS
 };
 extern const char *const call_names[CALLS];
 
@@ -33,7 +34,8 @@ enum { HEADER_WORDS = 5, OUTCOME_WORDS = 9, NUMBERS = ABO_BAD_BALANCE + 1 };
 /* The answer of any call: reading's line, byte, rows, warnings, needed and the
    header's four numbers; writing's row, field and bytes, of statements too;
    explaining's bytes; of a line its place and length, and as the number 1 if it
-   was found, else 0; of reading a statement line, byte, rows and needed. */
+   was found, else 0; of reading a statement line, byte, rows and needed; of a
+   list of findings refused, count, needed and sheets. */
 struct outcome {
     uint64_t number, words[OUTCOME_WORDS];
     uint8_t name[ABO_NAME_BYTES];
@@ -48,6 +50,7 @@ struct outcome outcome_of_written(const struct abo_written *w);
 struct outcome outcome_of_text(const struct abo_text *t);
 struct outcome outcome_of_found(const struct abo_found *f);
 struct outcome outcome_of_statement(const struct abo_statement_answer *a);
+struct outcome outcome_of_list(const struct abo_list *l);
 
 /* Does the call take rows in the place of a file; is it about a statement? */
 static inline bool takes_rows(enum which which)

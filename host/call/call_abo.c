@@ -33,6 +33,11 @@ struct outcome call_abo(const struct call *c, uint8_t *out, size_t room)
     }
     if (of_statement(c->which))
         return call_statement(c, out, room);
+    if (c->which == LISTS) {
+        struct abo_list l = abo_findings(c->file.bytes, c->file.len, c->sheet,
+                                         c->today, out, room);
+        return outcome_of_list(&l);
+    }
     struct abo_text t = abo_explain(c->file.bytes, c->file.len, c->sheet,
                                     c->today, out, room);
     return outcome_of_text(&t);

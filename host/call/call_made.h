@@ -6,7 +6,8 @@
 #include "../generate/generate.h"
 #include "call.h"
 
-/* A file to be read or explained, or to find a line in. */
+/* A file to be read or explained, to list what is found in, or to find a line
+   in. */
 struct call call_of_made(enum which which, const struct made *made);
 
 /* A statement to be read, or its rows to be written. */

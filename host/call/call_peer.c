@@ -37,7 +37,12 @@ struct outcome call_peer(const struct call *c, uint8_t *out, size_t room)
     }
     if (of_statement(c->which))
         return call_statement(c, out, room);
-    struct abo_text t = text_of_peer(peer_explain(
+    if (c->which == LISTS) {
+        struct abo_list l = list_of_peer(peer_findings(
+            c->file.bytes, c->file.len, c->sheet, c->today, out, room));
+        return outcome_of_list(&l);
+    }
+    struct abo_text t = text_of_peer(peer_findings_text(
         c->file.bytes, c->file.len, c->sheet, c->today, out, room));
     return outcome_of_text(&t);
 }

@@ -1,10 +1,10 @@
 /*
  * What the second program says of a file, and files to try, for host/abo/abo_test.sh:
  *
- *   compare_abo answer FILE SHEET DAY FOLDER   puts into the folder: `line`, the line of explaining; `canonical`, the canonical
- *                                              file; `items`, a line for each item, as the tool shows it but with one space
- *                                              between words, and a dot for each letter above 126; `accepted`, what check says.
- *                                              The last three are empty if the file is refused
+ *   compare_abo answer FILE SHEET DAY FOLDER   puts into the folder: `line`, the answer in one line; `text`, what explaining says;
+ *                                              `canonical`, the canonical file; `items`, a line for each item, as the tool shows it
+ *                                              but with one space between words, and a dot for each letter above 126; `accepted`,
+ *                                              what check says first.  The last three are empty if the file is refused
  *   compare_abo make SHEET KIND BYTES          a valid file of about so many bytes (host/generate/sized.h names the kinds)
  *   compare_abo generate SEED FILE             puts the file of a seed there; prints the sheet and the day to read it with
  *   compare_abo statement FILE                 a line for each movement: what it does to the balance, the balance behind it and the
@@ -42,12 +42,24 @@ static void judge(struct reading *a)
                               a->rows.data, a->rows.len);
 }
 
-static void explain(const struct reading *a, FILE *to)
+static void answer_line(const struct reading *a, FILE *to)
 {
     uint8_t line[100];
     struct peer_text t = peer_explain(a->file.data, a->file.len, a->sheet,
                                       a->today, line, sizeof line);
     fwrite(line, 1, (size_t)t.bytes, to);
+}
+
+static void explain(const struct reading *a, FILE *to)
+{
+    struct text out = {0};
+    struct peer_text t = peer_findings_text(a->file.data, a->file.len, a->sheet,
+                                            a->today, NULL, 0);
+    text_repeat(&out, 0, (size_t)t.bytes);
+    peer_findings_text(a->file.data, a->file.len, a->sheet, a->today, out.data,
+                       out.len);
+    fwrite(out.data, 1, out.len, to);
+    text_free(&out);
 }
 
 static void rewrite(const struct reading *a, FILE *to)
@@ -179,7 +191,8 @@ static int answer(char **argument)
         return 2;
     judge(&a);
     uint64_t number = a.answer.number;
-    bool whole = put(&a, argument[3], "line", explain) &&
+    bool whole = put(&a, argument[3], "line", answer_line) &&
+                 put(&a, argument[3], "text", explain) &&
                  put(&a, argument[3], "canonical", number == 0 ? rewrite : NULL) &&
                  put(&a, argument[3], "items", number == 0 ? items : NULL) &&
                  put(&a, argument[3], "accepted", number == 0 ? accepted : NULL);

@@ -5,7 +5,8 @@
  *
  *   compare_many CALL FILES SEED SERVER ..
  *
- * CALL is read, write, explain, line, statement_read or statement_write.
+ * CALL is read, write, explain, line, statement_read, statement_write or
+ * findings.
  * SERVER is how it is started, as qemu-x86_64 build/library_server.
  */
 #include <stdio.h>
@@ -107,9 +108,9 @@ static bool can_come(enum which which, unsigned number)
         return number >= ABO_BAD_RECORD;
     if (which == READS)
         return number < ABO_NO_ROOM;
-    return which == WRITES &&
-           (number <= ABO_BAD_TODAY || number == ABO_NOT_A_BATCH ||
-            number == ABO_NOT_CARRIED);
+    return number <= ABO_BAD_TODAY ||
+           (which == WRITES &&
+            (number == ABO_NOT_A_BATCH || number == ABO_NOT_CARRIED));
 }
 
 /* With enough files every number that the call can give must have come; too
@@ -133,8 +134,8 @@ int main(int argc, char **argv)
         which++;
     if (argc <= 4 || which == CALLS) {
         fprintf(stderr, "compare_many: name read, write, explain, line, "
-                        "statement_read or statement_write, how many files, "
-                        "the first seed and the server.\n");
+                        "statement_read, statement_write or findings, how many "
+                        "files, the first seed and the server.\n");
         return 2;
     }
     struct seeds seeds = take_seeds(3, argv + 1, 0);

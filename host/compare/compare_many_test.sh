@@ -1,5 +1,5 @@
 #!/bin/sh
-# Compares five of the calls with the second program's on many files, the library being in a process of its own
+# Compares six of the calls with the second program's on many files, the library being in a process of its own
 # (host/compare/compare_many.c); then sees that wrong answers and a server that ends are found. The last line is 'N passed, M failed'.
 #
 #   host/compare/compare_many_test.sh FILES SEED     so many files for each call, from this seed on
@@ -12,7 +12,7 @@ cd "$(dirname "$0")/../.." || exit 2
 [ $# -eq 2 ] || { sed -n '2,7s/^# \{0,1\}//p' "$0" >&2; exit 2; }
 files=$1
 seed=$2
-calls='read write explain statement_read statement_write'
+calls='read write explain findings statement_read statement_write'
 build_test library_server wrong_server native/compare_many || exit 2
 
 compare() { # CALL FILES SERVER

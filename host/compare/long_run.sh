@@ -1,11 +1,11 @@
 #!/bin/sh
-# The long comparison of the library with the second program (host/compare/compare_many.c): each of five calls on so many files, from this
+# The long comparison of the library with the second program (host/compare/compare_many.c): each of six calls on so many files, from this
 # seed on, one call after another, its files in equal parts on all cores. Prints for each the first seed, the files asked for, the calls
 # compared, the differences found and the seconds; below it how often each number came. What was said of differences is kept in
 # build/long_run. The exit status is 0 only if there is none.
 #
 #   host/compare/long_run.sh FILES SEED [FILES SEED ..]
-#   CALLS=read host/compare/long_run.sh 10000000 1000001      some of read, write, explain, line, statement_read and statement_write
+#   CALLS=read host/compare/long_run.sh 10000000 1000001      some of read, write, explain, findings, line, statement_read and statement_write
 #   CORES=1 host/compare/long_run.sh 1000000 1                on so many cores (default: all)
 #
 # host/target.sh names the other variables.
@@ -56,7 +56,7 @@ told() { # CALL FILES SEED SECONDS: adds up what the logs say
 
 row call seed files calls differences seconds
 while [ $# -gt 0 ]; do
-    for call in ${CALLS:-read write explain statement_read statement_write}; do
+    for call in ${CALLS:-read write explain findings statement_read statement_write}; do
         began=$(date +%s)
         compare "$call" "$1" "$2" || wrong=1
         told "$call" "$1" "$2" $(($(date +%s) - began)) || wrong=1

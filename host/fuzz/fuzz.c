@@ -130,7 +130,9 @@ static void make_input(struct text *input, uint64_t seed)
     static struct draft draft;
     static struct text statement;
     struct dice d = {seed};
-    bool explains = one_in(&d, 4), rows = one_in(&d, 2);
+    static const enum which asked[] = {READS, READS, READS, EXPLAINS, LISTS};
+    enum which which = PICK(&d, asked);
+    bool rows = one_in(&d, 2);
     if (seed % 4 == 3 && rows) {
         draw_statement(&statement, seed);
         put_statement_input(input, WRITES_STATEMENT, &statement, &d);
@@ -145,7 +147,7 @@ static void make_input(struct text *input, uint64_t seed)
         if (one_in(&d, 8))
             put_line_input(input, &made, &d);
         else
-            put_file_input(input, &made, explains, &d);
+            put_file_input(input, &made, which, &d);
     }
 }
 

@@ -6,7 +6,8 @@
 enum { HEAD = 5, WRITE_HEAD = 17, NAME = ABO_NAME_BYTES, ENOUGH_ROOM = 128, NO_SHEET = LAST_SHEET + 1 };
 
 /* The first byte's modulus, the bit of its quotient that makes an explanation
-   the finding of a line, and the one that makes a batch a statement. */
+   the finding of a line, and the one that makes a batch a statement, or an
+   explanation a list. */
 enum { CHOICES = 3, LINE_BIT = 32, STATEMENT_BIT = 64 };
 
 static uint64_t take_day(const uint8_t *data)
@@ -65,9 +66,11 @@ bool decode_input(struct fuzz_input *in, const uint8_t *data, size_t len)
         .runs_on = bits & 2,
         .room = data[4],
     };
-    if (in->call.which == EXPLAINS && bits & LINE_BIT)
+    if (in->call.which == EXPLAINS && bits & STATEMENT_BIT)
+        in->call.which = LISTS;
+    else if (in->call.which == EXPLAINS && bits & LINE_BIT)
         take_line(in, data);
-    if (in->call.which != EXPLAINS && bits & STATEMENT_BIT) {
+    else if (in->call.which != EXPLAINS && bits & STATEMENT_BIT) {
         in->call.which =
             in->call.which == READS ? READS_STATEMENT : WRITES_STATEMENT;
         return true;
@@ -93,10 +96,13 @@ static void put_head(struct text *out, enum which which, uint64_t sheet,
     text_byte(out, PICK(d, rooms));
 }
 
-void put_file_input(struct text *out, const struct made *made, bool explains,
+void put_file_input(struct text *out, const struct made *made, enum which which,
                     struct dice *d)
 {
-    put_head(out, explains ? EXPLAINS : READS, made->sheet, made->today, d);
+    put_head(out, which == LISTS ? EXPLAINS : which, made->sheet, made->today,
+             d);
+    if (which == LISTS)
+        out->data[0] = (uint8_t)(out->data[0] + CHOICES * STATEMENT_BIT);
     text_bytes(out, made->file.data, made->file.len);
 }
 

@@ -3,7 +3,8 @@
  *   0      the call (modulo 3: read, write, explain), and by the quotient's
  *          bits: 1 slices lie in front of the page behind them, 2 the texts
  *          run on over the rows, 32 a line is found and nothing explained, 64
- *          a statement is read or written and no batch
+ *          a statement is read or written and no batch, or what is found is
+ *          listed and not explained
  *   1      the sheet, modulo 7: 0 and 6 are none
  *   2, 3   today: a place in the list of days, or past these a number; or the
  *          line's number
@@ -37,8 +38,9 @@ bool decode_input(struct fuzz_input *in, const uint8_t *data, size_t len);
 /* The room in bytes, if so many are wanted. */
 size_t room_of_input(const struct fuzz_input *in, uint64_t wanted);
 
-/* The other way: inputs of calls.  The dice draw what the call leaves open. */
-void put_file_input(struct text *out, const struct made *made, bool explains,
+/* The other way: inputs of calls.  The dice draw what the call leaves open.  A
+   file is read, explained, or what is found in it is listed. */
+void put_file_input(struct text *out, const struct made *made, enum which which,
                     struct dice *d);
 void put_line_input(struct text *out, const struct made *made, struct dice *d);
 void put_draft_input(struct text *out, const struct draft *draft,

@@ -22,6 +22,7 @@ struct kind {
     bool single;
     bool (*is_on)(unsigned sheet);
     unsigned of; /* what its account files hold */
+    bool late;   /* the last line is missing */
 };
 
 /* Lines are drawn once and then copied, so that most of what is counted is the
@@ -139,6 +140,14 @@ static void put_cut(struct text *t, struct dice *d, unsigned sheet,
     }
 }
 
+/* One byte more than is kept. */
+static void put_warned(struct text *t, struct dice *d, unsigned sheet,
+                       uint64_t *amount)
+{
+    put_shortest(t, d, sheet, amount);
+    text_words(t, " 0 AV:Zprava pro prijemce, 36 bytu dlouha.");
+}
+
 static bool is_sheet(unsigned sheet)
 {
     return sheet >= K && sheet <= LAST_SHEET;
@@ -152,15 +161,17 @@ static bool cuts(unsigned sheet)
 /* Collections are wages but for their kind, so that nothing but what is asked of
    their days makes them cost more. */
 static const struct kind kinds[] = {
-    {"wages", put_wage, 100, MOST_ITEMS, false, is_sheet, PAYMENTS},
-    {"invoices", put_invoice, 12, MOST_ITEMS, true, is_sheet, PAYMENTS},
-    {"shortest", put_shortest, 200, MOST_ITEMS, false, is_sheet, PAYMENTS},
-    {"longest", put_longest, 100, MOST_ITEMS, true, is_sheet, PAYMENTS},
-    {"groups", put_shortest, 1, MOST_ITEMS, false, is_sheet, PAYMENTS},
-    {"files", put_shortest, 1, 1, false, is_sheet, PAYMENTS},
+    {"wages", put_wage, 100, MOST_ITEMS, false, is_sheet, PAYMENTS, false},
+    {"invoices", put_invoice, 12, MOST_ITEMS, true, is_sheet, PAYMENTS, false},
+    {"shortest", put_shortest, 200, MOST_ITEMS, false, is_sheet, PAYMENTS, false},
+    {"longest", put_longest, 100, MOST_ITEMS, true, is_sheet, PAYMENTS, false},
+    {"groups", put_shortest, 1, MOST_ITEMS, false, is_sheet, PAYMENTS, false},
+    {"files", put_shortest, 1, 1, false, is_sheet, PAYMENTS, false},
     {"collections", put_wage, 100, MOST_ITEMS, false, judges_collections,
-     COLLECTIONS},
-    {"cut", put_cut, 1, MOST_ITEMS, false, cuts, PAYMENTS},
+     COLLECTIONS, false},
+    {"cut", put_cut, 1, MOST_ITEMS, false, cuts, PAYMENTS, false},
+    {"warned", put_warned, 100, MOST_ITEMS, false, cuts, PAYMENTS, false},
+    {"late", put_wage, 100, MOST_ITEMS, false, is_sheet, PAYMENTS, true},
 };
 
 static const struct kind *kind_of(const char *name, unsigned sheet)
@@ -244,6 +255,8 @@ bool make_sized_file(struct sized_file *file, unsigned sheet, const char *name,
                    smaller(kind->per_file, all - file->items), bytes);
         text_words(t, "5 +\r\n");
     } while (files < MOST_FILES && file->items < all && t->len < bytes);
+    if (kind->late)
+        t->len -= strlen("5 +\r\n");
     text_free(&pool.lines);
     return true;
 }

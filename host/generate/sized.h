@@ -1,4 +1,4 @@
-/* Valid files of a wanted size, such as offices send them and such as are as
+/* Files of a wanted size, all but one kind valid, such as offices send them and such as are as
    unlike them as the sheets allow: bench/ measures what their bytes cost, and
    the tool is tried on a large one. */
 #ifndef HOST_SIZED_H
@@ -25,6 +25,8 @@ struct sized_file {
  *   collections  C and P alone, which judge each one's day: the lines of wages
  *                in account files of kind 1502, due tomorrow
  *   cut          C alone: parts of 4,000 bytes, which are cut to 35
+ *   warned       C alone: short items, each with a part that is cut by a byte
+ *   late         wages, refused at their end, where the last line is missing
  *
  * It ends sooner where the sheet does: at 1,000 items on S, at 1,000 account
  * files on all.  Gives back false if the sheet has no such kind.
