@@ -48,6 +48,8 @@ kinds_for() { # CALL SHEET KIND ..: KINDS or these; C and P have collections too
     more=
     case $2 in C | P) more=collections ;; esac
     if [ "$2" = C ] && [ "$1" != write ]; then more="$more cut"; fi
+    # what is found: a warning in each item, and a file that is refused at its end
+    case $1 in explain | findings) more="$more late"; [ "$2" != C ] || more="$more warned" ;; esac
     shift 2
     echo "${KINDS:-$* $more}"
 }

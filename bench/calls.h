@@ -8,7 +8,8 @@
 enum who { NONE, ABO, PEER };
 
 /* What a call is given, and the room that is lent to it: in reading for as many
-   rows as the file has, else for as many bytes.  The items of a statement are
+   rows as the file has, in explaining and listing what they need, else for as
+   many bytes.  The items of a statement are
    its records. */
 struct lent {
     struct sized_file file;
@@ -30,8 +31,8 @@ bool lend_for(struct lent *l, enum which which, unsigned sheet,
               const char *kind, size_t bytes);
 void give_back(struct lent *l);
 
-/* Gives back the bytes read, explained or written, or 0 if the file was not
-   accepted as what it was made.  NONE does nothing, and well. */
+/* Gives back the bytes read, explained, listed from or written, or 0 if the file
+   was not accepted as what it was made.  NONE does nothing, and well. */
 size_t call_once(struct lent *l, enum who who);
 
 #endif

@@ -1,11 +1,11 @@
 /*
- * Makes a file and has it read, explained, or written again, to be counted or
- * timed:
+ * Makes a file and has it read, explained, what is found in it listed, or
+ * written again, to be counted or timed:
  *
  *   measure CALL none|abo|peer SHEET KIND BYTES
  *   measure CALL TIMES SHEET KIND BYTES
  *
- * CALL is read, write, explain, statement_read or statement_write.
+ * CALL is read, write, explain, findings, statement_read or statement_write.
  * The first form is for a counter of instructions.  What a call executes is the
  * difference of two counts, with it and with `none`, so nothing has to be told
  * apart by names.  The second form runs the library and the second program
