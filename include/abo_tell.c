@@ -259,8 +259,7 @@ static const struct {
     {FIELD_OF(ABO_FOUND_TEXT, "S"), {BYTES, BYTES_CZ}},
     {FIELD_OF(ABO_FOUND_TEXT, "KEP"), {BYTES ", one or more, the first no space", BYTES_CZ ", aspoň jeden, první není mezera"}},
     {FIELD_OF(ABO_FOUND_TEXT, "C"),
-     {BYTES ", one or more, the first no space; or, right behind the bank field, 1 to 10 digits",
-      BYTES_CZ ", aspoň jeden, první není mezera; nebo hned za bankovním polem 1 až 10 číslic"}},
+     {"1 to 10 digits, or " BYTES ", the first no space", "1 až 10 číslic nebo " BYTES_CZ ", první není mezera"}},
 #undef FIELD_OF
     {ABO_CAUSE_CLOSING, ABO_FOUND_GROUP_END, ANY, "CE", {"3 + or 3+", "3 + nebo 3+"}},
     {ABO_CAUSE_CLOSING, ABO_FOUND_GROUP_END, ANY, "KSP", {"3 +", "3 +"}},

@@ -244,7 +244,7 @@ note: the file names bank 8100, Komerční banka, whose sheet is K; it was judge
 # ---- what is shown of a line: letters, a mark where there is none, and a piece of a long one ----
 
 says C "$c" "$g" "$i 0 \\0351\\t\\0001\\0177z" \
-    "refused at line 4, column 19, byte 56: the text: it is not spelled as it must be; found \"\\\\xE9\\\\x09\\\\x01\\\\x7Fz\"; allowed: text bytes, 32 to 255 but 127, one or more, the first no space; or, right behind the bank field, 1 to 10 digits (4).\n  $i 0 é���z\n                    ^"
+    "refused at line 4, column 19, byte 56: the text: it is not spelled as it must be; found \"\\\\xE9\\\\x09\\\\x01\\\\x7Fz\"; allowed: 1 to 10 digits, or text bytes, 32 to 255 but 127, the first no space (4).\n  $i 0 é���z\n                    ^"
 long=$(printf '%0100d' 0)
 first60="\"$(printf '%060d' 0)\", the first 60 of"
 says C "$c" "$g" "$long$long" \

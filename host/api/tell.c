@@ -270,13 +270,10 @@ static void check_room(const struct told *t, uint64_t language)
 }
 
 /* Causes whose words go by a table of this library's fields and sheets, which
-   abo_explain has from the sheet itself.  On C the proved text tells two places
-   of a text apart. */
+   abo_explain has from the sheet itself. */
 static int is_spelled(const struct told *t)
 {
-    return t->f.cause == ABO_CAUSE_CLOSING ||
-           (t->f.cause == ABO_CAUSE_SPELLING &&
-            !(t->f.field == ABO_FOUND_TEXT && t->sheet == ABO_SHEET_C));
+    return t->f.cause == ABO_CAUSE_CLOSING || t->f.cause == ABO_CAUSE_SPELLING;
 }
 
 /* What was found is quoted as abo_explain quotes it, and what is allowed in a

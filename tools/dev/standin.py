@@ -30,8 +30,9 @@ PLACE = r"(\w+(?:\.\w+)*)"
 
 
 def libraries():
-    """`abo` and the crates that it stands on: what is above it makes its calls, which are C's here."""
-    return [name for name in copies.below("abo") if (ROOT / "crates" / name / "src/lib.rt").exists()]
+    """The crates of the calls and those that they stand on, in one unit: what is above them makes the calls, which are C's here."""
+    names = dict.fromkeys([*copies.below("abo"), *copies.below("tell")])
+    return [name for name in names if (ROOT / "crates" / name / "src/lib.rt").exists()]
 
 
 def without_contracts(source):
@@ -82,7 +83,7 @@ def translated(name, names):
 
 
 def main():
-    if len(sys.argv) != 2:
+    if len(sys.argv) != 2 or sys.argv[1].startswith("-"):
         sys.exit(__doc__)
     archive = pathlib.Path(sys.argv[1])
     archive.parent.mkdir(parents=True, exist_ok=True)

@@ -1,14 +1,13 @@
 -- How explaining ends: the text put or not, 2 and 1. Assumes nothing.
-use mathlib.Core.Path.{_≡_, sym, ap, _∙_}
+use mathlib.Core.Path.{_≡_, sym, _∙_}
 use mathlib.Core.Bool.{Bool, true, false}
-use mathlib.Core.List.{List, _++_}
-use Prim.Native.Nat.{ℕ, _+_, _-_, _^_, _≤_, _<_}
+use mathlib.Core.List.{List}
+use Prim.Native.Nat.{ℕ, _-_, _^_, _≤_, _<_}
 use native.Mathlib.Omega.{arith}
 use lib.ListN.{length, take, drop}
 use lib.Seq.{take-append-seam}
 use borrow.Author.Tests.{lt-ltb, le-ltb}
 use Rattle.base.specs.Pick.{pick}
-use Rattle.base.specs.Put.{put}
 use Rattle.sheet.specs.declared.Sheet.{Sheet}
 use Rattle.sheet.specs.declared.Known.{Known}
 use Rattle.sheet.specs.declared.Known.the-variants as known
@@ -22,6 +21,7 @@ use Rattle.tracing.specs.declared.file.Outcome.{Outcome}
 use Rattle.tracing.specs.file.Comes.{Comes}
 use Rattle.verdict.specs.Sheets.{sheetLines}
 use Rattle.findings.specs.Findings.{inWords}
+use Rattle.findings.proofs.Exits.{put-front}
 use Rattle.explain.specs.Explanation.{textOn, explanationWith, explanation}
 use Rattle.explain.specs.Parts.{textIn}
 use Rattle.explain.specs.Told.{TextAnswer, textAnswer}
@@ -29,11 +29,6 @@ use Rattle.explain.proofs.Text.{text-is}
 use Rattle.explain.proofs.Lengths.{lines-short, text-low}
 
 -- ---- the output o, and o1 afterwards; n is the length of the text s
-
--- at the front of o
-put-front : (o s : List ℕ) → put o 0 s ≡ s ++ drop (length s) o
-unfolding put
-put-front o s = let e : 0 + length s ≡ length s = omega arith in ap (λ (n : ℕ). s ++ drop n o) e
 
 module _ (o s : List ℕ) (n : ℕ) (long : n ≡ length s) where
   -- 16, with the bytes needed, and the output as it was

@@ -26,8 +26,8 @@ use Rattle.findings.specs.outcome.Counts.{countIn, refusedIn}
 use Rattle.findings.proofs.Lengths.{numbers-long}
 use Rattle.findings.proofs.outcome.Comes.{outcome-count, outcome-refused}
 
--- at the front of o
-put-front : (o s : List ℕ) → put o 0 s ≡ s ++ drop (length s) o
+-- what is put at the front of o
+pub put-front : (o s : List ℕ) → put o 0 s ≡ s ++ drop (length s) o
 unfolding put
 put-front o s = let e : 0 + length s ≡ length s = omega arith in ap (λ (n : ℕ). s ++ drop n o) e
 
