@@ -33,6 +33,7 @@ ghost use Rattle.text.specs.span.Held.{textsAt, Held};
 ghost use Rattle.text.specs.span.Places.{partAt, fourFrom};
 ghost use Rattle.text.specs.division.Unnamed.{unnamed};
 ghost use Rattle.text.specs.Told.{countText};
+ghost use Rattle.text.specs.Begun.{ofText, Begins};
 ghost use Rattle.itemline.specs.tail.Told.{tailOf};
 ghost use Rattle.itemline.specs.Told.{noSpans, told, Sound};
 ghost use Rattle.itemline.specs.Walk.{anyBank, fromBank, fromVariable, fromAmount, fromPayee, payerFirst, itemSaid};
@@ -174,22 +175,19 @@ fn take_message(y: Style, s: &[u8], from: usize) -> Spans
     take_parts(s, from)
 }
 
-// A text that may have a name, or a message without `AV:`. It was judged before: neither its bytes nor its limits are tested again.
-fn take_varied(y: Style, s: &[u8], from: usize) -> Spans
-    requires { ⌜ y .most ≤ 4 ⌝ }
+// Where what a judged text says begins. Only a text that may have a name, or a message without `AV:`, is looked at.
+fn start_of(y: Style, s: &[u8], from: usize) -> Begun
     requires { ⌜ from ≤ length (now s) ⌝ }
     requires { ⌜ isValue (readText y from (drop from (now s))) ≡ true ⌝ }
-    ensures { λ r. ⌜ value (textsAt (now (s .entry)) r) ≡ countText (readText y from (drop from (now (s .entry)))) ⌝ }
-    ensures { λ r. ⌜ Held (now (s .entry)) r ⌝ }
+    ensures { λ r. ⌜ Begins y (now (s .entry)) from r (ofText y from (drop from (now (s .entry)))) ⌝ }
 {
-    match begin_text(y, s, from) {
-        Begun::Refused(_) => no_spans(),
-        Begun::Name => one_part(from, 0, from + 3, s.len() - from - 3),
-        Begun::Message(at) => take_message(y, s, at),
+    if varied(y) {
+        return begin_text(y, s, from);
     }
+    Begun::Message(message_start(y, s, from))
 }
 
-// The text that begins at `from`.
+// The text that begins at `from`. It was judged before: neither its bytes nor its limits are tested again.
 fn take_text(y: Style, s: &[u8], from: usize) -> Spans
     requires { ⌜ y .most ≤ 4 ⌝ }
     requires { ⌜ from ≤ length (now s) ⌝ }
@@ -197,10 +195,11 @@ fn take_text(y: Style, s: &[u8], from: usize) -> Spans
     ensures { λ r. ⌜ value (textsAt (now (s .entry)) r) ≡ countText (readText y from (drop from (now (s .entry)))) ⌝ }
     ensures { λ r. ⌜ Held (now (s .entry)) r ⌝ }
 {
-    if varied(y) {
-        return take_varied(y, s, from);
+    match start_of(y, s, from) {
+        Begun::Refused(_) => no_spans(),
+        Begun::Name => one_part(from, 0, from + 3, s.len() - from - 3),
+        Begun::Message(at) => take_message(y, s, at),
     }
-    take_parts(s, message_start(y, s, from))
 }
 
 // The tail at `at`, behind the fields x. A symbol has digits, except where both spaces always stand there (`fixed`); what is no symbol

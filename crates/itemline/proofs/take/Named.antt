@@ -38,7 +38,7 @@ use Rattle.text.specs.division.Unnamed.{unnamed}
 use Rattle.text.proofs.division.Marks.{unnamed-long}
 use Rattle.text.proofs.division.Turns.{last-next, next-within, follow-same, follow-within, follow-part}
 use Rattle.itemline.specs.take.Named.{nameOf, withName}
-use Rattle.itemline.proofs.take.Texts.{past-yes, value-as, message-is, parts-held}
+use Rattle.itemline.proofs.take.Texts.{past-yes, value-as, message-is, parts-held, start-within, text-at, varied-not}
 
 -- ---- take_parts: a is what part_at answered
 
@@ -270,18 +270,28 @@ module _ (y : Style) (small : y .most ≤ 4) (s : List ℕ) (from : ℕ) (l : fr
 
 pub ruleset messages = (message-few, named-is, named-held, nameless-is, nameless-held)
 
--- ---- take_varied: q is what begin_text answered
+-- ---- start_of: where the message of a text that is not looked at begins
+
+of-text : (y : Style) (s : List ℕ) (from : ℕ) → isValue (readText y from (drop from s)) ≡ true
+    → (all isText (drop from s) ≡ true) × (readText y from (drop from s) ≡ ofText y from (drop from s))
+unfolding readText
+of-text y s from h = past-yes (all isText (drop from s)) 4 (ofText y from (drop from s)) h
+
+pub starts-plain : (y : Style) (s : List ℕ) (from : ℕ) → from ≤ length s → pick (y .names) true (y .may) ≡ false → isValue (readText y from (drop from s)) ≡ true
+    → (m : ℕ) → m ≡ pick (y .av) (from + 3) from → Begins y s from (begun.Message m) (ofText y from (drop from s))
+starts-plain y s from l plain h m g =
+    record { means = sym (text-at y s from l plain h m g) ∙ of-text y s from h .1; room = start-within y s from l plain h m g }
+
+pub ruleset starts-text = (varied-not, starts-plain)
+
+-- ---- take_text: q is what start_of answered
 
 module _ (y : Style) (s : List ℕ) (from : ℕ) (l : from ≤ length s) (h : isValue (readText y from (drop from s)) ≡ true) (q : Begun)
     (t : Begins y s from q (ofText y from (drop from s))) where
-  of-text : (all isText (drop from s) ≡ true) × (readText y from (drop from s) ≡ ofText y from (drop from s))
-  unfolding readText
-  of-text = past-yes (all isText (drop from s)) 4 (ofText y from (drop from s)) h
-
   module _ (n : ℕ) (e : q ≡ begun.Refused n) (f : Spans) where
     nothing : {P : Type 0} → P
     unfolding isValue
-    nothing = never (sym (value-as _ _ h (of-text .1 ∙ sym (rw e at (t .means)))))
+    nothing = never (sym (value-as _ _ h (of-text y s from h .1 ∙ sym (rw e at (t .means)))))
 
     pub refused-not : value (textsAt s f) ≡ countText (readText y from (drop from s))
     refused-not = nothing
@@ -300,8 +310,8 @@ module _ (y : Style) (s : List ℕ) (from : ℕ) (l : from ≤ length s) (h : is
       name-tells : Tells s (fittedOne y from 0 (from + 3) (length s - from - 3)) (readText y from (drop from s))
       name-tells =
           record {
-            says = read-name y s from l (all isText (drop from s)) refl (of-text .0) q t e small _ refl;
-            inside = inside-name y s from l (all isText (drop from s)) refl (of-text .0) q t e small _ refl;
+            says = read-name y s from l (all isText (drop from s)) refl (of-text y s from h .0) q t e small _ refl;
+            inside = inside-name y s from l (all isText (drop from s)) refl (of-text y s from h .0) q t e small _ refl;
           }
 
       name-found : (value (textsAt s (oneAt from 0 (from + 3) (length s - from - 3))) ≡ countText (readText y from (drop from s))) × Held s (oneAt from 0 (from + 3) (length s - from - 3))
@@ -320,7 +330,7 @@ module _ (y : Style) (s : List ℕ) (from : ℕ) (l : from ≤ length s) (h : is
     begins-within = rw e at (t .room)
 
     same : message y at (drop at s) ≡ readText y from (drop from s)
-    same = (rw e at (t .means)) ∙ sym (of-text .1)
+    same = (rw e at (t .means)) ∙ sym (of-text y s from h .1)
 
     pub begins-value : isValue (message y at (drop at s)) ≡ true
     begins-value = value-as _ _ h (sym same)
@@ -328,4 +338,4 @@ module _ (y : Style) (s : List ℕ) (from : ℕ) (l : from ≤ length s) (h : is
     pub begins-is : (r : Spans) → value (textsAt s r) ≡ countText (message y at (drop at s)) → value (textsAt s r) ≡ countText (readText y from (drop from s))
     begins-is r k = k ∙ ap countText same
 
-pub ruleset varied-texts = (refused-not, refused-none, name-room, name-long, name-is, name-held, begins-within, begins-value, begins-is)
+pub ruleset judged-texts = (refused-not, refused-none, name-room, name-long, name-is, name-held, begins-within, begins-value, begins-is)

@@ -2,10 +2,8 @@
 use mathlib.Core.Path.{_≡_, refl, sym, ap, _∙_}
 use mathlib.Core.Bool.{Bool, true, false}
 use mathlib.Core.List.{List, [], map}
-use Prim.Native.Nat.{ℕ, _+_, _≤_, _<_}
+use Prim.Native.Nat.{ℕ, _+_, _≤_}
 use native.Mathlib.Omega.{arith}
-use mir.Val.{Fits}
-use mir.Syntax.{w64}
 use lib.Dec.{ltb}
 use lib.ListN.{length, drop, drop-of-length-le, length-drop}
 use lib.Seq.{take-length, drop-drop}
@@ -129,11 +127,8 @@ module _ (y : Style) (s : List ℕ) (from : ℕ) (l : from ≤ length s) (plain 
     av-there : (starts av t ≡ true) × (pick (starts av t) (message y (from + 3) (drop 3 t)) (fault 14) ≡ message y (from + 3) (drop 3 t))
     av-there = past-yes (starts av t) 14 (message y (from + 3) (drop 3 t)) (value-as _ _ h (to-marked ∙ to-av))
 
-    pub av-within : from + 3 ≤ length s
+    av-within : from + 3 ≤ length s
     av-within = omega (arith, starts-long av t (av-there .0), length-drop from s)
-
-    pub av-room : length s < 18446744073709551616 → Fits w64 (from + 3)
-    av-room b = omega (arith, av-within)
 
     text-av : readText y from t ≡ message y (from + 3) (drop (from + 3) s)
     text-av = to-marked ∙ (to-av ∙ (av-there .1 ∙ rw drop-drop))
@@ -151,15 +146,8 @@ module _ (y : Style) (s : List ℕ) (from : ℕ) (l : from ≤ length s) (plain 
     pub start-within : m ≤ length s
     start-within = begins (y .av) refl .0
 
-    pub text-is : y .most ≤ 4 → (f : Spans) → f ≡ fourFrom s m 0 0 → value (textsAt s f) ≡ countText (readText y from (drop from s))
-    text-is small f e =
-        let q = begins (y .av) refl .1 in
-        rw e (message-is y small nameless s m start-within (value-as _ _ h q) ∙ ap countText (sym q))
-
-    pub text-held : (f : Spans) → f ≡ fourFrom s m 0 0 → Held s f
-    text-held f e = parts-held s m f start-within e
+    pub text-at : readText y from (drop from s) ≡ message y m (drop m s)
+    text-at = begins (y .av) refl .1
 
 pub varied-not : (y : Style) (t : Bool) → t ≡ pick (y .names) true (y .may) → t ≡ false → pick (y .names) true (y .may) ≡ false
 varied-not y t g e = sym g ∙ e
-
-pub ruleset plain-texts = (varied-not, av-room, start-within, text-is, text-held)
