@@ -15,9 +15,8 @@ use Rattle.base.proofs.Put.{put-seam}
 use Rattle.paper.specs.Words.{wordsBytes}
 use Rattle.out.proofs.word.Laws.{words-length}
 use Rattle.numeral.specs.counted.Counted.{Counted}
-use Rattle.numeral.proofs.counted.Laws.{_counted-then_}
+use Rattle.numeral.proofs.counted.Laws.{counted-nothing, _counted-then_}
 use Rattle.why.specs.declared.Finding.{Finding}
-use Rattle.sentences.proofs.Parts.{counted-nothing}
 use Rattle.listing.specs.declared.Telling.{Telling}
 use Rattle.listing.specs.Listed.{entry, spelled, listed}
 

@@ -1,19 +1,14 @@
--- Texts counted: none, of several parts one after another, and by a test. Assumes nothing.
-use mathlib.Core.Path.{_≡_, refl, sym, _∙_}
+-- Texts counted: of several parts one after another, and by a test. Assumes nothing.
+use mathlib.Core.Path.{_≡_, sym, _∙_}
 use mathlib.Core.Bool.{Bool, true, false}
-use mathlib.Core.List.{List, [], _++_}
+use mathlib.Core.List.{List, _++_}
 use Prim.Native.Nat.{ℕ, _<_, _≤_}
-use native.Mathlib.Nat.{add-zero}
 use lib.Dec.{eqb, ltb}
 use borrow.Author.Tests.{eq-eqb, ne-eqb, lt-ltb, le-ltb}
 use Rattle.base.specs.Pick.{pick}
 use Rattle.base.proofs.Cases.{pick-true, pick-false}
-use Rattle.base.proofs.Put.{put-nil}
 use Rattle.numeral.specs.counted.Counted.{Counted}
-use Rattle.numeral.proofs.counted.Laws.{_counted-then_}
-
-pub counted-nothing : {o : List ℕ} {at : ℕ} → Counted o at [] o at
-counted-nothing {o} {at} = record { long = refl; next = λ h. sym (add-zero at); left = λ h room. sym (put-nil o at) }
+use Rattle.numeral.proofs.counted.Laws.{counted-nothing, _counted-then_}
 
 -- ---- parts: t is the whole, however its parts are bracketed
 

@@ -8,7 +8,7 @@ use borrow.Author.Tests.{ne-eqb}
 use Rattle.base.specs.Pick.{pick}
 use Rattle.base.proofs.Cases.{pick-false}
 use Rattle.numeral.specs.counted.Counted.{Counted}
-use Rattle.sentences.proofs.Parts.{counted-nothing}
+use Rattle.numeral.proofs.counted.Laws.{counted-nothing}
 use Rattle.sentences.specs.Phrases.{Phrase, said}
 
 -- `pick` and `said`, open everywhere, so that the words of a known number are computed

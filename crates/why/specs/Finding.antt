@@ -11,7 +11,7 @@ use Rattle.paper.specs.Batch.{sum, most14}
 use Rattle.paper.specs.Lines.{Line, linesOf}
 use Rattle.paper.specs.Entries.{Kind, kindOf}
 use Rattle.paper.specs.Spells.{groupItems}
-use Rattle.paper.specs.Judge.{InGroup, State, atFirst, atFile, atGroup, atItem, stop, contextOf, isDue, isFull, itemsOf, step}
+use Rattle.paper.specs.Judge.{Answer, Refused, Accepted, InGroup, State, atFirst, atFile, atGroup, atItem, stop, contextOf, isDue, isFull, itemsOf, step}
 use Rattle.why.specs.declared.Finding.{Finding}
 use Rattle.why.specs.Names.{Name, groupTotal, wholeLine, fieldNumber}
 use Rattle.why.specs.Walk.{Walked, passed, stopped, whyAs}
@@ -103,6 +103,11 @@ halted atFirst = false
 halted (atFile x) = false
 halted (atGroup x) = false
 halted (atItem x) = false
+
+-- is the file accepted?
+unfoldable pub accepts : Answer → Bool
+accepts (Refused n l p) = false
+accepts (Accepted h b w) = true
 
 -- where judging halts: the number of the line, the lines from there on, and what was reached before it
 pub record Halt : Type 0 where

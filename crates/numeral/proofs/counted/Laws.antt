@@ -1,12 +1,16 @@
--- Laws of counting writers: one after another, and where there is room. Assumes nothing.
-use mathlib.Core.Path.{_≡_, _∙_}
-use mathlib.Core.List.{List, _++_}
+-- Laws of counting writers: of nothing, one after another, and where there is room. Assumes nothing.
+use mathlib.Core.Path.{_≡_, refl, sym, _∙_}
+use mathlib.Core.List.{List, [], _++_}
 use Prim.Native.Nat.{ℕ, _+_, _^_, _≤_, _<_}
+use native.Mathlib.Nat.{add-zero}
 use native.Mathlib.Omega.{arith}
 use lib.ListN.{length, length-append}
 use Rattle.base.specs.Put.{Wrote}
-use Rattle.base.proofs.Put.{put-put}
+use Rattle.base.proofs.Put.{put-nil, put-put}
 use Rattle.numeral.specs.counted.Counted.{Counted}
+
+pub counted-nothing : {o : List ℕ} {at : ℕ} → Counted o at [] o at
+counted-nothing {o} {at} = record { long = refl; next = λ h. sym (add-zero at); left = λ h room. sym (put-nil o at) }
 
 infixr 30 _counted-then_
 -- one counting writer after another

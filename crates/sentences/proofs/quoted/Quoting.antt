@@ -10,9 +10,8 @@ use lib.Seq.{take-suc, take-all, length-take-le}
 use Rattle.base.proofs.Cases.{pick-true, pick-false}
 use Rattle.paper.specs.Bytes.{bytes, null}
 use Rattle.numeral.specs.counted.Counted.{Counted}
-use Rattle.numeral.proofs.counted.Laws.{_counted-then_}
+use Rattle.numeral.proofs.counted.Laws.{counted-nothing, _counted-then_}
 use Rattle.sentences.specs.Quoted.{isPlain, hexDigit, quotedByte, quotedBytes, quoted, quotedOr}
-use Rattle.sentences.proofs.Parts.{counted-nothing}
 
 -- ---- one byte: t is whether it is plain, h and l are its digits of sixteen
 

@@ -1,7 +1,8 @@
 -- `put_of_how_many` puts of how many bytes they are the first.
 use borrow.Author.Needs.{needs}
 use Rattle.sentences.specs.Quoted.{ofHowMany}
-use Rattle.sentences.proofs.Parts.{counted-lt, counted-ge, counted-nothing, in-three}
+use Rattle.numeral.proofs.counted.Laws.{counted-nothing}
+use Rattle.sentences.proofs.Parts.{counted-lt, counted-ge, in-three}
 use Rattle.sentences.proofs.quoted.put_of_how_many.Statement.{statement}
 use Rattle.sentences.proofs.quoted.put_of_how_many.Tie as tie
 
