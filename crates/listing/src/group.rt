@@ -1,8 +1,7 @@
 // What a group's line warns of: a total that is not the exact sum of the items that follow, and a day that is past.
 use crate::Telling;
-use calendar::term::Banks;
 use groupline::GroupRead;
-use itemline::judge::Judged;
+use itemline::take::take_item;
 use scan::kind::LineKind;
 use sheet::Sheet;
 use why::Finding;
@@ -17,20 +16,15 @@ ghost use Rattle.paper.specs.Warnings.{pastDay, notices};
 ghost use Rattle.paper.specs.Batch.{most14};
 ghost use Rattle.paper.specs.Bytes.{space};
 ghost use Rattle.paper.specs.Days.{realDay};
-ghost use Rattle.paper.specs.Entries.{totalAt};
+ghost use Rattle.paper.specs.Entries.{itemLine, kindOf, totalAt};
+ghost use Rattle.paper.specs.Judge.{is};
 ghost use Rattle.paper.specs.Lines.{linesFrom};
-ghost use Rattle.paper.specs.Spells.{forItem};
+ghost use Rattle.paper.specs.Rows.{accepted};
 ghost use Rattle.numeral.specs.counted.Counted.{Counted};
 ghost use Rattle.why.specs.Warned.{noticed, differing, ahead};
 ghost use Rattle.listing.specs.Listed.{listed};
 ghost use Rattle.listing.specs.group.Warned.{groupWarned, cut, lineIn, atField};
-ghost use Rattle.listing.specs.group.Ahead.{Banked, Adding};
-
-// What one line gives to the sum of a group's items: an item's amount; or it ends the sum.
-pub enum Adds {
-    Item(u64),
-    End,
-}
+ghost use Rattle.listing.specs.group.Ahead.{ItemsSaid};
 
 // ---- the group's line
 
@@ -146,40 +140,28 @@ pub fn put_group(
 
 // ---- the items that follow
 
-// What the line from `at` to `stop` gives to the sum of a group of this kind, date and payer, where `banks` may be due.
-fn item_ahead(f: &[u8], sh: Sheet, banks: Banks, at: usize, stop: usize, single: bool) -> Adds
-    requires { ⌜ Sane sh ⌝ }
-    requires { ⌜ (at ≤ stop) × (stop ≤ length (now f)) ⌝ }
-    ensures { λ r. ⌜ ((today kind date : ℕ) → Banked sh today banks (forItem kind date single) → Adding sh today (forItem kind date single) (lineIn (now (f .entry)) at stop) r) ⌝ }
+// Is the line s an item's?
+fn is_item(s: &[u8]) -> bool
+    ensures { λ r. ⌜ r ≡ is itemLine (kindOf (now (s .entry))) ⌝ }
 {
-    match scan::kind::kind_of(&f[at..stop]) {
-        LineKind::Item => match itemline::judge::judge_item(&f[at..stop], sh, banks, single) {
-            Judged::Item { amount, warnings } => Adds::Item(amount),
-            Judged::Refused(n, off) => Adds::End,
-        },
-        LineKind::Head => Adds::End,
-        LineKind::File => Adds::End,
-        LineKind::Group => Adds::End,
-        LineKind::GroupEnd => Adds::End,
-        LineKind::FileEnd => Adds::End,
+    match scan::kind::kind_of(s) {
+        LineKind::Item => true,
+        LineKind::Head => false,
+        LineKind::File => false,
+        LineKind::Group => false,
+        LineKind::GroupEnd => false,
+        LineKind::FileEnd => false,
     }
 }
 
-// The exact sum of the items that follow from `at` on, in a group of this kind, date and payer; past 14 digits it is not counted on.
-pub fn sum_ahead(
-    f: &[u8],
-    sh: Sheet,
-    today: u64,
-    at: usize,
-    kind: u64,
-    date: u64,
-    single: bool,
-) -> u64
-    requires { ⌜ Sane sh × (realDay today ≡ true) ⌝ }
+// The exact sum of the items that follow from `at` on, in a group that is single or not; past 14 digits it is not counted on. The items were
+// judged before, so their fields are only taken.
+pub fn sum_ahead(f: &[u8], sh: Sheet, at: usize, single: bool) -> u64
+    requires { ⌜ Sane sh ⌝ }
     requires { ⌜ at ≤ length (now f) ⌝ }
-    ensures { λ r. ⌜ (ahead sh today (forItem kind date single) (linesFrom (now (f .entry)) at) ≤ most14 → r ≡ ahead sh today (forItem kind date single) (linesFrom (now (f .entry)) at)) ⌝ }
+    requires { ⌜ ItemsSaid sh single (linesFrom (now f) at) ⌝ }
+    ensures { λ r. ⌜ ((today : ℕ) → ahead sh today (accepted single) (linesFrom (now (f .entry)) at) ≤ most14 → r ≡ ahead sh today (accepted single) (linesFrom (now (f .entry)) at)) ⌝ }
 {
-    let banks = calendar::term::banks_due(sh, today, kind, date);
     let mut at = at;
     let mut sum: u64 = 0;
     while at < f.len() {
@@ -187,14 +169,13 @@ pub fn sum_ahead(
             return sum;
         }
         let cut = scan::line::next_line(f, at);
-        match item_ahead(f, sh, banks, at, cut.stop, single) {
-            Adds::Item(amount) => {
-                sum = sum + amount;
-                at = cut.next;
-            }
-            Adds::End => {
-                return sum;
-            }
+        let stop = cut.stop;
+        if is_item(&f[at..stop]) {
+            let item = take_item(&f[at..stop], sh, single);
+            sum = sum + item.amount;
+            at = cut.next;
+        } else {
+            return sum;
         }
     }
     sum

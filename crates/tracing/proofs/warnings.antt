@@ -1,3 +1,4 @@
-pub mod Moved
+pub mod Ahead
+pub mod Says
 pub mod Puts
 pub mod Listing

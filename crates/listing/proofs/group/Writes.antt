@@ -14,7 +14,7 @@ use Rattle.paper.specs.Entries.{group, totalAt, said, onGroup, onEntry}
 use Rattle.paper.specs.GroupLine.{readGroup}
 use Rattle.paper.proofs.Passing.{counted-no}
 use Rattle.numeral.specs.counted.Counted.{Counted}
-use Rattle.numeral.proofs.counted.Laws.{_counted-then_}
+use Rattle.numeral.proofs.counted.Laws.{counted-nothing, _counted-then_}
 use Rattle.numeral.proofs.field.Front.{field-long}
 use Rattle.groupline.specs.declared.GroupRead.{GroupRead}
 use Rattle.groupline.specs.declared.GroupRead.the-variants as read
@@ -22,7 +22,6 @@ use Rattle.groupline.specs.Told.{Tells, Low}
 use Rattle.why.specs.declared.Finding.{Finding}
 use Rattle.why.specs.Names.{fieldNumber}
 use Rattle.why.specs.Warned.{onListed, warned, noticed, differing}
-use Rattle.sentences.proofs.Parts.{counted-nothing}
 use Rattle.listing.specs.declared.Telling.{Telling}
 use Rattle.listing.specs.Listed.{spelled, listed}
 use Rattle.listing.specs.group.Warned.{groupWarned, cut, lineIn, atField}

@@ -1,162 +1,173 @@
--- What is put for a line, with what the code knows at each exit. Assumes nothing.
+-- What is put for a line, and what the code asks for, by what it knows there. Assumes nothing.
 use mathlib.Core.Path.{_≡_, refl, sym, ap, _∙_}
 use mathlib.Core.Bool.{Bool, true, false}
-use mathlib.Core.List.{List, [], _∷_}
-use Prim.Native.Nat.{ℕ, _+_, _-_, _≤_}
+use mathlib.Core.List.{List, []}
+use Prim.Native.Nat.{ℕ, suc, _+_, _≤_}
 use native.Mathlib.Omega.{arith}
-use lib.ListN.{length, take, drop}
-use Rattle.base.specs.Pick.{pick}
-use Rattle.base.proofs.Cases.{either}
-use Rattle.base.proofs.Seek.{never}
+use lib.ListN.{length}
 use Rattle.sheet.specs.declared.Sheet.{Sheet}
-use Rattle.paper.specs.Batch.{Batch, Header, most14}
+use Rattle.paper.specs.Accounts.{account, isNobody}
+use Rattle.paper.specs.Batch.{most14}
 use Rattle.paper.specs.Lines.{Line, linesFrom}
+use Rattle.paper.specs.Entries.{file, plain, counted, groupLine, kindOf}
 use Rattle.paper.specs.Terms.{dayHere}
-use Rattle.paper.specs.Entries.{groupLine, kindOf}
-use Rattle.paper.specs.Spells.{forItem}
+use Rattle.paper.specs.FileLine.{readFile}
+use Rattle.paper.specs.GroupLine.{readGroup}
 use Rattle.paper.specs.ItemLine.{readItem}
-use Rattle.paper.specs.Judge.{Answer, Refused, Accepted, State, contextOf, step}
+use Rattle.paper.specs.Rows.{accepted, singleAfter, singleBehind}
+use Rattle.paper.specs.Judge.{State, contextOf, step, run}
 use Rattle.paper.proofs.Starts.{kind-long}
+use Rattle.scan.specs.declared.kind.LineKind.{LineKind}
+use Rattle.scan.specs.declared.kind.LineKind.the-variants as found
+use Rattle.scan.specs.kind.Told as kinds
 use Rattle.scan.specs.declared.line.Cut.{Cut}
+use Rattle.scan.specs.line.Cutting.{Cuts}
 use Rattle.numeral.specs.counted.Counted.{Counted}
 use Rattle.numeral.specs.placed.Said.{isSaid}
+use Rattle.fileline.specs.declared.take.File.{File}
+use Rattle.fileline.specs.take.Any.{anyNumber}
+use Rattle.groupline.specs.declared.take.Group.{Group}
+use Rattle.groupline.specs.take.Taken.{Opens}
 use Rattle.itemline.specs.Walk.{anyBank}
-use Rattle.exact.proofs.Moves.{Moves, Next, on, halted as breaks, stays, next}
-use Rattle.judge.specs.declared.group.Counts.{Counts}
-use Rattle.judge.specs.declared.group.Shelf.{Shelf}
-use Rattle.judge.specs.declared.group.Held.{Held}
-use Rattle.judge.specs.group.Stands.{lineIn}
-use Rattle.why.specs.Finding.{halted}
+use Rattle.exact.proofs.Moves.{Moves, Next, on, halted, stays, next}
+use Rattle.why.specs.Finding.{accepts}
+use Rattle.why.specs.declared.Finding.{Finding}
 use Rattle.why.specs.Warned.{ahead, lineWarned}
 use Rattle.listing.specs.declared.Telling.{Telling}
 use Rattle.listing.specs.Listed.{listed}
-use Rattle.listing.specs.group.Warned.{groupWarned}
+use Rattle.listing.specs.group.Warned.{groupWarned, cut as bytesIn, lineIn}
+use Rattle.listing.specs.group.Ahead.{ItemsSaid}
 use Rattle.listing.specs.item.Warned.{itemWarned}
 use Rattle.listing.proofs.Putting.{none-put}
-use Rattle.course.specs.declared.Course.{Course}
-use Rattle.course.specs.declared.Stage.the-variants as stage
-use Rattle.course.specs.Stands.{numbersOf}
-use Rattle.course.proofs.line.Lifts.{stands-going}
-use Rattle.tracing.specs.warnings.Passing.{isAccepted, Passed, Passes, Puts}
-use Rattle.tracing.proofs.warnings.Moved.{within, opened, quiet, GroupSays, group-says, ItemSays, item-says}
+use Rattle.tracing.specs.declared.warnings.Step.{Step}
+use Rattle.tracing.specs.warnings.Passing.{Keeps, Stands, Passes, Passed, Puts}
+use Rattle.tracing.proofs.warnings.Ahead.{unbroken}
+use Rattle.tracing.proofs.warnings.Says.{Says, says}
 
--- a line that does not stop judging moves it on
-goes-on : {sh : Sheet} {today size k : ℕ} {t : Line} {ts : List Line} {st new : State} → Next sh today size k t ts st new → halted st ≡ false → halted new ≡ false → Moves sh today k t st new
-unfolding halted
-goes-on (on m) g h = m
-goes-on (breaks b) g h = never h
-goes-on stays g h = never g
+-- a group that was taken is single where its payer is nobody
+pub single-is : (sh : Sheet) (today : ℕ) (s : List ℕ) (g : Group) → Opens (readGroup sh today (dayHere sh 0) s) g
+    → (b : Bool) → b ≡ isNobody (account (g .prefix) (g .base)) → b ≡ singleBehind false (counted (readGroup sh today (dayHere sh 0) s))
+unfolding counted singleBehind singleAfter
+single-is sh today s g o b e = rw (o .says) e
 
--- an accepted file has a batch
-pub accepted-as : (a : Answer) → isAccepted a ≡ true → (h : Header) × (b : Batch) × (w : ℕ) × (a ≡ Accepted h b w)
-unfolding isAccepted
-accepted-as (Refused n l p) e = never (sym e)
-accepted-as (Accepted h b w) e = (h, b, w, refl)
+-- a group's line has two bytes or more
+pub group-long : (s : List ℕ) → kindOf s ≡ groupLine → 2 ≤ length s
+group-long s e = kind-long s groupLine e
 
-nothing-list : (t : Telling) (f : List ℕ) (o : List ℕ) (to : ℕ) (xs : _) → xs ≡ [] → Counted o to (listed t f xs) o to
-nothing-list t f o to xs e = rw e (none-put t f)
+-- what is put by the sum that was found is put by the exact one
+pub group-exact : (t : Telling) (f : List ℕ) (at : ℕ) (cut : Cut) (k kind : ℕ) (b : Bool) (here : Bool) → here ≡ dayHere (t .sheet) kind
+    → (exact : ℕ) → ((today : ℕ) → ahead (t .sheet) today (accepted b) (linesFrom f (cut .next)) ≤ most14 → exact ≡ ahead (t .sheet) today (accepted b) (linesFrom f (cut .next)))
+    → ahead (t .sheet) (t .today) (accepted b) (linesFrom f (cut .next)) ≤ most14
+    → (o o′ : List ℕ) (to r : ℕ) → Counted o to (listed t f (groupWarned (t .sheet) (t .today) k (lineIn f at (cut .stop)) here exact)) o′ r
+    → Counted o to (listed t f (groupWarned (t .sheet) (t .today) k (lineIn f at (cut .stop)) (dayHere (t .sheet) kind) (ahead (t .sheet) (t .today) (accepted b) (linesFrom f (cut .next))))) o′ r
+group-exact t f at cut k kind b here e exact q low o o′ to r w = rw (e, q (t .today) low) at w
 
-module _ (t : Telling) (f : List ℕ) (at : ℕ) (cut : Cut) (k : ℕ) (x y : Course) where
-  moved : (st : State) → Passed t f at cut k x y st → Moves (t .sheet) (t .today) k (lineIn f at (cut .stop)) st (step (t .sheet) (t .today) k (lineIn f at (cut .stop)) st)
-  moved st p =
-      goes-on (next (t .sheet) (t .today) (length f) k (lineIn f at (cut .stop)) (linesFrom f (cut .next)) st)
-      (stands-going x (p .before) st (p .stands)) (stands-going y (p .after) _ (p .leads))
+module _ (t : Telling) (f : List ℕ) (at : ℕ) (cut : Cut) (cuts : Cuts f at cut) (k : ℕ) (x : Step) where
+  abbrev here : Line
+  here = lineIn f at (cut .stop)
 
-  -- ---- a line that warns of nothing
+  abbrev later : List Line
+  later = linesFrom f (cut .next)
 
-  -- in numbers, whatever the header and the earlier numbers are
-  puts-nothing : ((h g : Header) (l m : List ℕ) → pick (within (numbersOf h l (x .stage))) (opened (numbersOf g m (y .stage))) false ≡ false)
-      → (o : List ℕ) (to : ℕ) → Puts t f at cut k x y o to o to
-  puts-nothing q o to st p =
-      nothing-list t f o to _
-      (quiet (t .sheet) (t .today) k (lineIn f at (cut .stop)) (linesFrom f (cut .next)) st _ (moved st p)
-      (rw (p .stands .numbers, p .leads .numbers) (q _ _ _ _)))
+  abbrev behind : State → State
+  behind st = step (t .sheet) (t .today) k (lineIn f at (cut .stop)) st
 
-  module _ (o : List ℕ) (to : ℕ) where
-    pub from-first : x .stage ≡ stage.First → Puts t f at cut k x y o to o to
-    unfolding pick
-    from-first e = puts-nothing (λ h g l m. rw e) o to
+  abbrev Good : State → Type 0
+  Good new = accepts (run (t .sheet) (t .today) (length f) (suc k) (linesFrom f (cut .next)) new) ≡ true
 
-    pub from-file : (c : Counts) → x .stage ≡ stage.File c → Puts t f at cut k x y o to o to
-    unfolding pick
-    from-file c e = puts-nothing (λ h g l m. rw e) o to
+  -- from behind the line on the file is accepted too
+  good : (st : State) → Stands t f at k x st → Good (behind st)
+  unfolding run
+  good st s = rw (cuts .lines) at (s .accepted)
 
-    pub to-first : y .stage ≡ stage.First → Puts t f at cut k x y o to o to
-    to-first e = puts-nothing (λ h g l m. rw e (either (λ z. z ≡ false) (within (numbersOf h l (x .stage))) (λ _. refl) (λ _. refl))) o to
+  -- so the line breaks no rule
+  moves : (st new : State) → Next (t .sheet) (t .today) (length f) k here later st new → Keeps x st → Good new → Moves (t .sheet) (t .today) k here st new
+  moves st new (on m) keeps a = m
+  moves st new (halted {n = n} {l = l} {p = p} b) keeps a = unbroken (t .sheet) (t .today) (length f) (suc k) later n l p a
+  moves st new stays keeps a = absurd keeps
 
-    pub to-file : (c : Counts) → y .stage ≡ stage.File c → Puts t f at cut k x y o to o to
-    to-file c e = puts-nothing (λ h g l m. rw e (either (λ z. z ≡ false) (within (numbersOf h l (x .stage))) (λ _. refl) (λ _. refl))) o to
+  pub moved : (st : State) → Stands t f at k x st → Moves (t .sheet) (t .today) k (lineIn f at (cut .stop)) st (step (t .sheet) (t .today) k (lineIn f at (cut .stop)) st)
+  moved st s = moves st (behind st) (next (t .sheet) (t .today) (length f) k here later st) (s .keeps) (good st s)
 
-    pub to-group : (c : Counts) (s : Shelf) → y .stage ≡ stage.Group c s → Puts t f at cut k x y o to o to
-    to-group c s e = puts-nothing (λ h g l m. rw e (either (λ z. z ≡ false) (within (numbersOf h l (x .stage))) (λ _. refl) (λ _. refl))) o to
+  -- what it warns of is put, and y is kept
+  passed : (st : State) → Stands t f at k x st → (o o′ : List ℕ) (y : Step) → Keeps y (behind st) → (fs : List Finding)
+      → lineWarned (t .sheet) (t .today) k here later (contextOf st) ≡ fs → Counted o (x .next) (listed t f fs) o′ (y .next) → Passed t f at cut k x st o o′ y
+  passed st s o o′ y keeps fs e w =
+      let one : suc k ≡ k + 1 = omega arith in
+      record { put = rw e w; stands = record { keeps = keeps; accepted = rw one at (good st s) } }
 
-  -- ---- a group's line
+  -- r is the kind that was found
+  module _ (r : LineKind) (tells : kinds.told r ≡ kindOf (bytesIn f at (cut .stop))) where
+    says-of : (v : LineKind) → r ≡ v → (st : State) → Stands t f at k x st → Says (t .sheet) (t .today) k here later x (kinds.told v) st (behind st)
+    says-of v e st s =
+        let kind : kindOf (bytesIn f at (cut .stop)) ≡ kinds.told v = sym tells ∙ ap kinds.told e in
+        rw kind at (says (t .sheet) (t .today) k here later x (length f) st (behind st) (moved st s) (s .keeps) (good st s))
 
-  module _ (c : Counts) (s : Shelf) (was : x .stage ≡ stage.Group c s) (held : Held) (is : y .stage ≡ stage.Item held) where
-    abbrev exactly : ℕ
-    exactly = ahead (t .sheet) (t .today) (forItem (s .kind) (held .opened .date) (held .opened .single)) (linesFrom f (cut .next))
+    -- ---- the first line, and both that close
 
-    pub record Says (st : State) : Type 0 where
-      pub kind : kindOf (lineIn f at (cut .stop) .bytes) ≡ groupLine
-      pub warns : lineWarned (t .sheet) (t .today) k (lineIn f at (cut .stop)) (linesFrom f (cut .next)) (contextOf st)
-          ≡ groupWarned (t .sheet) (t .today) k (lineIn f at (cut .stop)) (dayHere (t .sheet) (s .kind)) exactly
-      pub low : exactly ≤ most14
+    pub head-put : r ≡ found.Head → (o : List ℕ) → Puts t f at cut k x o o x
+    head-put e o st s = let z = says-of found.Head e st s in passed st s o o x (z .keeps) [] (z .none) (none-put t f)
 
-    says : (st : State) → Passed t f at cut k x y st → Says st
-    says st p =
-        let before = p .stands .numbers ∙ ap (numbersOf (p .stands .header) (p .stands .earlier)) was in
-        let after = p .leads .numbers ∙ ap (numbersOf (p .leads .header) (p .leads .earlier)) is in
-        let (h, b, w, run) = accepted-as _ (p .accepted) in
-        let g = group-says (t .sheet) (t .today) k (lineIn f at (cut .stop)) (linesFrom f (cut .next)) (length f) st _ (moved st p) (ap opened before) (ap opened after) run in
-        let z : GroupSays (t .sheet) (t .today) k (lineIn f at (cut .stop)) (linesFrom f (cut .next)) (numbersOf (p .stands .header) (p .stands .earlier) (stage.Group c s)) (numbersOf (p .leads .header) (p .leads .earlier) (stage.Item held)) st
-        = rw (before, after) at g in
-        record { kind = z .kind; warns = z .warns; low = z .low }
+    pub group-end-put : r ≡ found.GroupEnd → (o : List ℕ) → Puts t f at cut k x o o x
+    group-end-put e o st s = let z = says-of found.GroupEnd e st s in passed st s o o x (z .keeps) [] (z .none) (none-put t f)
 
-    pub group-long : Passes t f at cut k x y → 2 ≤ length (take (cut .stop - at) (drop at f))
-    group-long p = kind-long _ groupLine (says (p .state) (p .passed) .kind)
+    pub file-end-put : r ≡ found.FileEnd → (o : List ℕ) → Puts t f at cut k x o o x
+    file-end-put e o st s = let z = says-of found.FileEnd e st s in passed st s o o x (z .keeps) [] (z .none) (none-put t f)
 
-    pub group-put : (here : Bool) → here ≡ dayHere (t .sheet) (s .kind) → (exact : ℕ)
-        → (ahead (t .sheet) (t .today) (forItem (s .kind) (held .opened .date) (held .opened .single)) (linesFrom f (cut .next)) ≤ most14
-        → exact ≡ ahead (t .sheet) (t .today) (forItem (s .kind) (held .opened .date) (held .opened .single)) (linesFrom f (cut .next)))
-        → (o o′ : List ℕ) (to r : ℕ) → Counted o to (listed t f (groupWarned (t .sheet) (t .today) k (lineIn f at (cut .stop)) here exact)) o′ r
-        → Puts t f at cut k x y o to o′ r
-    group-put here e exact q o o′ to r w st p = let z = says st p in rw (z .warns) (rw (e, q (z .low)) at w)
+    -- ---- an account file's line
 
-  -- ---- an item's line
+    module _ (e : r ≡ found.File) where
+      pub file-read : Passes t f at k x → isSaid (readFile (t .sheet) anyNumber (bytesIn f at (cut .stop))) ≡ true
+      file-read p = says-of found.File e (p .state) (p .stands) .ready
 
-  module _ (held : Held) (was : x .stage ≡ stage.Item held) (more : Held) (is : y .stage ≡ stage.Item more) where
-    pub record Tells (st : State) : Type 0 where
-      pub ready : isSaid (readItem (t .sheet) anyBank (held .opened .single) (lineIn f at (cut .stop) .bytes)) ≡ true
-      pub warns : lineWarned (t .sheet) (t .today) k (lineIn f at (cut .stop)) (linesFrom f (cut .next)) (contextOf st)
-          ≡ itemWarned (t .sheet) (t .today) k (lineIn f at (cut .stop)) (held .opened .single)
-      pub counts : more .counts .warnings
-          ≡ held .counts .warnings + length (lineWarned (t .sheet) (t .today) k (lineIn f at (cut .stop)) (linesFrom f (cut .next)) (contextOf st))
+      pub file-put : (a : File) → plain (file (a .kind) (a .number)) ≡ readFile (t .sheet) anyNumber (bytesIn f at (cut .stop)) → (o : List ℕ)
+          → Puts t f at cut k x o o (record { next = x .next; kind = a .kind; single = x .single })
+      file-put a q o st s =
+          let z = says-of found.File e st s in
+          let y : Step = record { next = x .next; kind = a .kind; single = x .single } in
+          passed st s o o y (z .keeps y (a .number) q) [] (z .none) (none-put t f)
 
-    tells : (st : State) → Passed t f at cut k x y st → Tells st
-    tells st p =
-        let before = p .stands .numbers ∙ ap (numbersOf (p .stands .header) (p .stands .earlier)) was in
-        let after = p .leads .numbers ∙ ap (numbersOf (p .leads .header) (p .leads .earlier)) is in
-        let g = item-says (t .sheet) (t .today) k (lineIn f at (cut .stop)) (linesFrom f (cut .next)) st _ (moved st p) (ap opened before) (ap opened after) in
-        let z : ItemSays (t .sheet) (t .today) k (lineIn f at (cut .stop)) (linesFrom f (cut .next)) (numbersOf (p .stands .header) (p .stands .earlier) (stage.Item held)) (numbersOf (p .leads .header) (p .leads .earlier) (stage.Item more)) st
-        = rw (before, after) at g in
-        record { ready = z .ready; warns = z .warns; counts = z .counts }
+    -- ---- a group's line
 
-    pub item-read : Passes t f at cut k x y → isSaid (readItem (t .sheet) anyBank (held .opened .single) (take (cut .stop - at) (drop at f))) ≡ true
-    item-read p = tells (p .state) (p .passed) .ready
+    module _ (e : r ≡ found.Group) where
+      pub group-kind : kindOf (bytesIn f at (cut .stop)) ≡ groupLine
+      group-kind = sym tells ∙ ap kinds.told e
 
-    none : {A : Type 0} (xs : List A) → length xs ≡ 0 → xs ≡ []
-    none [] e = refl
-    none (a ∷ xs) e = absurd (omega arith)
+      pub group-read : Passes t f at k x → isSaid (readGroup (t .sheet) (t .today) (dayHere (t .sheet) 0) (bytesIn f at (cut .stop))) ≡ true
+      group-read p = says-of found.Group e (p .state) (p .stands) .ready
 
-    pub item-silent : held .counts .warnings ≡ more .counts .warnings → (o : List ℕ) (to : ℕ) → Puts t f at cut k x y o to o to
-    item-silent e o to st p = nothing-list t f o to _ (none _ (omega (arith, tells st p .counts)))
+      module _ (b : Bool) (is : b ≡ singleBehind false (counted (readGroup (t .sheet) (t .today) (dayHere (t .sheet) 0) (bytesIn f at (cut .stop))))) where
+        pub group-items : Passes t f at k x → ItemsSaid (t .sheet) b (linesFrom f (cut .next))
+        group-items p = rw is (says-of found.Group e (p .state) (p .stands) .items)
 
-    pub item-put : (o o′ : List ℕ) (to r : ℕ) → Counted o to (listed t f (itemWarned (t .sheet) (t .today) k (lineIn f at (cut .stop)) (held .opened .single))) o′ r
-        → Puts t f at cut k x y o to o′ r
-    item-put o o′ to r w st p = rw (tells st p .warns) w
+        pub group-low : Passes t f at k x → ahead (t .sheet) (t .today) (accepted b) (linesFrom f (cut .next)) ≤ most14
+        group-low p = rw is (says-of found.Group e (p .state) (p .stands) .low)
 
-pub ruleset quiets = (from-first, from-file, to-first, to-file, to-group)
+        pub group-put : (o o′ : List ℕ) (n : ℕ)
+            → Counted o (x .next) (listed t f (groupWarned (t .sheet) (t .today) k (lineIn f at (cut .stop)) (dayHere (t .sheet) (x .kind)) (ahead (t .sheet) (t .today) (accepted b) (linesFrom f (cut .next))))) o′ n
+            → Puts t f at cut k x o o′ (record { next = n; kind = x .kind; single = b })
+        group-put o o′ n w st s =
+            let z = says-of found.Group e st s in
+            let y : Step = record { next = n; kind = x .kind; single = b } in
+            passed st s o o′ y (z .keeps y refl is) _ (z .warns) (rw is at w)
 
-pub ruleset groups = (group-long, group-put)
+    -- ---- an item's line
 
-pub ruleset items = (item-read, item-silent, item-put)
+    module _ (e : r ≡ found.Item) where
+      pub item-read : Passes t f at k x → isSaid (readItem (t .sheet) anyBank (x .single) (bytesIn f at (cut .stop))) ≡ true
+      item-read p = says-of found.Item e (p .state) (p .stands) .ready
+
+      pub item-put : (o o′ : List ℕ) (n : ℕ) → Counted o (x .next) (listed t f (itemWarned (t .sheet) (t .today) k (lineIn f at (cut .stop)) (x .single))) o′ n
+          → Puts t f at cut k x o o′ (record { next = n; kind = x .kind; single = x .single })
+      item-put o o′ n w st s =
+          let z = says-of found.Item e st s in
+          let y : Step = record { next = n; kind = x .kind; single = x .single } in
+          passed st s o o′ y (z .keeps y refl refl) _ (z .warns) w
+
+pub ruleset quiets = (head-put, group-end-put, file-end-put)
+
+pub ruleset files = (file-read, file-put)
+
+pub ruleset groups = (group-kind, group-read, group-items, group-low, group-put)
+
+pub ruleset items = (item-read, item-put)

@@ -2,19 +2,15 @@
 use borrow.Author.Needs.{needs}
 use Prim.Native.Nat.{_-_}
 use lib.ListN.{length}
-use Rattle.paper.specs.Spells.{forItem}
 use Rattle.listing.proofs.group.Sums.{Summing, sums}
 use Rattle.listing.proofs.group.sum_ahead.Statement.{statement}
 use Rattle.listing.proofs.group.sum_ahead.Tie as tie
 
 abbrev Inv-loop : tie.InvT-loop
-Inv-loop f sh today at kind date single banks at₀ sum₀ at' sum = Summing sh today banks f (forItem kind date single) at₀ at' sum
+Inv-loop f sh at single at₀ sum₀ at' sum = Summing sh f single at₀ at' sum
 
 abbrev μ-loop : tie.MeasureT-loop
-μ-loop f sh today at kind date single banks at₀ sum₀ at' sum = length f - at'
-
-banks-due-requires : tie.Need-banks-due-requires Inv-loop μ-loop
-banks-due-requires c κs = search (sums, needs)
+μ-loop f sh at single at₀ sum₀ at' sum = length f - at'
 
 loop-holds : tie.Need-loop-holds Inv-loop μ-loop
 loop-holds c = search (sums, needs)
@@ -25,11 +21,29 @@ returns c = search sums
 next-line-requires : tie.Need-next-line-requires Inv-loop μ-loop
 next-line-requires c κs = search (sums, needs)
 
-item-ahead-requires : tie.Need-item-ahead-requires Inv-loop μ-loop
-item-ahead-requires c κs = search (sums, needs)
+sub-is-item : tie.Need-sub-is-item Inv-loop μ-loop
+sub-is-item c = search (sums, needs)
 
-enum-known-amount : tie.Need-enum-known-amount Inv-loop μ-loop
-enum-known-amount c = search (sums, needs)
+part-is-item-start : tie.Need-part-is-item-start Inv-loop μ-loop
+part-is-item-start c = search (sums, needs)
+
+part-is-item-end : tie.Need-part-is-item-end Inv-loop μ-loop
+part-is-item-end c = search (sums, needs)
+
+is-item-requires : tie.Need-is-item-requires Inv-loop μ-loop
+is-item-requires c κs = search (sums, needs)
+
+sub-take-item : tie.Need-sub-take-item Inv-loop μ-loop
+sub-take-item c = search (sums, needs)
+
+part-take-item-start : tie.Need-part-take-item-start Inv-loop μ-loop
+part-take-item-start c = search (sums, needs)
+
+part-take-item-end : tie.Need-part-take-item-end Inv-loop μ-loop
+part-take-item-end c = search (sums, needs)
+
+take-item-requires : tie.Need-take-item-requires Inv-loop μ-loop
+take-item-requires c κs = search (sums, needs)
 
 add-sum : tie.Need-add-sum Inv-loop μ-loop
 add-sum c = search (sums, needs)
@@ -39,9 +53,6 @@ loop-less c = search (sums, needs)
 
 loop-again : tie.Need-loop-again Inv-loop μ-loop
 loop-again c = search (sums, needs)
-
-enum-told : tie.Need-enum-told Inv-loop μ-loop
-enum-told c = search (sums, needs)
 
 returns-2 : tie.Need-returns-2 Inv-loop μ-loop
 returns-2 c = search sums
@@ -55,15 +66,19 @@ sum-ahead-spec =
     (tie.spec
     Inv-loop
     μ-loop
-    banks-due-requires
     loop-holds
     returns
     next-line-requires
-    item-ahead-requires
-    enum-known-amount
+    sub-is-item
+    part-is-item-start
+    part-is-item-end
+    is-item-requires
+    sub-take-item
+    part-take-item-start
+    part-take-item-end
+    take-item-requires
     add-sum
     loop-less
     loop-again
-    enum-told
     returns-2
     returns-3)
