@@ -1,4 +1,4 @@
-// One line where a pass stands: it is judged as judging does it, and the pass stands behind it, or judging halts there.
+// One line outside a group: it is judged as judging does it, and the pass stands behind it, or judging halts there.
 use crate::Course;
 use crate::Move;
 use crate::Stage;
@@ -8,10 +8,7 @@ use fileline::seen::Seen;
 use firstline::FirstRead;
 use judge::accountfile::Opening;
 use judge::group::Counts;
-use judge::group::GroupEnd;
-use judge::group::Held;
 use judge::group::Shelf;
-use judge::group::Turn;
 use scan::kind::LineKind;
 use scan::line::Cut;
 use sheet::Sheet;
@@ -20,13 +17,12 @@ ghost use mathlib.Core.Bool.{true};
 ghost use mathlib.Core.List.{List};
 ghost use Prim.Native.Nat.{ℕ, _-_, _≤_};
 ghost use lib.ListN.{length, take, drop};
-ghost use Rattle.sheet.proofs.Laws.{Sane};
 ghost use Rattle.paper.specs.Days.{realDay};
 ghost use Rattle.paper.specs.Entries.{headLine, fileLine, groupLine, fileEnd, kindOf};
 ghost use Rattle.scan.specs.line.Cutting.{Cuts};
-ghost use Rattle.judge.specs.group.Stands.{LowGroup, LowItem, lineIn, Turns};
+ghost use Rattle.judge.specs.group.Stands.{LowGroup, lineIn};
 ghost use Rattle.judge.specs.accountfile.Resume.{LowFile};
-ghost use Rattle.course.specs.Stands.{Low, LowMove, Leads, atFirst, atFile, atGroup, atItem};
+ghost use Rattle.course.specs.Stands.{LowMove, Leads, atFirst, atFile, atGroup};
 
 // No account file yet.
 const NOTHING: Counts = Counts {
@@ -66,7 +62,7 @@ fn begin(f: &[u8], sh: Sheet, at: usize, stop: usize) -> Move
 }
 
 // Before the first line.
-fn from_first(f: &[u8], sh: Sheet, at: usize, stop: usize) -> Move
+pub fn from_first(f: &[u8], sh: Sheet, at: usize, stop: usize) -> Move
     requires { ⌜ (at ≤ stop) × (stop ≤ length (now f)) ⌝ }
     ensures { λ r. ⌜ LowMove r ⌝ }
     ensures { λ r. ⌜ ((today k from to : ℕ) (words : List ℕ) → Leads sh today k (lineIn (now (f .entry)) at stop) (atFirst from to) words words r) ⌝ }
@@ -123,7 +119,7 @@ fn open_file(
 }
 
 // Between account files.
-fn from_file(
+pub fn from_file(
     f: &[u8],
     sh: Sheet,
     at: usize,
@@ -214,7 +210,7 @@ fn close_file(
 }
 
 // In an account file, between groups.
-fn from_group(
+pub fn from_group(
     f: &[u8],
     sh: Sheet,
     today: u64,
@@ -240,90 +236,5 @@ fn from_group(
         LineKind::File => Move::Halt,
         LineKind::Item => Move::Halt,
         LineKind::GroupEnd => Move::Halt,
-    }
-}
-
-// ---- a line of a group
-
-// What a line of an open group says, on this day.
-fn turn_of(f: &[u8], sh: Sheet, today: u64, at: usize, stop: usize, held: Held) -> Turn
-    requires { ⌜ Sane sh × (realDay today ≡ true) ⌝ }
-    requires { ⌜ (at ≤ stop) × (stop ≤ length (now f)) ⌝ }
-    ensures { λ r. ⌜ Turns sh today (lineIn (now (f .entry)) at stop) held r ⌝ }
-{
-    let banks = calendar::term::banks_due(sh, today, held.shelf.kind, held.opened.date);
-    judge::group::item_step(f, sh, banks, at, stop, held)
-}
-
-// In a group.
-fn from_item(
-    f: &[u8],
-    sh: Sheet,
-    today: u64,
-    at: usize,
-    stop: usize,
-    from: u64,
-    to: u64,
-    held: Held,
-) -> Move
-    requires { ⌜ Sane sh × (realDay today ≡ true) ⌝ }
-    requires { ⌜ LowItem held ⌝ }
-    requires { ⌜ (at ≤ stop) × (stop ≤ length (now f)) ⌝ }
-    ensures { λ r. ⌜ LowMove r ⌝ }
-    ensures { λ r. ⌜ ((k : ℕ) (words : List ℕ) → Leads sh today k (lineIn (now (f .entry)) at stop) (atItem from to held) words words r) ⌝ }
-{
-    match turn_of(f, sh, today, at, stop, held) {
-        Turn::Item { amount, warnings } => {
-            let more = judge::group::held_more(held, amount, warnings);
-            Move::On(Course {
-                from,
-                to,
-                stage: Stage::Item(more),
-            })
-        }
-        Turn::Close => match judge::group::close_group(sh.strict, 0, 0, held) {
-            GroupEnd::Closed {
-                at: _,
-                line: _,
-                counts,
-                shelf,
-            } => Move::On(Course {
-                from,
-                to,
-                stage: Stage::Group(counts, shelf),
-            }),
-            GroupEnd::Stop(_, _, _) => Move::Halt,
-        },
-        Turn::Stop(_, _) => Move::Halt,
-    }
-}
-
-// ---- any line
-
-// Line `line`, which starts at `at` and is cut off there, where the pass stands at x.
-pub fn step_line(
-    f: &[u8],
-    sh: Sheet,
-    today: u64,
-    at: usize,
-    cut: Cut,
-    line: u64,
-    x: Course,
-    seen: &mut [u64; 16],
-) -> Move
-    requires { ⌜ Sane sh × (realDay today ≡ true) ⌝ }
-    requires { ⌜ Cuts (now f) at cut ⌝ }
-    requires { ⌜ Low (x .stage) ⌝ }
-    ensures { λ r. ⌜ LowMove r ⌝ }
-    ensures { λ r. ⌜ Leads sh today line (lineIn (now (f .entry)) at (cut .stop)) x (now (seen .entry)) (now (seen .exit)) r ⌝ }
-{
-    let stage = x.stage;
-    match stage {
-        Stage::Item(held) => from_item(f, sh, today, at, cut.stop, x.from, x.to, held),
-        Stage::Group(counts, shelf) => {
-            from_group(f, sh, today, at, cut, line, x.from, x.to, counts, shelf)
-        }
-        Stage::File(counts) => from_file(f, sh, at, cut, x.from, x.to, counts, seen),
-        Stage::First => from_first(f, sh, at, cut.stop),
     }
 }

@@ -228,15 +228,6 @@ module _ (sh : Sheet) (today : ℕ) (f : List ℕ) (at stop : ℕ) (x : Held) (r
   says-turn : (v : Turn) → r ≡ v → Turns sh today (lineIn f at stop) x v
   says-turn v q = rw q at turns
 
-  -- what is small stays so
-  pub item-low : Sane sh → LowItem x → (amount warnings : ℕ) → r ≡ turn.Item amount warnings → LowItem (heldMore x amount warnings)
-  unfolding Small
-  item-low sane low amount warnings q =
-      subst Small (sym (says-turn (turn.Item amount warnings) q .same 0 noHeader [])) (small-step sh sane today 0 (lineIn f at stop) (inGroup noHeader [] x) low)
-
-  pub more-low : Sane sh → LowItem x → (amount warnings : ℕ) → r ≡ turn.Item amount warnings → (more : Held) → more ≡ heldMore x amount warnings → LowItem more
-  more-low sane low amount warnings q more y = rw y (item-low sane low amount warnings q)
-
   module _ (from to : ℕ) where
     pub item-more : (amount warnings : ℕ) → r ≡ turn.Item amount warnings → (more : Held) → more ≡ heldMore x amount warnings
         → (k : ℕ) (words : List ℕ) → Leads sh today k (lineIn f at stop) (atItem from to x) words words (move.On (atItem from to more))
@@ -268,8 +259,6 @@ module _ (sh : Sheet) (today : ℕ) (f : List ℕ) (at stop : ℕ) (x : Held) (r
         → Leads sh today k (lineIn f at stop) (atItem from to x) words words move.Halt
     item-broken n k′ byte z from to k words = leads-halt sh today k _ _ words _ λ h l _. comes (end.Stop n k′ byte) z k h l
 
-pub ruleset items-lead = (item-low, more-low, item-more, item-stops, item-closes, closes-low, item-broken)
-
 -- ---- any line: the stage was found to be what it is
 
 -- a line that is cut off the file lies in it
@@ -291,10 +280,6 @@ module _ (x : Course) where
   by-stage sh today k t before after r s e p = rw (← e) at p
 
   module _ (sh : Sheet) (t : Line) (r : Move) where
-    pub in-item : (y : Held) → x .stage ≡ stage.Item y → (today : ℕ) → ((k : ℕ) (words : List ℕ) → Leads sh today k t (atItem (x .from) (x .to) y) words words r)
-        → (k : ℕ) (words : List ℕ) → Leads sh today k t x words words r
-    in-item y e today h k words = by-stage sh today k t words words r (stage.Item y) e (h k words)
-
     pub in-group : (c : Counts) (s : Shelf) → x .stage ≡ stage.Group c s → (today k : ℕ) → ((words : List ℕ) → Leads sh today k t (atGroup (x .from) (x .to) c s) words words r)
         → (words : List ℕ) → Leads sh today k t x words words r
     in-group c s e today k h words = by-stage sh today k t words words r (stage.Group c s) e (h words)
@@ -308,15 +293,12 @@ module _ (x : Course) where
     in-first e h today k words = by-stage sh today k t words words r stage.First e (h today k (x .from) (x .to) words)
 
   module _ (low : Low (x .stage)) where
-    pub stage-item : (y : Held) → x .stage ≡ stage.Item y → LowItem y
-    stage-item y e = let z : Low (stage.Item y) = rw e at low in z
-
     pub stage-group : (c : Counts) (s : Shelf) → x .stage ≡ stage.Group c s → LowGroup c s
     stage-group c s e = let z : Low (stage.Group c s) = rw e at low in z
 
     pub stage-file : (c : Counts) → x .stage ≡ stage.File c → LowFile c
     stage-file c e = let z : Low (stage.File c) = rw e at low in z
 
-pub ruleset stages = (cut-from, cut-to, in-item, in-group, in-file, in-first, stage-item, stage-group, stage-file)
+pub ruleset stages = (cut-from, cut-to, in-group, in-file, in-first, stage-group, stage-file)
 
 pub ruleset others-halt = (other-line, is-kind, cut-from, cut-to, whenever)

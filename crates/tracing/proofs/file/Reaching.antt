@@ -51,7 +51,7 @@ use Rattle.tracing.specs.declared.file.Outcome.the-variants as outcome
 use Rattle.tracing.specs.file.Comes.{Comes, At, Reached, AtEnd}
 
 -- the file's first line
-pub at-start : (sh : Sheet) (today : ℕ) (f : List ℕ) → At sh today f 0 1 (record { from = 0; to = 0; stage = stage.First }) (replicate 16 0) judge.atFirst
+at-start : (sh : Sheet) (today : ℕ) (f : List ℕ) → At sh today f 0 1 (record { from = 0; to = 0; stage = stage.First }) (replicate 16 0) judge.atFirst
 unfolding judge linesFrom abs
 at-start sh today f =
     record {
@@ -74,7 +74,7 @@ top-first (judge.atItem x) e = absurd (let z : _≡_ {A = ℕ} 0 1 = cc in omega
 top-first (stop a) e = absurd (let z : _≡_ {A = ℕ} 0 1 = cc in omega arith)
 
 -- a first line that is read has four bytes or more
-moves-long : (sh : Sheet) (today k : ℕ) (t : Line) (new : State) → Moves sh today k t judge.atFirst new → 4 ≤ length (t .bytes)
+pub moves-long : (sh : Sheet) (today k : ℕ) (t : Line) (new : State) → Moves sh today k t judge.atFirst new → 4 ≤ length (t .bytes)
 moves-long sh today k t new (heads (p, q)) = kind-long (t .bytes) headLine (kind-head (told-line sh today _ (t .bytes) _ q))
 
 head-on : (sh : Sheet) (today size k : ℕ) (t : Line) (ts : List Line) (new : State) → Next sh today size k t ts judge.atFirst new → halted new ≡ false → 4 ≤ length (t .bytes)
@@ -87,7 +87,7 @@ head-long sh today size k t ts st first e =
     head-on sh today size k t ts (step sh today k t judge.atFirst) (next sh today size k t ts judge.atFirst) (rw first at e)
 
 -- at the file's start, or behind it
-by-place : {A : Type 0} (at : ℕ) → (at ≡ 0 → A) → (0 < at → A) → A
+pub by-place : {A : Type 0} (at : ℕ) → (at ≡ 0 → A) → (0 < at → A) → A
 by-place zero here behind = here refl
 by-place (suc n) here behind = behind (omega arith)
 
@@ -116,7 +116,7 @@ module _ (sh : Sheet) (today : ℕ) (f : List ℕ) (at k : ℕ) (x : Course) (wo
     unfolding haltOn behind
     split-halts = rw (cuts .lines)
 
-    pub split-runs : run sh today (length f) k (linesFrom f at) st
+    split-runs : run sh today (length f) k (linesFrom f at) st
         ≡ run sh today (length f) (suc k) (linesFrom f (cut .next)) (step sh today k (lineIn f at (cut .stop)) st)
     unfolding run
     split-runs = rw (cuts .lines)
@@ -132,14 +132,14 @@ module _ (sh : Sheet) (today : ℕ) (f : List ℕ) (at k : ℕ) (x : Course) (wo
         (λ some. omega (arith, reached .lines, cuts .ahead))
 
     module _ (after : List ℕ) (r : Move) (leads : Leads sh today k (lineIn f at (cut .stop)) x words after r) where
-      pub at-fits : (y : Course) → r ≡ move.On y → Fits w64 (cut .next) → Fits w64 (k + 1)
+      at-fits : (y : Course) → r ≡ move.On y → Fits w64 (cut .next) → Fits w64 (k + 1)
       unfolding behind
       at-fits y e fits =
           let on : (st : State) → Stands x words st → Stands y after (step sh today k (lineIn f at (cut .stop)) st) = rw e at leads in
           fits-le (passes-long (stands-going y after behind (on st (reached .stands)))) fits
 
       -- judging goes on
-      pub at-on : (y : Course) → r ≡ move.On y → LowMove r → At sh today f (cut .next) (k + 1) y after (step sh today k (lineIn f at (cut .stop)) st)
+      at-on : (y : Course) → r ≡ move.On y → LowMove r → At sh today f (cut .next) (k + 1) y after (step sh today k (lineIn f at (cut .stop)) st)
       unfolding behind
       at-on y e low =
           let on : (st : State) → Stands x words st → Stands y after (step sh today k (lineIn f at (cut .stop)) st) = rw e at leads in
@@ -157,16 +157,8 @@ module _ (sh : Sheet) (today : ℕ) (f : List ℕ) (at k : ℕ) (x : Course) (wo
             top = λ zero. absurd (omega (arith, cuts .ahead));
           }
 
-      -- judging halts: the file is refused
-      pub halt-refuses : r ≡ move.Halt → (n : ℕ) × (l : ℕ) × (p : ℕ) × (judge sh today f ≡ Refused n l p)
-      unfolding behind
-      halt-refuses e =
-          let (still, stops) : (after ≡ words) × ((st : State) → Stands x words st → halted (step sh today k (lineIn f at (cut .stop)) st) ≡ true) = rw e at leads in
-          let (n, l, p, stopped, broken) = halt-breaks sh today (length f) k (lineIn f at (cut .stop)) (linesFrom f (cut .next)) st behind (next sh today (length f) k (lineIn f at (cut .stop)) (linesFrom f (cut .next)) st) going (stops st (reached .stands)) in
-          (n, l, p, reached .runs ∙ (split-runs ∙ (ap (run sh today (length f) (suc k) (linesFrom f (cut .next))) stopped ∙ run-stop sh today (length f) (suc k) (linesFrom f (cut .next)) (Refused n l p))))
-
-      -- .. and z is what is found there
-      pub at-halt : Sane sh → r ≡ move.Halt → (z : Finding)
+      -- judging halts, and z is what is found there
+      at-halt : Sane sh → r ≡ move.Halt → (z : Finding)
           → ((st : State) → Stands x after st → z ≡ blame sh today f k (lineIn f at (cut .stop)) (kindOf (lineIn f at (cut .stop) .bytes)) st)
           → Comes sh today f (outcome.Found z)
       unfolding behind foundIn foundAt
@@ -266,4 +258,4 @@ cut-less f at cut cuts = omega (arith, cuts .ahead, cuts .inside)
 
 pub ruleset ends-file = (end-first, end-group, end-item, end-none, end-passed)
 
-pub ruleset reaches = (reached-start, reached-low, line-fits, reached-on, reached-halt, reached-end, cut-less)
+pub ruleset reaches = (reached-start, reached-low, line-fits, reached-on, reached-halt, reached-end)

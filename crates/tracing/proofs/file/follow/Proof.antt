@@ -4,7 +4,7 @@ use Prim.Native.Nat.{_-_}
 use lib.ListN.{length}
 use Rattle.tracing.specs.file.Comes.{Reached}
 use Rattle.tracing.proofs.file.Reaching.{reaches}
-use Rattle.course.proofs.line.Leading.{stages}
+use Rattle.tracing.proofs.file.Stepping.{steps}
 use Rattle.tracing.proofs.file.follow.Statement.{statement}
 use Rattle.tracing.proofs.file.follow.Tie as tie
 
@@ -15,40 +15,31 @@ abbrev μ-loop : tie.MeasureT-loop
 μ-loop f sh today seen₀ at₀ line₀ x₀ seen at line x = length f - at
 
 loop-holds : tie.Need-loop-holds Inv-loop μ-loop
-loop-holds c = search (reaches, stages, needs)
+loop-holds c = search (reaches, steps, needs)
 
-next-line-requires : tie.Need-next-line-requires Inv-loop μ-loop
-next-line-requires c κs = search (reaches, stages, needs)
+step-requires : tie.Need-step-requires Inv-loop μ-loop
+step-requires c κs = search (reaches, steps, needs)
 
-step-line-requires : tie.Need-step-line-requires Inv-loop μ-loop
-step-line-requires c κs = search (reaches, stages, needs)
-
-enum-known-y : tie.Need-enum-known-y Inv-loop μ-loop
-enum-known-y c = search needs
-
-add-line : tie.Need-add-line Inv-loop μ-loop
-add-line c = search (reaches, stages, needs)
+enum-known-next : tie.Need-enum-known-next Inv-loop μ-loop
+enum-known-next c = search needs
 
 loop-less : tie.Need-loop-less Inv-loop μ-loop
-loop-less c = search (reaches, stages, needs)
+loop-less c = search (reaches, steps, needs)
 
 loop-again : tie.Need-loop-again Inv-loop μ-loop
-loop-again c = search (reaches, stages, needs)
+loop-again c = search (reaches, steps, needs)
 
-enum-told : tie.Need-enum-told Inv-loop μ-loop
-enum-told c = search needs
-
-blame-line-requires : tie.Need-blame-line-requires Inv-loop μ-loop
-blame-line-requires c κs = search (reaches, stages, needs)
+enum-known-o : tie.Need-enum-known-o Inv-loop μ-loop
+enum-known-o c = search needs
 
 returns : tie.Need-returns Inv-loop μ-loop
-returns c = search (reaches, stages, needs)
+returns c = search (reaches, steps, needs)
 
 at-end-requires : tie.Need-at-end-requires Inv-loop μ-loop
-at-end-requires c κs = search (reaches, stages, needs)
+at-end-requires c κs = search (reaches, steps, needs)
 
 returns-2 : tie.Need-returns-2 Inv-loop μ-loop
-returns-2 c = search (reaches, stages, needs)
+returns-2 c = search (reaches, steps, needs)
 
 pub follow-spec : {M : Type 1} → statement M
 follow-spec =
@@ -57,14 +48,11 @@ follow-spec =
     Inv-loop
     μ-loop
     loop-holds
-    next-line-requires
-    step-line-requires
-    enum-known-y
-    add-line
+    step-requires
+    enum-known-next
     loop-less
     loop-again
-    enum-told
-    blame-line-requires
+    enum-known-o
     returns
     at-end-requires
     returns-2)
