@@ -120,7 +120,7 @@ fn explain_that_day(file: &[u8], sheet: u64, sh: Sheet, today: u64, out: &mut [u
     ensures { λ _. ⌜ now (out .exit) ≡ outputAfter (now (out .entry)) (drafted (textOn sh today (now (file .entry)))) ⌝ }
 {
     let o = tracing::file::follow(file, sh, today);
-    let v = findings::outcome::verdict_of(o);
+    let v = verdict::verdict_of(o);
     let mut lines = [0u8; 1024];
     let n = verdict::sheets::put_sheets(&mut lines, 0, file, today, sheet, v);
     let t = Telling {

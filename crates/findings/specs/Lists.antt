@@ -11,7 +11,8 @@ use Rattle.sheet.specs.declared.Known.the-variants as known
 use Rattle.sheet.specs.Sheets.{sheetOf}
 use Rattle.paper.specs.Days.{realDay}
 use Rattle.paper.specs.Judge.{judge}
-use Rattle.verdict.specs.Sheets.{accepts, accepting}
+use Rattle.why.specs.Finding.{accepts}
+use Rattle.verdict.specs.Sheets.{accepting}
 use Rattle.listing.specs.Listed.{listed}
 use Rattle.findings.specs.Findings.{findings, inNumbers}
 

@@ -64,7 +64,7 @@ fn list_that_day(file: &[u8], sheet: u64, sh: Sheet, today: u64, out: &mut [u8])
     if ((out.len() / 64) as u64) < count {
         return no_room(count);
     }
-    let v = crate::outcome::verdict_of(o);
+    let v = verdict::verdict_of(o);
     let refused = crate::outcome::refused_of(o);
     let sheets = verdict::sheets::accepting(file, today, sheet, v);
     let t = Telling {

@@ -1,7 +1,6 @@
-// What a pass over a file came to: its verdict, how many findings there are, and the findings themselves.
+// What a pass over a file came to: how many findings there are, and the findings themselves.
 use listing::Telling;
 use tracing::file::Outcome;
-use verdict::Verdict;
 ghost use mathlib.Core.Path.{_≡_};
 ghost use mathlib.Core.Bool.{true};
 ghost use Rattle.sheet.proofs.Laws.{Sane};
@@ -10,29 +9,7 @@ ghost use Rattle.numeral.specs.counted.Counted.{Counted};
 ghost use Rattle.listing.specs.Listed.{listed};
 ghost use Rattle.tracing.specs.file.Comes.{Comes};
 ghost use Rattle.findings.specs.Findings.{findings};
-ghost use Rattle.findings.specs.outcome.Counts.{verdictIn, countIn, refusedIn};
-
-// The verdict.
-pub fn verdict_of(o: Outcome) -> Verdict
-    ensures { λ r. ⌜ r ≡ verdictIn o ⌝ }
-{
-    match o {
-        Outcome::Found(x) => Verdict {
-            number: x.number,
-            line: x.line,
-            byte: x.byte,
-            rows: 0,
-            warnings: 0,
-        },
-        Outcome::Passed { rows, warnings } => Verdict {
-            number: 0,
-            line: 0,
-            byte: 0,
-            rows,
-            warnings,
-        },
-    }
-}
+ghost use Rattle.findings.specs.outcome.Counts.{countIn, refusedIn};
 
 // How many findings there are: the one, or as many as there are warnings.
 pub fn count_of(o: Outcome) -> u64

@@ -1,5 +1,5 @@
 -- How the functions of a verdict end: from what a function is told to the verdict. Assumes nothing.
-use mathlib.Core.Path.{_≡_, sym, ap, _∙_}
+use mathlib.Core.Path.{_≡_, sym, _∙_}
 use mathlib.Core.Bool.{Bool, true, false}
 use mathlib.Core.List.{List}
 use Prim.Native.Nat.{ℕ}
@@ -11,14 +11,13 @@ use Rattle.sheet.specs.Sheets.{sheetOf}
 use Rattle.sheet.proofs.Laws.{sheet-sane}
 use Rattle.paper.specs.Days.{realDay}
 use Rattle.paper.specs.Reading.{refusedAt, readWith}
-use Rattle.tally.specs.Tally.{No, Yes, tally}
-use Rattle.judge.specs.declared.file.Head.{Head}
-use Rattle.judge.specs.declared.file.FileJudged.{FileJudged}
-use Rattle.judge.specs.declared.file.FileJudged.the-variants as judged
-use Rattle.judge.specs.file.Answer as reading
+use Rattle.tally.specs.Tally.{No}
+use Rattle.why.specs.declared.Finding.{Finding}
+use Rattle.tracing.specs.declared.file.Outcome.{Outcome}
+use Rattle.tracing.specs.declared.file.Outcome.the-variants as outcome
 use Rattle.verdict.specs.declared.Verdict.{Verdict}
-use Rattle.verdict.specs.Told.{verdictOf}
-use Rattle.verdict.proofs.Laws.{inBrief, day-verdict, no-day-verdict}
+use Rattle.verdict.specs.Told.{verdictOf, verdictIn}
+use Rattle.verdict.proofs.Laws.{inBrief, no-day-verdict, comes-verdict}
 
 -- ---- the day and the file
 
@@ -31,15 +30,17 @@ module _ (sh : Sheet) (today : ℕ) (f : List ℕ) where
     pub no-day : t ≡ false → inBrief (No 2 0 0) ≡ verdictOf (readWith (known.Sheet sh) today f (length f))
     no-day e = sym (no-day-verdict sh today f (sym g ∙ e))
 
-  -- j is what the file was judged to be
-  module _ (j : FileJudged) (g : reading.told f j ≡ tally sh today f) (real : realDay today ≡ true) where
-    pub refused : (n l p : ℕ) → j ≡ judged.Refused n l p → inBrief (No n l p) ≡ verdictOf (readWith (known.Sheet sh) today f (length f))
-    refused n l p e = sym (day-verdict sh today f real ∙ ap inBrief (sym g ∙ ap (reading.told f) e))
+pub ruleset verdicts = (real-known, no-day, comes-verdict)
 
-    pub accepted : (h : Head) (n w : ℕ) → j ≡ judged.Accepted h n w → inBrief (Yes (reading.headOf f h) n w) ≡ verdictOf (readWith (known.Sheet sh) today f (length f))
-    accepted h n w e = sym (day-verdict sh today f real ∙ ap inBrief (sym g ∙ ap (reading.told f) e))
+-- .. found to be one of the two
+module _ (o : Outcome) where
+  pub found-verdict : (x : Finding) → o ≡ outcome.Found x → record { number = x .number; line = x .line; byte = x .byte; rows = 0; warnings = 0 } ≡ verdictIn o
+  found-verdict x e = rw e
 
-pub ruleset verdicts = (real-known, no-day, refused, accepted)
+  pub passed-verdict : (rows warnings : ℕ) → o ≡ outcome.Passed rows warnings → record { number = 0; line = 0; byte = 0; rows = rows; warnings = warnings } ≡ verdictIn o
+  passed-verdict rows warnings e = rw e
+
+pub ruleset outcomes = (found-verdict, passed-verdict)
 
 -- ---- the sheet
 

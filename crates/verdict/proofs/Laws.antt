@@ -14,8 +14,11 @@ use Rattle.paper.specs.Judge.{Answer, Refused, Accepted, judge}
 use Rattle.paper.specs.Reading.{rowCount, refusedAt, acceptedAs, answered, readWith}
 use Rattle.tally.specs.Tally.{Brief, No, Yes, brief, tally}
 use Rattle.tally.proofs.Same.{tally-is}
+use Rattle.tracing.specs.declared.file.Outcome.{Outcome}
+use Rattle.tracing.specs.declared.file.Outcome.the-variants as outcome
+use Rattle.tracing.specs.file.Comes.{Comes}
 use Rattle.verdict.specs.declared.Verdict.{Verdict}
-use Rattle.verdict.specs.Told.{verdictOf}
+use Rattle.verdict.specs.Told.{verdictOf, verdictIn}
 use Rattle.verdict.proofs.Many.{count-within}
 
 -- ---- the verdict, from the judge's answer in brief
@@ -44,3 +47,12 @@ module _ (sh : Sheet) (today : ℕ) (f : List ℕ) where
   pub no-day-verdict : realDay today ≡ false → verdictOf (readWith (known.Sheet sh) today f (length f)) ≡ inBrief (No 2 0 0)
   unfolding readWith refusedAt pick
   no-day-verdict not = rw not
+
+  -- o is what a pass came to, and v its verdict
+  comes-brief : (o : Outcome) → Comes sh today f o → verdictIn o ≡ inBrief (brief (judge sh today f))
+  unfolding brief
+  comes-brief (outcome.Found x) (is, judged) = rw judged
+  comes-brief (outcome.Passed rows warnings) c = rw (c .judged, c .counted)
+
+  pub comes-verdict : realDay today ≡ true → (o : Outcome) → Comes sh today f o → (v : Verdict) → v ≡ verdictIn o → v ≡ verdictOf (readWith (known.Sheet sh) today f (length f))
+  comes-verdict real o c v e = e ∙ (comes-brief o c ∙ (ap inBrief (sym (tally-is sh today f)) ∙ sym (day-verdict real)))

@@ -1,6 +1,5 @@
 -- What each known sheet says of a file on a day, in a line and in a bit. Document 02, W-205. Assumes nothing.
 use Prim.Native.Nat.{ℕ, _+_, _-_, _^_}
-use mathlib.Core.Bool.{Bool, true, false}
 use mathlib.Core.List.{List, [], _∷_, _++_}
 use lib.Dec.{eqb}
 use lib.ListN.{length}
@@ -10,8 +9,9 @@ use Rattle.sheet.specs.declared.Known.the-variants as known
 use Rattle.sheet.specs.Sheets.{sheets}
 use Rattle.paper.specs.Bytes.{bytes}
 use Rattle.paper.specs.Numerals.{decimal}
-use Rattle.paper.specs.Judge.{Answer, Refused, Accepted, judge}
+use Rattle.paper.specs.Judge.{judge}
 use Rattle.paper.specs.Reading.{ReadAnswer, readWith}
+use Rattle.why.specs.Finding.{accepts}
 use Rattle.verdict.specs.declared.Verdict.{Verdict}
 use Rattle.verdict.specs.Told.{verdictOf}
 
@@ -43,11 +43,6 @@ unfoldable pub sheetLines : ℕ → List ℕ → List ℕ
 sheetLines today f = linesOn today f sheets
 
 -- ---- in bits
-
--- is the file accepted?
-unfoldable pub accepts : Answer → Bool
-accepts (Refused n l p) = false
-accepts (Accepted h b w) = true
 
 -- bit n - 1 of each sheet n that accepts the file, of some sheets
 unfoldable pub acceptingOn : ℕ → List ℕ → List Sheet → ℕ

@@ -1,9 +1,9 @@
 // What a sheet says of a file on a day: which answer it is (`Verdict`), and the line of a refusal.
 pub mod sheets;
 
-use judge::file::FileJudged;
 use sheet::Known;
 use sheet::Sheet;
+use tracing::file::Outcome;
 ghost use mathlib.Core.Path.{_≡_};
 ghost use mathlib.Core.List.{_++_};
 ghost use lib.ListN.{length};
@@ -14,7 +14,7 @@ ghost use Rattle.paper.specs.Numerals.{decimal};
 ghost use Rattle.paper.specs.Reading.{readWith};
 ghost use Rattle.paper.specs.Explaining.{refusedLine};
 ghost use Rattle.numeral.specs.counted.Counted.{Counted};
-ghost use Rattle.verdict.specs.Told.{verdictOf};
+ghost use Rattle.verdict.specs.Told.{verdictOf, verdictIn};
 
 // What is to be said of a file: a refusal's number, line and byte; or number 0, and the counts of rows and warnings.
 pub struct Verdict {
@@ -27,40 +27,43 @@ pub struct Verdict {
 
 // ---- which answer it is
 
-// The verdict on the sheet sh: 2, or what the file is judged to be.
+// What a pass over the file came to, as a verdict.
+pub fn verdict_of(o: Outcome) -> Verdict
+    ensures { λ r. ⌜ r ≡ verdictIn o ⌝ }
+{
+    match o {
+        Outcome::Found(x) => Verdict {
+            number: x.number,
+            line: x.line,
+            byte: x.byte,
+            rows: 0,
+            warnings: 0,
+        },
+        Outcome::Passed { rows, warnings } => Verdict {
+            number: 0,
+            line: 0,
+            byte: 0,
+            rows,
+            warnings,
+        },
+    }
+}
+
+// The verdict on the sheet sh: 2, or what the file comes to. It is the pass that also says what is found, so that each sheet takes what the sheet asked
+// for takes.
 fn verdict_on(file: &[u8], sh: Sheet, today: u64) -> Verdict
     requires { ⌜ Sane sh ⌝ }
     ensures { λ r. ⌜ r ≡ verdictOf (readWith (known.Sheet sh) today (now (file .entry)) (length (now (file .entry)))) ⌝ }
 {
     if calendar::real_day(today) {
-        match judge::file::judge_file(file, sh, today) {
-            FileJudged::Refused(n, line, byte) => Verdict {
-                number: n,
-                line,
-                byte,
-                rows: 0,
-                warnings: 0,
-            },
-            FileJudged::Accepted {
-                head: _,
-                rows,
-                warnings,
-            } => Verdict {
-                number: 0,
-                line: 0,
-                byte: 0,
-                rows,
-                warnings,
-            },
-        }
-    } else {
-        Verdict {
-            number: 2,
-            line: 0,
-            byte: 0,
-            rows: 0,
-            warnings: 0,
-        }
+        return verdict_of(tracing::file::follow(file, sh, today));
+    }
+    Verdict {
+        number: 2,
+        line: 0,
+        byte: 0,
+        rows: 0,
+        warnings: 0,
     }
 }
 

@@ -1,5 +1,5 @@
 -- What a pass came to says what is found, how much of it, and the verdict. Assumes nothing.
-use mathlib.Core.Path.{_≡_, refl, sym, ap, _∙_}
+use mathlib.Core.Path.{_≡_, refl, sym, _∙_}
 use mathlib.Core.Bool.{true}
 use mathlib.Core.List.{List, [], _∷_}
 use Prim.Native.Nat.{ℕ}
@@ -13,9 +13,8 @@ use Rattle.paper.specs.Days.{realDay}
 use Rattle.paper.specs.Judge.{judge}
 use Rattle.paper.specs.Reading.{readWith}
 use Rattle.numeral.specs.counted.Counted.{Counted}
-use Rattle.tally.specs.Tally.{brief}
-use Rattle.tally.proofs.Same.{tally-is}
 use Rattle.why.specs.declared.Finding.{Finding}
+use Rattle.why.specs.Finding.{accepts}
 use Rattle.why.specs.Warned.{warnedIn}
 use Rattle.why.proofs.Warned.{as-many}
 use Rattle.listing.specs.declared.Telling.{Telling}
@@ -24,26 +23,18 @@ use Rattle.listing.proofs.Putting.{listed-one, none-put}
 use Rattle.tracing.specs.declared.file.Outcome.{Outcome}
 use Rattle.tracing.specs.declared.file.Outcome.the-variants as outcome
 use Rattle.tracing.specs.file.Comes.{Comes}
-use Rattle.tracing.specs.warnings.Passing.{isAccepted}
 use Rattle.verdict.specs.declared.Verdict.{Verdict}
-use Rattle.verdict.specs.Told.{verdictOf}
-use Rattle.verdict.specs.Sheets.{accepts}
-use Rattle.verdict.proofs.Laws.{inBrief, day-verdict}
+use Rattle.verdict.specs.Told.{verdictOf, verdictIn}
+use Rattle.verdict.proofs.Laws.{comes-verdict}
 use Rattle.findings.specs.Findings.{findingsOf, findings}
-use Rattle.findings.specs.outcome.Counts.{verdictIn, countIn, refusedIn}
+use Rattle.findings.specs.outcome.Counts.{countIn, refusedIn}
 
 module _ (sh : Sheet) (today : ℕ) (f : List ℕ) where
-  -- ---- the verdict
-
-  brief-verdict : (o : Outcome) → Comes sh today f o → verdictIn o ≡ inBrief (brief (judge sh today f))
-  unfolding brief
-  brief-verdict (outcome.Found x) (is, judged) = rw judged
-  brief-verdict (outcome.Passed rows warnings) c = rw (c .judged, c .counted)
+  -- ---- the verdict, of the sheet that the number names
 
   pub outcome-verdict : (sheet : ℕ) → sheetOf sheet ≡ known.Sheet sh → realDay today ≡ true → (o : Outcome) → Comes sh today f o
       → (v : Verdict) → v ≡ verdictIn o → v ≡ verdictOf (readWith (sheetOf sheet) today f (length f))
-  outcome-verdict sheet named real o c v e =
-      e ∙ (brief-verdict o c ∙ (ap inBrief (sym (tally-is sh today f)) ∙ (sym (day-verdict sh today f real) ∙ rw named)))
+  outcome-verdict sheet named real o c v e = comes-verdict sh today f real o c v e ∙ rw named
 
   -- ---- how much is found
 
@@ -75,8 +66,8 @@ module _ (t : Telling) (f : List ℕ) (o : Outcome) (comes : Comes (t .sheet) (t
     unfolding findings findingsOf
     warned-is = rw (passes .judged)
 
-    pub passed-accepted : isAccepted (judge (t .sheet) (t .today) f) ≡ true
-    unfolding isAccepted
+    pub passed-accepted : accepts (judge (t .sheet) (t .today) f) ≡ true
+    unfolding accepts
     passed-accepted = rw (passes .judged)
 
     pub passed-put : (l l′ : List ℕ) (to r : ℕ) → Counted l to (listed t f (warnedIn (t .sheet) (t .today) f)) l′ r
@@ -93,14 +84,3 @@ module _ (t : Telling) (f : List ℕ) (o : Outcome) (comes : Comes (t .sheet) (t
         rw nothing (none-put t f)
 
 pub ruleset puts = (found-put, passed-accepted, passed-put, passed-none)
-
--- ---- the verdict of what it was found to come to
-
-module _ (o : Outcome) where
-  pub found-verdict : (x : Finding) → o ≡ outcome.Found x → record { number = x .number; line = x .line; byte = x .byte; rows = 0; warnings = 0 } ≡ verdictIn o
-  found-verdict x e = rw e
-
-  pub passed-verdict : (rows warnings : ℕ) → o ≡ outcome.Passed rows warnings → record { number = 0; line = 0; byte = 0; rows = rows; warnings = warnings } ≡ verdictIn o
-  passed-verdict rows warnings e = rw e
-
-pub ruleset verdicts = (found-verdict, passed-verdict)

@@ -25,8 +25,9 @@ use Rattle.tally.specs.Tally.{brief}
 use Rattle.tally.proofs.Same.{tally-is}
 use Rattle.exact.proofs.Main.{exact}
 use Rattle.exact.proofs.named.Main.{judge-named}
+use Rattle.why.specs.Finding.{accepts}
 use Rattle.verdict.specs.declared.Verdict.{Verdict}
-use Rattle.verdict.specs.Sheets.{acceptedWords, refusedWords, verdictWords, sheetLine, accepts, acceptingOn, accepting}
+use Rattle.verdict.specs.Sheets.{acceptedWords, refusedWords, verdictWords, sheetLine, acceptingOn, accepting}
 use Rattle.verdict.proofs.Laws.{inBrief, day-verdict}
 use Rattle.verdict.proofs.sheets.Following.{follow, number, others, sheets-follow, here}
 use borrow.Author.Tests.{ne-eqb}

@@ -1,9 +1,9 @@
 -- The turns over the known sheets, of which k are done: their lines stand there, or their bits are set. Assumes nothing.
-use mathlib.Core.Path.{_≡_, refl, sym, ap, _∙_}
+use mathlib.Core.Path.{_≡_, refl, ap, _∙_}
 use mathlib.Core.Bool.{Bool, true}
-use mathlib.Core.List.{List, [], _∷_, _++_}
+use mathlib.Core.List.{List, _∷_, _++_}
 use Prim.Native.Nat.{ℕ, _+_, _-_, _*_, _^_, _≤_, _<_}
-use native.Mathlib.Nat.{add-zero, pow-suc}
+use native.Mathlib.Nat.{pow-suc}
 use native.Mathlib.Numerals.{add-one}
 use native.Mathlib.Omega.{arith}
 use lib.Dec.{eqb}
@@ -12,7 +12,6 @@ use lib.Pow.{pow-lt}
 use borrow.Author.Tests.{ne-eqb}
 use Rattle.base.specs.Pick.{pick}
 use Rattle.base.proofs.Cases.{either}
-use Rattle.base.proofs.Put.{put-nil}
 use Rattle.sheet.specs.declared.Sheet.{Sheet}
 use Rattle.sheet.specs.declared.Known.{Known}
 use Rattle.sheet.specs.declared.Known.the-variants as known
@@ -25,10 +24,11 @@ use Rattle.tally.specs.Tally.{brief}
 use Rattle.tally.proofs.Same.{tally-is}
 use Rattle.exact.proofs.named.Main.{judge-named}
 use Rattle.numeral.specs.counted.Counted.{Counted}
-use Rattle.numeral.proofs.counted.Laws.{_counted-then_}
+use Rattle.numeral.proofs.counted.Laws.{counted-nothing, _counted-then_}
+use Rattle.why.specs.Finding.{accepts}
 use Rattle.verdict.specs.declared.Verdict.{Verdict}
 use Rattle.verdict.specs.Told.{verdictOf}
-use Rattle.verdict.specs.Sheets.{verdictWords, sheetLine, linesOn, sheetLines, accepts, acceptingOn, accepting}
+use Rattle.verdict.specs.Sheets.{verdictWords, sheetLine, linesOn, sheetLines, acceptingOn, accepting}
 use Rattle.verdict.proofs.Laws.{inBrief, day-verdict}
 use Rattle.verdict.proofs.sheets.Following.{left, many, many-few, left-all, left-none, left-next, next-number, next-few, next-known, turn-less}
 
@@ -45,9 +45,6 @@ pub record Said (today : ℕ) (f o : List ℕ) (at k : ℕ) (o1 : List ℕ) (e :
   pub long : length o1 ≡ length o
   pub all : (o2 : List ℕ) (r : ℕ) → Counted o1 e (linesOn today f (left k)) o2 r → Counted o at (sheetLines today f) o2 r
 
-counted-none : {o : List ℕ} {at : ℕ} → Counted o at [] o at
-counted-none {o} {at} = record { long = refl; next = λ h. sym (add-zero at); left = λ h room. sym (put-nil o at) }
-
 module _ (today : ℕ) (f o : List ℕ) (at : ℕ) where
   pub said-none : Said today f o at 0 o at
   unfolding sheetLines
@@ -59,7 +56,7 @@ module _ (today : ℕ) (f o : List ℕ) (at : ℕ) where
   module _ (k : ℕ) (o1 : List ℕ) (e : ℕ) (s : Said today f o at k o1 e) (r : Known) (g : r ≡ sheetOf (k + 1)) where
     pub said-all : r ≡ known.Nothing → Counted o at (sheetLines today f) o1 e
     unfolding linesOn
-    said-all z = s .all o1 e (rw (left-none k r g z) counted-none)
+    said-all z = s .all o1 e (rw (left-none k r g z) counted-nothing)
 
     module _ (sh : Sheet) (z : r ≡ known.Sheet sh) where
       pub said-more : (v : Verdict) → v ≡ verdictOf (readWith (sheetOf (k + 1)) today f (length f)) → (o2 : List ℕ) (e2 : ℕ)
