@@ -2,8 +2,8 @@
 """tools/crosscheck.py LIBPEER FOLDER SEED FILES BATCHES
 
 Writes what the second program (LIBPEER) answers as equations: FOLDER/Cases.antt for random files and batches, over the definitions of
-crates/paper, and FOLDER/StatementCases.antt for statements and their rows (statement_inputs.py), over those of crates/gpc. Prints how many
-equations there are. tools/crosscheck.sh has them checked."""
+crates/paper; FOLDER/FoundCases.antt for what is found in such files, over those of crates/why; and FOLDER/StatementCases.antt for statements and
+their rows (statement_inputs.py), over those of crates/gpc. Prints how many equations there are. tools/crosscheck.sh has them checked."""
 import ctypes
 import random
 import re
@@ -24,6 +24,14 @@ class Answer(ctypes.Structure):
     _fields_ = [(n, U64) for n in ("number", "line", "byte", "rows", "warnings", "needed")] + [("header", Header)]
 
 
+class List(ctypes.Structure):
+    _fields_ = [(n, U64) for n in ("number", "refused", "count", "needed", "sheets")]
+
+
+class Finding(ctypes.Structure):
+    _fields_ = [(n, U64) for n in ("number", "cause", "line", "byte", "length", "field", "least", "most")]
+
+
 class StatementAnswer(ctypes.Structure):
     _fields_ = [(n, U64) for n in ("number", "line", "byte", "rows", "needed")]
 
@@ -38,6 +46,8 @@ def load(path):
     lib.peer_read.argtypes = [BYTES, SIZE, U64, U64, BYTES, SIZE]
     lib.peer_write.restype = Written
     lib.peer_write.argtypes = [BYTES, SIZE, BYTES, SIZE, U64, BYTES, SIZE, U64, U64, U64, U64, U64, BYTES, SIZE]
+    lib.peer_findings.restype = List
+    lib.peer_findings.argtypes = lib.peer_read.argtypes
     lib.peer_statement_read.restype = StatementAnswer
     lib.peer_statement_write.restype = Written
     lib.peer_statement_read.argtypes = lib.peer_statement_write.argtypes = [BYTES, SIZE, BYTES, SIZE]
@@ -48,6 +58,7 @@ def load(path):
 
 HEAD = b"UHL1010118" + b"RYBNIKY".ljust(20) + b"1234567890" + b"001900" + b"000000000000"
 BANK = {1: b"8100", 2: b"0800", 3: b"0300", 4: b"6100", 5: b"0300"}
+LETTERS = {1: "K", 2: "S", 3: "C", 4: "E", 5: "P"}
 LAST_SHEET = max(BANK)
 ACCOUNTS = [b"19-19", b"5152046", b"174-1999738514", b"500005-2267100237", b"705", b"000019-0000000019", b"190000000019",
             b"0", b"00", b"000-00", b"9", b"1234567890", b"19-", b"-19", b"1-9-9", b"", b"0" * 17, b"0" * 18, b"2267100237"]
@@ -245,6 +256,29 @@ def file_cases(lib, rnd, count):
             yield "rowsAfter %s (blanks %d) ≡ (%s)" % (asked, kept, listed(lent.raw[:kept]))
 
 
+MOST_FOUND = 64
+
+
+def found_cases(lib, rnd, count):
+    """the finding of a refused file, or the warnings of an accepted one; an accepted file in two, so that there are some"""
+    make = Files(rnd)
+    for i in range(count):
+        sheet = rnd.randrange(1, LAST_SHEET + 1)
+        today, term = draw_term(rnd, sheet)
+        lent = ctypes.create_string_buffer(ctypes.sizeof(Finding) * MOST_FOUND)
+        while True:
+            text = make.file(sheet, term)
+            a = lib.peer_findings(text, len(text), sheet, today, lent, len(lent.raw))
+            if a.number == 0 and (a.refused == 1) == (i % 2 == 0):
+                break
+        found = [numbers(Finding.from_buffer(lent, ctypes.sizeof(Finding) * k)) for k in range(a.count)]
+        asked = "sheet%s %d (%s)" % (LETTERS[sheet], today, quoted(text))
+        if a.refused == 1:
+            yield "foundIn %s ≡ %s" % (asked, found[0])
+        else:
+            yield "warnedIn %s ≡ %s" % (asked, "".join("(%s) ∷ " % x for x in found) + "[]")
+
+
 def batch_cases(lib, rnd, count):
     make = Batches(rnd)
     for _ in range(count):
@@ -380,11 +414,14 @@ def main():
     rnd = random.Random(int(sys.argv[3]))
     cases = list(file_cases(lib, rnd, int(sys.argv[4]))) + list(batch_cases(lib, rnd, int(sys.argv[5])))
     of_statements = list(statement_cases(lib, rnd))
+    found = list(found_cases(lib, rnd, int(sys.argv[4]) // 2))
     with open(folder + "/Lib.antt", "w") as f:
-        f.write("pub mod Cases\npub mod StatementCases\n")
+        f.write("pub mod Cases\npub mod FoundCases\npub mod StatementCases\n")
     write_module(folder + "/Cases.antt", BASE + SHEET + specs("paper"), "use Rattle.paper.specs.Writing.{drafted}\n", cases)
+    write_module(folder + "/FoundCases.antt", BASE + SHEET + specs("paper") + specs("why"),
+                 "use Rattle.sheet.specs.Sheets.{%s}\n" % ", ".join("sheet" + c for c in LETTERS.values()), found)
     write_module(folder + "/StatementCases.antt", BASE + specs("gpc") + below("gpc", specs("paper")), "", of_statements)
-    print(len(cases) + len(of_statements))
+    print(len(cases) + len(found) + len(of_statements))
 
 
 main()

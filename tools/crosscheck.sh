@@ -1,6 +1,6 @@
 #!/usr/bin/env bash
 # The definitions against the second program, with nothing between them: random files and batches, and statements, are answered by
-# peer/, and the prover computes what the definitions of crates/paper and crates/gpc answer; each equation is one that it must accept.
+# peer/, and the prover computes what the definitions of crates/paper, crates/why and crates/gpc answer; each equation is one that it must accept.
 # The last line is 'N passed, M failed'.    tools/crosscheck.sh [SEED [FILES [BATCHES]]]
 set -eu
 cd "$(dirname "$0")/.."
@@ -12,10 +12,11 @@ mkdir -p "$work/crates"
 sources=$(ls peer/*.c | grep -v rewrite.c)
 # shellcheck disable=SC2086
 gcc -std=c11 -O2 -shared -fPIC -o "$build/libpeer.so" $sources
-cp -r crates/base crates/sheet crates/paper crates/gpc "$work/crates/"
+cp -r crates/base crates/sheet crates/paper crates/why crates/gpc "$work/crates/"
+rm -r "$work/crates/why/proofs" # they stand on more crates; its definitions do not
 rm -rf "$work"/crates/*/must-fail
 mkdir -p "$work/crates/crosscheck/src" "$work/crates/crosscheck/proofs"
-printf 'base:\nsheet: base\npaper: base sheet\ngpc: base paper\ncrosscheck: base sheet paper gpc\n' >"$work/crates.txt"
+printf 'base:\nsheet: base\npaper: base sheet\nwhy: base sheet paper\ngpc: base paper\ncrosscheck: base sheet paper why gpc\n' >"$work/crates.txt"
 echo '// Equations between the definitions and the second program. No code.' >"$work/crates/crosscheck/src/lib.rt"
 cases=$(python3 tools/crosscheck.py "$build/libpeer.so" "$work/crates/crosscheck/proofs" "${1:-1}" "${2:-120}" "${3:-80}")
 if (cd "$work" && rt check crosscheck >check.log 2>&1); then
