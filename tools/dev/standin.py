@@ -1,6 +1,6 @@
 #!/usr/bin/env python3
-"""Translates the crates to Rust, without their contracts and unproved, and compiles them with rustc to a static library of the same calls. So
-code is measured before it is proved, in seconds; nothing of it is in the product or in the gate.
+"""Translates the crates to Rust, without their contracts and unproved, and compiles them with rustc to a static library of the same calls, in the
+same two units. So code is measured before it is proved, in seconds; nothing of it is in the product or in the gate.
 
   tools/dev/standin.py build/standin.a      then: LIB=build/standin.a BYTES=300000 TIMES=0 bench/run.sh
 
@@ -29,10 +29,12 @@ pub mod num {
 PLACE = r"(\w+(?:\.\w+)*)"
 
 
-def libraries():
-    """The crates of the calls and those that they stand on, in one unit: what is above them makes the calls, which are C's here."""
-    names = dict.fromkeys([*copies.below("abo"), *copies.below("tell")])
-    return [name for name in names if (ROOT / "crates" / name / "src/lib.rt").exists()]
+UNITS = ["abo", "tell"]
+
+
+def libraries(unit):
+    """The crates of a unit's calls and those that they stand on: what is above them makes the calls, which are C's here."""
+    return [name for name in copies.below(unit) if (ROOT / "crates" / name / "src/lib.rt").exists()]
 
 
 def without_contracts(source):
@@ -82,16 +84,27 @@ def translated(name, names):
     return f"pub mod {name} {{ use super::*;\n{source}\n}}\n"
 
 
+def compiled(unit, folder):
+    """The unit's object, in which its calls alone are seen from outside."""
+    names = libraries(unit)
+    rust, whole, compiled = (folder / f"standin_{unit}.{end}" for end in ("rs", "a", "o"))
+    rust.write_text(FRONT + "".join(translated(name, names) for name in names))
+    calls = re.findall(r'extern "C" fn (\w+)', (ROOT / "crates" / unit / "src/lib.rt").read_text())
+    options = ["--edition", "2021", "--crate-type", "staticlib", "--crate-name", "standin", "-C", "opt-level=3", "-C", "panic=abort"]
+    subprocess.run(["rustc", *options, "-C", "codegen-units=1", "-o", whole, rust], check=True)
+    subprocess.run(["ld", "-r", "--gc-sections", "-o", compiled, *(f"--undefined={call}" for call in calls), whole], check=True)
+    subprocess.run(["objcopy", "--remove-section=.llvmbc", "--remove-section=.llvmcmd", *(f"--keep-global-symbol={call}" for call in calls), compiled], check=True)
+    return compiled
+
+
 def main():
     if len(sys.argv) != 2 or sys.argv[1].startswith("-"):
         sys.exit(__doc__)
     archive = pathlib.Path(sys.argv[1])
     archive.parent.mkdir(parents=True, exist_ok=True)
-    names = libraries()
-    rust = archive.with_suffix(".rs")
-    rust.write_text(FRONT + "".join(translated(name, names) for name in names))
-    options = ["--edition", "2021", "--crate-type", "staticlib", "--crate-name", "standin", "-C", "opt-level=3", "-C", "panic=abort"]
-    sys.exit(subprocess.run(["rustc", *options, "-C", "codegen-units=1", "-o", archive, rust]).returncode)
+    archive.unlink(missing_ok=True)
+    objects = [compiled(unit, archive.parent) for unit in UNITS]
+    sys.exit(subprocess.run(["ar", "rcs", archive, *objects]).returncode)
 
 
 if __name__ == "__main__":
