@@ -1,6 +1,6 @@
 -- A line that is accepted says the same where any account file's number is allowed, and no kind and no date is given: so the second reading
 -- needs none of these. Only a group's line may have other warnings there. Assumes nothing.
-use mathlib.Core.Path.{_≡_, refl, ap}
+use mathlib.Core.Path.{_≡_, refl, sym, ap}
 use mathlib.Core.Bool.{Bool, true, false}
 use mathlib.Core.List.{List, [], _∷_}
 use Prim.Native.Nat.{ℕ}
@@ -9,6 +9,7 @@ use lib.Dec.{eqb}
 use lib.ListN.{length}
 use Rattle.base.specs.Pick.{pick}
 use Rattle.base.proofs.Cases.{either, either-way}
+use Rattle.base.proofs.Seek.{never}
 use Rattle.sheet.specs.declared.Sheet.{Sheet}
 use Rattle.paper.specs.Read.{Field, value, fault, given}
 use Rattle.paper.specs.Warnings.{Notice}
@@ -24,6 +25,7 @@ use Rattle.paper.specs.GroupLine.{totalAndDate, readGroup}
 use Rattle.paper.specs.ItemLine.{fromPayee, readItem}
 use Rattle.paper.specs.Spells.{Context, numberTest, readAs, readLine}
 use Rattle.paper.specs.Rows.{accepted}
+use Rattle.numeral.specs.placed.Said.{isSaid}
 use Rattle.exact.proofs.Told.{told-line, kind-head, kind-file, kind-group, kind-item, kind-group-end, kind-file-end}
 
 -- the first reading is refused, or the second is the same; or, where this is allowed (`loose`), it differs in its warnings alone
@@ -40,6 +42,11 @@ within-got : {t : Saying ℕ} {r s : Listed} → Within false r s → counted r 
 unfolding counted
 within-got same q = q
 within-got refused q = absurd (let z : _≡_ {A = ℕ} 0 1 = cc in omega arith)
+
+within-read : {r s : Listed} → Within false r s → isSaid r ≡ true → s ≡ r
+unfolding isSaid
+within-read same h = refl
+within-read refused h = never (sym h)
 
 -- what is said, with u warnings
 abbrev warning : ℕ → Counted → Counted
@@ -164,6 +171,10 @@ module _ (due wide : ℕ → Bool) (h : (b : ℕ) → wide b ≡ true) where
         either-way (Within false) single
         (within-field _ _ 0 s alike λ payer a1 s1. within-gap a1 s1 λ a2 s2. within-payee payer a2 s2)
         (within-payee nobody 0 s)
+
+    -- an item that is read where some banks may be due says the same where all may
+    pub item-wider : (single : Bool) (s : List ℕ) → isSaid (readItem sh due single s) ≡ true → readItem sh wide single s ≡ readItem sh due single s
+    item-wider single s h = within-read (within-item single s) h
 
 -- where no kind is given, every bank may
 any-bank : (sh : Sheet) (today bank : ℕ) → bankDue sh today 0 0 bank ≡ true

@@ -1,4 +1,4 @@
-// A whole file judged line by line: the one finding of a refused file, or the counts of an accepted one.
+// A whole file judged, line by line and along the lines of a group at once: the one finding of a refused file, or the counts of an accepted one.
 use crate::group::Far;
 use course::Course;
 use course::Move;

@@ -46,7 +46,7 @@ module _ (sh : Sheet) (today : ℕ) where
       (ns, r, same-parts same .1)
 
   module _ (k : ℕ) (t : Line) (ts : List Line) (c : Context) {e : Entry} {v : ℕ} {p : Places} (q : readLine sh today c (t .bytes) ≡ said e v p) where
-    pub length-line : (total : ℕ) → ((ns : List Notice) → length (totalWarned sh today k t ts (c .kind) (saying e ns p)) ≡ total) → length (lineWarned sh today k t ts c) ≡ total + v
+    length-line : (total : ℕ) → ((ns : List Notice) → length (totalWarned sh today k t ts (c .kind) (saying e ns p)) ≡ total) → length (lineWarned sh today k t ts c) ≡ total + v
     unfolding lineWarned onListed
     length-line total h =
         let (ns, r, n) = listed c t q in
