@@ -24,7 +24,8 @@ enum {
     ITEM_CONSTANT = 9,
     ITEM_PRIORITY = 10,
     ITEM_PARTS = 11,
-    ITEM_NAME = 19
+    ITEM_NAME = 19,
+    ITEM_REFERENCE = 21
 };
 
 /* Fields of the header. */

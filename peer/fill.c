@@ -6,7 +6,8 @@
 #include "lines.h"
 #include "split.h"
 
-/* Every word is stored: those that a row does not use stay zero. */
+/* Every word is stored: those that a row does not use stay zero, and so does an
+   item's reference, which no file carries. */
 static void start_row(uint8_t *row, uint64_t kind)
 {
     memset(row, 0, ROW_BYTES);

@@ -85,6 +85,12 @@ static uint64_t item_text_fault(const struct batch *b, const uint8_t *row)
     return 0;
 }
 
+/* No file carries the reference, so its range is all that is asked. */
+static uint64_t reference_fault(const uint8_t *row)
+{
+    return row_word(row, ITEM_REFERENCE) > REFERENCE_MOST ? ITEM_REFERENCE : 0;
+}
+
 static uint64_t item_fault(const struct walk *w, const uint8_t *row)
 {
     struct account payer = row_account(row, ITEM_PAYER);
@@ -105,7 +111,8 @@ static uint64_t item_fault(const struct walk *w, const uint8_t *row)
         return ITEM_CONSTANT;
     if (row_word(row, ITEM_PRIORITY) < 3 || row_word(row, ITEM_PRIORITY) > 9)
         return ITEM_PRIORITY;
-    return item_text_fault(w->b, row);
+    uint64_t text = item_text_fault(w->b, row);
+    return text != 0 ? text : reference_fault(row);
 }
 
 /* K: first three digits in the interval and new in the file. */

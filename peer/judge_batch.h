@@ -1,4 +1,5 @@
-/* Rows and header against "The batch" (20) and against the sheet (21). */
+/* Rows and header against "The batch" and the range of references (20), and
+   against the sheet (21). */
 #ifndef PEER_JUDGE_BATCH_H
 #define PEER_JUDGE_BATCH_H
 

@@ -7,6 +7,9 @@
  * statements 17, lent as bytes of any alignment.  A pointer may be NULL where
  * its length is 0.  A refusal changes none of the lent bytes.
  *
+ * Word 21 of an item's row is the caller's own reference, below 2^32 (request
+ * W-206).  Reading sets it to 0; writing tests its range and passes over it.
+ *
  * Each file here is used by those above it only:
  *
  *   rewrite.c                                 the rewriting program

@@ -27,6 +27,7 @@ enum { SHEETS = 5 };
 #define SYMBOL_MOST UINT64_C(9999999999)
 #define BASE_MOST UINT64_C(9999999999)
 #define PREFIX_MOST UINT64_C(999999)
+#define REFERENCE_MOST UINT64_C(4294967295) /* request W-206 */
 
 enum peer_tail {
     PEER_TAIL_PART,   /* S: symbol and first message part, both spaces kept */

@@ -187,7 +187,7 @@ static uint64_t word_at(const uint8_t *bytes)
     return word;
 }
 
-/* Unused words are zero, and an empty text is place 0. */
+/* Unused words and references are zero, and an empty text is place 0. */
 static bool row_is_tidy(const uint64_t *row)
 {
     size_t used = row[0] == 1 ? 3 : row[0] == 2 ? 4 : 21;

@@ -134,6 +134,7 @@ void test_rewriting(void);
 void test_sheet_p(void);
 void test_collections(void);
 void test_collection_rows(void);
+void test_references(void);
 void test_samples(void);
 void test_random(void);
 void test_statements(void);

@@ -12,6 +12,7 @@ int main(void)
     test_sheet_p();
     test_collections();
     test_collection_rows();
+    test_references();
     test_samples();
     test_random();
     test_statements();

@@ -1,6 +1,6 @@
-/* Random batches come back as they were written; random damage to files and
-   rows neither crashes nor touches what is not lent; what P accepts C accepts
-   too. */
+/* Random batches come back as they were written, without their references;
+   random damage to files and rows neither crashes nor touches what is not lent;
+   what P accepts C accepts too. */
 #include "check.h"
 
 static struct batch_in b;
@@ -104,6 +104,7 @@ static void draw_item(unsigned sheet, bool single, uint64_t bank)
             draw_text(row, word, sheet);
     if (sheet == C && one_in(2))
         draw_text(row, 19, sheet);
+    row[21] = one_in(3) ? 0 : below(UINT64_C(1) << 32);
 }
 
 static void draw_group(unsigned sheet, uint64_t kind)
@@ -178,7 +179,7 @@ static uint64_t past_days(void)
     return past;
 }
 
-/* ---- equality ---- */
+/* ---- equality, to which references do not count ---- */
 
 static bool same_text(const uint64_t *x, const uint8_t *x_bytes,
                       const uint64_t *y, const uint8_t *y_bytes, size_t word)
@@ -265,6 +266,22 @@ static bool rewrites_to(unsigned sheet, const uint8_t *file, size_t len,
 static uint8_t canonical[8192];
 static struct read_in r, again;
 
+/* No file carries references: none come back, and without them the batch is
+   written alike. */
+static void without_references(unsigned sheet, size_t len)
+{
+    bool none = true;
+    for (size_t i = 0; i < b.rows; i++) {
+        none = none && r.words[i][21] == 0;
+        b.words[i][21] = 0;
+    }
+    CHECK("random: no reference comes back", none);
+    struct peer_written w = batch_write(&b, sheet, TODAY, sizeof canonical);
+    CHECK("random: references change nothing",
+          w.number == 0 && w.bytes == len &&
+              memcmp(test_out, canonical, len) == 0);
+}
+
 static void round_trip(unsigned sheet, struct drawn *drawn)
 {
     draw_batch(sheet);
@@ -289,6 +306,7 @@ static void round_trip(unsigned sheet, struct drawn *drawn)
     CHECK("random: rewriting keeps it",
           rewrites_to(sheet, canonical, (size_t)w.bytes, canonical,
                       (size_t)w.bytes));
+    without_references(sheet, (size_t)w.bytes);
 }
 
 size_t damage_batch_file(uint8_t *file, size_t len)
@@ -358,16 +376,24 @@ static unsigned damaged_file(unsigned sheet)
     return r.answer.number == 0;
 }
 
+static bool reference_is_wild(void)
+{
+    for (size_t i = 0; i < b.rows; i++)
+        if (b.words[i][0] == 3 && b.words[i][21] >> 32 != 0)
+            return true;
+    return false;
+}
+
 /* Rows with wild words; whatever is written is read alike. */
-static void damaged_rows(unsigned sheet)
+static unsigned damaged_rows(unsigned sheet)
 {
     draw_batch(sheet);
     for (uint64_t times = 1 + below(3); times > 0; times--) {
         uint64_t wild[] = {0, 1, 2, 3, 4, 5, 36, b.texts_len, UINT64_MAX,
                            UINT64_MAX - 34, UINT64_C(1) << 63, draw(),
                            20180229, 20180101, 20180201, 20180202, 300,
-                           1502};
-        b.words[below(b.rows)][below(WORDS)] = wild[below(18)];
+                           1502, UINT64_C(1) << 32};
+        b.words[below(b.rows)][below(WORDS)] = wild[below(19)];
     }
     if (one_in(10))
         b.left_over = 1 + below(191);
@@ -376,13 +402,16 @@ static void damaged_rows(unsigned sheet)
     struct peer_written w = batch_write(&b, sheet, TODAY, 8192);
     CHECK("random: a known number", w.number == 0 || w.number == 20 ||
                                         w.number == 21);
+    CHECK("random: a wild reference is 20",
+          w.number == 20 || !reference_is_wild());
     if (w.number != 0)
-        return;
+        return reference_is_wild();
     read_file(&r, test_out, (size_t)w.bytes, sheet);
     bool same = r.answer.number == 0 && r.answer.rows == b.rows;
     for (size_t i = 0; same && i < b.rows; i++)
         same = same_row(b.words[i], b.texts, r.words[i], test_out);
     CHECK("random: what is written can be read", same);
+    return 0;
 }
 
 /* ---- from P to C ---- */
@@ -476,7 +505,7 @@ static void moves_to_c(int times)
 
 void test_random(void)
 {
-    unsigned kept = 0;
+    unsigned kept = 0, wild = 0;
     struct drawn drawn = {0, 0, 0};
     for (int i = 0; i < 5 * 500; i++)
         round_trip(K + i % 5, &drawn);
@@ -486,6 +515,7 @@ void test_random(void)
         kept += damaged_file(K + i % 5);
     CHECK("random: some damage is harmless", kept > 300);
     for (int i = 0; i < 5 * 1000; i++)
-        damaged_rows(K + i % 5);
+        wild += damaged_rows(K + i % 5);
+    CHECK("random: some references are wild", wild > 50);
     moves_to_c(1500);
 }

@@ -57,6 +57,7 @@ static void fields_26(void)
         wrong_word("26: text of 36", 3, word + 1, 36, word);
         wrong_word("26: text, huge", 3, word + 1, UINT64_MAX, word);
     }
+    wrong_word("26: reference", 3, 21, UINT64_C(1) << 32, 21);
 }
 
 static void header_26(void)
@@ -114,10 +115,12 @@ static void header_names_26(void)
 
 static void order_of_fields_26(void)
 {
-    static const size_t words[] = {4, 5, 6, 7, 8, 9, 10, 12, 14, 16, 18, 20};
-    static const size_t fields[] = {3, 5, 6, 7, 8, 9, 10, 11, 13, 15, 17, 19};
+    static const size_t words[] = {4,  5,  6,  7,  8,  9, 10,
+                                   12, 14, 16, 18, 20, 21};
+    static const size_t fields[] = {3,  5,  6,  7,  8,  9, 10,
+                                    11, 13, 15, 17, 19, 21};
     batch_start(&b);
-    for (size_t i = 12; i-- > 0;) {
+    for (size_t i = 13; i-- > 0;) {
         b.words[2][words[i]] = UINT64_MAX;
         not_written("26: the first wrong field of an item", &b, K, 20, 3,
                     fields[i]);
@@ -233,19 +236,28 @@ static uint8_t *many_rows(size_t files, size_t items, size_t *len)
     return rows;
 }
 
-static struct peer_written write_many(size_t files, size_t items,
-                                      uint64_t sheet, size_t spoiled)
+/* With one word all ones, unless its row is 0. */
+static struct peer_written write_spoiled(size_t files, size_t items,
+                                         uint64_t sheet, size_t spoiled,
+                                         size_t word)
 {
     static const uint8_t name[] = "KLIENT TEST         ";
     size_t len;
     uint8_t *rows = many_rows(files, items, &len);
     if (spoiled > 0)
-        rows[(spoiled - 1) * ROW + 40] = 0; /* an item's bank */
+        memset(rows + (spoiled - 1) * ROW + 8 * word, 0xff, 8);
     struct peer_written w =
         peer_write(rows, len, NULL, 0, 20180101, name, 20, 0, 0, 999, sheet,
                    TODAY, NULL, 0);
     free(rows);
     return w;
+}
+
+/* The word is an item's bank. */
+static struct peer_written write_many(size_t files, size_t items,
+                                      uint64_t sheet, size_t spoiled)
+{
+    return write_spoiled(files, items, sheet, spoiled, 5);
 }
 
 static void too_many_27(void)
@@ -261,6 +273,12 @@ static void too_many_27(void)
     w = write_many(1, 100000, C, 100002);
     CHECK("27: item 100,000 before its fields",
           w.number == 20 && w.row == 100002 && w.field == 0);
+    w = write_spoiled(1, 100000, C, 100002, 21);
+    CHECK("27: item 100,000 before its reference",
+          w.number == 20 && w.row == 100002 && w.field == 0);
+    w = write_spoiled(1, 100000, C, 100001, 21);
+    CHECK("27: the reference of item 99,999",
+          w.number == 20 && w.row == 100001 && w.field == 21);
     w = write_many(2, 60000, C, 0);
     CHECK("27: the next account file counts anew", w.number == 16);
     w = write_many(1000, 1, K, 0);
@@ -276,6 +294,9 @@ static void too_many_27(void)
     w = write_many(2, 501, S, 1006);
     CHECK("27: 20 behind item 1,001 of S",
           w.number == 20 && w.row == 1006 && w.field == 5);
+    w = write_spoiled(2, 501, S, 1005, 21);
+    CHECK("27: 20 in item 1,001 of S",
+          w.number == 20 && w.row == 1005 && w.field == 21);
     w = write_many(2, 501, E, 0);
     CHECK("27: 1,002 items of E", w.number == 16);
     w = write_many(2, 501, P, 0);
@@ -484,7 +505,7 @@ static void empty_texts_30(void)
             b.words[0][word] = UINT64_MAX;
         for (size_t word = 4; word < WORDS; word++)
             b.words[1][word] = UINT64_MAX;
-        for (size_t word = 21; word < WORDS; word++)
+        for (size_t word = 22; word < WORDS; word++)
             b.words[2][word] = UINT64_MAX;
         CHECK("30: words without use are not looked at",
               batch_write(&b, sheet, TODAY, 4096).number == 0);
