@@ -12,7 +12,7 @@ use Rattle.sheet.proofs.Laws.{Sane}
 use Rattle.paper.specs.Bytes.{bytes}
 use Rattle.paper.specs.Days.{spellDay}
 use Rattle.paper.specs.Accounts.{Account, isNobody}
-use Rattle.paper.specs.Batch.{Batch, Header, Thing, aFile, aGroup, anItem, strange, things, batchOf}
+use Rattle.paper.specs.Batch.{Batch, Header, Thing, aFile, aGroup, anItem, misnumbered, strange, things, batchOf}
 use Rattle.paper.specs.Proper.{Stage, needFile, needGroup, needItem, any, Before, atTop, fine, headerProper, rowsProper, batchProper, afterFile, afterGroup, afterItem}
 use Rattle.paper.specs.FirstLine.{spellFirst}
 use Rattle.paper.specs.GroupLine.{spellPayer}
@@ -22,7 +22,7 @@ use Rattle.paper.specs.Canonical.{canon}
 use Rattle.paper.proofs.Trees.{batch-things}
 use Rattle.paper.proofs.Verdicts.{headed}
 use Rattle.calendar.proofs.Back.{spell-day-length}
-use Rattle.roundtrip.proofs.linesound.Rows.{file-proper, group-proper, item-proper, strange-proper}
+use Rattle.roundtrip.proofs.linesound.Rows.{file-proper, group-proper, item-proper, misnumbered-proper, strange-proper}
 use Rattle.roundtrip.specs.flat.Count.{groupFront, groupClosing, fileClosing, count}
 use Rattle.roundtrip.proofs.flat.Lengths.{canon-length}
 use Rattle.roundtrip.specs.whole.Carries.{FourParts, Carries}
@@ -75,6 +75,7 @@ count-most sh k b (anItem x ∷ ts) e (parts, four) =
     let (_, _, _, p, r) = item-proper k b x ts e in
     let (s, l) = proper-short k (b .single) (b .sum) x (rowsProper (suc k) (afterItem b x) ts) p in
     omega (arith, item-most sh x s parts l, count-most sh (suc k) (afterItem b x) ts r four)
+count-most sh k b (misnumbered x ∷ ts) e four = absurd (misnumbered-proper k b x ts e)
 count-most sh k b (strange ∷ ts) e four = absurd (strange-proper k b ts e)
 
 -- ---- the whole file

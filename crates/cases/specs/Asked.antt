@@ -30,7 +30,7 @@ use Rattle.paper.specs.ClosingLine.{plusAt, readClose}
 use Rattle.paper.specs.Spells.{forItem, numberTest, readAs, readLine, itemDues, groupDues, fileDues, dues, differs, groupItems, fileItems}
 use Rattle.paper.specs.Judge.{Answer, seen, contextOf, isDue, isFull, totalBroken, closed, meet, onSaid, read, step, endOf, run, judge}
 use Rattle.paper.specs.Words.{wordOf, wordBytes, words, rowsOn, blanks, wordsBytes, rowsBytes, rowsOf}
-use Rattle.paper.specs.Rows.{textAt, thingIn, thingsIn, fileRow, groupRow, textWords, textsWords, itemRow, entryRow, lineRow, singleAfter, singleBehind, linesRows}
+use Rattle.paper.specs.Rows.{textAt, referenceProper, thingIn, thingsIn, fileRow, groupRow, textWords, textsWords, itemRow, entryRow, lineRow, singleAfter, singleBehind, linesRows}
 use Rattle.paper.specs.Reading.{refusedAt, needs, acceptedAs, answered, readWith, readAnswer, filled, rowsWith, rowsAfter}
 use Rattle.paper.specs.Carried.{headerCarried, partsCarriedFrom, itemCarried, rowsCarried, batchCarried}
 use Rattle.paper.specs.Canonical.{spell, textOf, canon}
@@ -63,5 +63,5 @@ written sh h ts = draftOf sh today h ts
 
 -- an input, as the rewriting program rewrites it
 unfoldable pub rewrites : String → List ℕ
-unfolding judged written sheetOf sheetBy wordOf wordBytes words rowsOn rowsOf textAt thingIn thingsIn blanks fileRow groupRow textWords textsWords itemRow entryRow lineRow singleAfter singleBehind linesRows wordsBytes rowsBytes refusedAt needs acceptedAs answered readWith readAnswer filled rowsWith rowsAfter draftWith draft writtenIn outputAfter refusedLine firstLine pastLF behindFirst rewritten onDay dayField onSheet onLetter rewriting
+unfolding judged written sheetOf sheetBy wordOf wordBytes words rowsOn rowsOf textAt referenceProper thingIn thingsIn blanks fileRow groupRow textWords textsWords itemRow entryRow lineRow singleAfter singleBehind linesRows wordsBytes rowsBytes refusedAt needs acceptedAs answered readWith readAnswer filled rowsWith rowsAfter draftWith draft writtenIn outputAfter refusedLine firstLine pastLF behindFirst rewritten onDay dayField onSheet onLetter rewriting
 rewrites s = rewriting (bytes s)

@@ -60,11 +60,13 @@ most14 = 99999999999999
 
 -- ---- the batch as one list: an account file, its groups, behind each group its items; "one row per account file, group and item, in order"
 
--- `strange` is what a row of no known kind says
+-- Two things that rows may say are not of a batch: `misnumbered` is an item whose reference, which the row has besides, is out of range (document 02,
+-- W-206); `strange` is what a row of no known kind says.
 pub data Thing : Type 0 where
   aFile : ℕ → ℕ → Thing
   aGroup : ℕ → Account → Thing
   anItem : Item → Thing
+  misnumbered : Item → Thing
   strange : Thing
 
 -- a group's items, in front of what follows
@@ -88,7 +90,7 @@ pub record Heap : Type 0 where
   pub groups : List Group
   pub files : List AccountFile
 
--- an item goes to the items, a group takes the items behind it, an account file the groups behind it
+-- an item goes to the items, a group takes the items behind it, an account file the groups behind it; what is not of a batch is left out
 unfoldable pub heapOf : List Thing → Heap
 heapOf [] = record { items = []; groups = []; files = [] }
 heapOf (anItem x ∷ ts) = let h = heapOf ts in record { items = x ∷ h .items; groups = h .groups; files = h .files }
@@ -96,6 +98,7 @@ heapOf (aGroup d p ∷ ts) =
     let h = heapOf ts in record { items = []; groups = record { date = d; payer = p; items = h .items } ∷ h .groups; files = h .files }
 heapOf (aFile k n ∷ ts) =
     let h = heapOf ts in record { items = []; groups = []; files = record { kind = k; number = n; groups = h .groups } ∷ h .files }
+heapOf (misnumbered x ∷ ts) = heapOf ts
 heapOf (strange ∷ ts) = heapOf ts
 
 -- the account files of the whole list

@@ -13,7 +13,7 @@ use Rattle.paper.specs.Terms.{dayHere, bankDue}
 use Rattle.paper.specs.Amounts.{amountProper}
 use Rattle.paper.specs.BankField.{priorityCarried}
 use Rattle.paper.specs.Texts.{partCarried, nameCarried}
-use Rattle.paper.specs.Batch.{Item, Header, Thing, aFile, aGroup, anItem, strange}
+use Rattle.paper.specs.Batch.{Item, Header, Thing, aFile, aGroup, anItem, misnumbered, strange}
 use Rattle.paper.specs.FileLine.{series, numberAllowed}
 use Rattle.paper.specs.Proper.{Verdict, fine, wrong, check}
 
@@ -71,6 +71,7 @@ rowsCarried sh today h k p (anItem x ∷ ts) =
     check k 0 (ltb (p .items) (sh .fileitems))
     (check k 5 (bankDue sh today (p .kind) (p .date) (x .bank))
     (itemCarried sh k x (rowsCarried sh today h (suc k) (behindItem p) ts)))
+rowsCarried sh today h k p (misnumbered x ∷ ts) = wrong k 21
 rowsCarried sh today h k p (strange ∷ ts) = wrong k 0
 
 -- the whole batch from row 1 on

@@ -17,7 +17,7 @@ use Rattle.paper.specs.Accounts.{accountProper, isNobody}
 use Rattle.paper.specs.Amounts.{amountProper}
 use Rattle.paper.specs.BankField.{bankProper, priorityProper, priorityCarried}
 use Rattle.paper.specs.Texts.{partProper, nameProper, partCarried, nameCarried}
-use Rattle.paper.specs.Batch.{Item, Header, Thing, aFile, aGroup, anItem, strange, sum, most14}
+use Rattle.paper.specs.Batch.{Item, Header, Thing, aFile, aGroup, anItem, misnumbered, strange, sum, most14}
 use Rattle.paper.specs.FileLine.{series, numberAllowed}
 use Rattle.paper.specs.Proper.{Stage, needFile, needGroup, needItem, any, fileDue, groupDue, itemDue, mayStop, kindProper, payerProper, itemPayerProper}
 
@@ -45,7 +45,7 @@ pub record FirstWrong (rules : List Rule) (row field : ℕ) : Type 0 where
   pub split : rules ≡ before ++ (rule row field false ∷ after)
   pub lawful : AllMet before
 
--- ---- what the rows before a row hold; they are listed last one first
+-- ---- what the rows before a row hold; they are listed last one first. Behind a row that is not of a batch no rule matters any more.
 
 -- the first three digits of each account file's number
 unfoldable pub seriesIn : List Thing → List ℕ
@@ -53,6 +53,7 @@ seriesIn [] = []
 seriesIn (aFile kind number ∷ ts) = series number ∷ seriesIn ts
 seriesIn (aGroup date payer ∷ ts) = seriesIn ts
 seriesIn (anItem x ∷ ts) = seriesIn ts
+seriesIn (misnumbered x ∷ ts) = seriesIn ts
 seriesIn (strange ∷ ts) = seriesIn ts
 
 -- all items
@@ -61,6 +62,7 @@ itemsIn [] = []
 itemsIn (aFile kind number ∷ ts) = itemsIn ts
 itemsIn (aGroup date payer ∷ ts) = itemsIn ts
 itemsIn (anItem x ∷ ts) = x ∷ itemsIn ts
+itemsIn (misnumbered x ∷ ts) = itemsIn ts
 itemsIn (strange ∷ ts) = itemsIn ts
 
 -- the items since the last account file's row
@@ -69,6 +71,7 @@ itemsOfFile [] = []
 itemsOfFile (aFile kind number ∷ ts) = []
 itemsOfFile (aGroup date payer ∷ ts) = itemsOfFile ts
 itemsOfFile (anItem x ∷ ts) = x ∷ itemsOfFile ts
+itemsOfFile (misnumbered x ∷ ts) = itemsOfFile ts
 itemsOfFile (strange ∷ ts) = itemsOfFile ts
 
 -- the items since the last group's row
@@ -77,6 +80,7 @@ itemsOfGroup [] = []
 itemsOfGroup (aFile kind number ∷ ts) = []
 itemsOfGroup (aGroup date payer ∷ ts) = []
 itemsOfGroup (anItem x ∷ ts) = x ∷ itemsOfGroup ts
+itemsOfGroup (misnumbered x ∷ ts) = itemsOfGroup ts
 itemsOfGroup (strange ∷ ts) = itemsOfGroup ts
 
 -- has the last group no payer, so that its items have one each?
@@ -85,6 +89,7 @@ inSingle [] = false
 inSingle (aFile kind number ∷ ts) = false
 inSingle (aGroup date payer ∷ ts) = isNobody payer
 inSingle (anItem x ∷ ts) = inSingle ts
+inSingle (misnumbered x ∷ ts) = inSingle ts
 inSingle (strange ∷ ts) = inSingle ts
 
 -- the kind of the last account file, 0 where there is none
@@ -93,6 +98,7 @@ kindIn [] = 0
 kindIn (aFile kind number ∷ ts) = kind
 kindIn (aGroup date payer ∷ ts) = kindIn ts
 kindIn (anItem x ∷ ts) = kindIn ts
+kindIn (misnumbered x ∷ ts) = kindIn ts
 kindIn (strange ∷ ts) = kindIn ts
 
 -- the due date of its last group, 0 where there is none
@@ -101,6 +107,7 @@ dateIn [] = 0
 dateIn (aFile kind number ∷ ts) = 0
 dateIn (aGroup date payer ∷ ts) = date
 dateIn (anItem x ∷ ts) = dateIn ts
+dateIn (misnumbered x ∷ ts) = dateIn ts
 dateIn (strange ∷ ts) = dateIn ts
 
 -- what may come next, by the last of them
@@ -109,6 +116,7 @@ stageBehind [] = needFile
 stageBehind (aFile kind number ∷ ts) = needGroup
 stageBehind (aGroup date payer ∷ ts) = needItem
 stageBehind (anItem x ∷ ts) = any
+stageBehind (misnumbered x ∷ ts) = needFile
 stageBehind (strange ∷ ts) = needFile
 
 -- ---- the rules of rows
@@ -136,19 +144,9 @@ properHeader h =
     ∷ rule 0 5 (ltb (h .to) 1000)
     ∷ []
 
--- An account file may stand here, and is not number 1,001; its kind, its number. A group may stand here; its day, its payer. An item may
--- stand here, and is not number 100,000 of its account file; its fields, and with its amount the group's sum is not too large. A row of
--- no known kind may stand nowhere.
-unfoldable pub properRow : ℕ → List Thing → Thing → List Rule
-properRow k before (aFile kind number) =
-    rule k 0 (fileDue (stageBehind before))
-    ∷ rule k 0 (ltb (length (seriesIn before)) 1000)
-    ∷ rule k 1 (kindProper kind)
-    ∷ rule k 2 (ltb number 1000000)
-    ∷ []
-properRow k before (aGroup date payer) =
-    rule k 0 (groupDue (stageBehind before)) ∷ rule k 1 (realDay date) ∷ rule k 2 (payerProper payer) ∷ []
-properRow k before (anItem x) =
+-- of an item: it may stand here, and is not number 100,000 of its account file; its fields, and with its amount the group's sum is not too large
+unfoldable pub itemRules : ℕ → List Thing → Item → List Rule
+itemRules k before x =
     rule k 0 (itemDue (stageBehind before))
     ∷ rule k 0 (ltb (length (itemsOfFile before)) 99999)
     ∷ rule k 1 (itemPayerProper (inSingle before) (x .payer))
@@ -161,6 +159,20 @@ properRow k before (anItem x) =
     ∷ rule k 9 (ltb (x .constant) 10000)
     ∷ rule k 10 (priorityProper (x .priority))
     ∷ (partRules k (λ i p. partProper p) 0 (x .parts) ++ (rule k 19 (nameProper (x .name)) ∷ []))
+
+-- An account file may stand here, and is not number 1,001; its kind, its number. A group may stand here; its day, its payer. An item's rules; where
+-- its reference is out of range (document 02, W-206) that is the last of them, and is not met. A row of no known kind may stand nowhere.
+unfoldable pub properRow : ℕ → List Thing → Thing → List Rule
+properRow k before (aFile kind number) =
+    rule k 0 (fileDue (stageBehind before))
+    ∷ rule k 0 (ltb (length (seriesIn before)) 1000)
+    ∷ rule k 1 (kindProper kind)
+    ∷ rule k 2 (ltb number 1000000)
+    ∷ []
+properRow k before (aGroup date payer) =
+    rule k 0 (groupDue (stageBehind before)) ∷ rule k 1 (realDay date) ∷ rule k 2 (payerProper payer) ∷ []
+properRow k before (anItem x) = itemRules k before x
+properRow k before (misnumbered x) = itemRules k before x ++ (rule k 21 false ∷ [])
 properRow k before strange = rule k 0 false ∷ []
 
 -- the rows may end here: no row is missing
@@ -190,6 +202,7 @@ module _ (sh : Sheet) (today : ℕ) (h : Header) where
       ∷ rule k 6 (amountProper (sh .itemmax) (x .amount))
       ∷ rule k 10 (priorityCarried (sh .priority) (x .priority))
       ∷ (partRules k (partCarried (sh .text)) 0 (x .parts) ++ (rule k 19 (nameCarried (sh .text) (x .name)) ∷ []))
+  carriedRow k before (misnumbered x) = rule k 21 false ∷ []
   carriedRow k before strange = rule k 0 false ∷ []
 
   -- the header's, where the sheet has one; then the rows'; their end has none

@@ -13,7 +13,7 @@ use Rattle.paper.specs.Accounts.{Account, accountProper, isNobody}
 use Rattle.paper.specs.Amounts.{amountProper}
 use Rattle.paper.specs.BankField.{bankProper, priorityProper}
 use Rattle.paper.specs.Texts.{partProper, nameProper}
-use Rattle.paper.specs.Batch.{Item, Header, Thing, aFile, aGroup, anItem, strange, most14}
+use Rattle.paper.specs.Batch.{Item, Header, Thing, aFile, aGroup, anItem, misnumbered, strange, most14}
 
 -- nothing is wrong, or what is wrong first: the row and the field
 pub data Verdict : Type 0 where
@@ -124,7 +124,11 @@ itemProper k single before x rest =
     (partsFrom k 11 (x .parts)
     (check k 19 (nameProper (x .name)) rest)))))))))
 
--- the rows from row k on; the list's end is a missing row, unless any may come next
+-- an item may stand here, and is not number 100,000 of its account file; its fields
+abbrev pub itemStands : ℕ → Before → Item → Verdict → Verdict
+itemStands k b x rest = check k 0 (pick (itemDue (b .stage)) (ltb (b .items) 99999) false) (itemProper k (b .single) (b .sum) x rest)
+
+-- The rows from row k on; the list's end is a missing row, unless any may come next. An item's reference is its last field, 21 (document 02, W-206).
 unfoldable pub rowsProper : ℕ → Before → List Thing → Verdict
 rowsProper k b [] = check k 0 (mayStop (b .stage)) fine
 rowsProper k b (aFile kind number ∷ ts) =
@@ -135,9 +139,8 @@ rowsProper k b (aGroup date payer ∷ ts) =
     check k 0 (groupDue (b .stage))
     (check k 1 (realDay date)
     (check k 2 (payerProper payer) (rowsProper (suc k) (afterGroup b payer) ts)))
-rowsProper k b (anItem x ∷ ts) =
-    check k 0 (pick (itemDue (b .stage)) (ltb (b .items) 99999) false)
-    (itemProper k (b .single) (b .sum) x (rowsProper (suc k) (afterItem b x) ts))
+rowsProper k b (anItem x ∷ ts) = itemStands k b x (rowsProper (suc k) (afterItem b x) ts)
+rowsProper k b (misnumbered x ∷ ts) = itemStands k b x (wrong k 21)
 rowsProper k b (strange ∷ ts) = wrong k 0
 
 -- "The batch", whole: 1 to 1,000 account files of one or more groups, each of one or more items

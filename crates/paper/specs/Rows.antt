@@ -2,14 +2,14 @@
 use Prim.Native.Nat.{ℕ, suc, _+_}
 use mathlib.Core.Bool.{Bool}
 use mathlib.Core.List.{List, [], _∷_, _++_}
-use lib.Dec.{eqb, leb}
+use lib.Dec.{eqb, ltb, leb}
 use lib.ListN.{length, take, drop}
 use Rattle.base.specs.Pick.{pick}
 use Rattle.sheet.specs.declared.Sheet.{Sheet}
 use Rattle.paper.specs.Words.{word, blanks, rowsOf}
 use Rattle.paper.specs.Bytes.{null}
 use Rattle.paper.specs.Accounts.{Account, account, isNobody}
-use Rattle.paper.specs.Batch.{Item, Thing, aFile, aGroup, anItem, strange}
+use Rattle.paper.specs.Batch.{Item, Thing, aFile, aGroup, anItem, misnumbered, strange}
 use Rattle.paper.specs.Lines.{Line}
 use Rattle.paper.specs.Entries.{Entry, head, file, group, item, closeGroup, closeFile, Places, Counted, got, no}
 use Rattle.paper.specs.Spells.{Context, forItem, readLine}
@@ -45,12 +45,16 @@ itemIn t r =
       name = textAt t r 19;
     }
 
--- what a row says: word 0 is 1 for an account file, 2 for a group, 3 for an item
+-- A reference is the caller's own number of an item, below 2^32. No file carries it. Document 02, W-206.
+unfoldable pub referenceProper : ℕ → Bool
+referenceProper n = ltb n 4294967296
+
+-- what a row says: word 0 is 1 for an account file, 2 for a group, 3 for an item, whose word 21 is its reference
 unfoldable pub thingIn : List ℕ → List ℕ → Thing
 thingIn t r =
     pick (eqb (word r 0) 1) (aFile (word r 1) (word r 2))
     (pick (eqb (word r 0) 2) (aGroup (word r 1) (account (word r 2) (word r 3)))
-    (pick (eqb (word r 0) 3) (anItem (itemIn t r)) strange))
+    (pick (eqb (word r 0) 3) (pick (referenceProper (word r 21)) (anItem (itemIn t r)) (misnumbered (itemIn t r))) strange))
 
 -- what rows say, in order
 unfoldable pub thingsIn : List ℕ → List (List ℕ) → List Thing
@@ -77,7 +81,7 @@ textsWords start spots [] = []
 textsWords start [] (t ∷ ts) = textWords start 0 t ++ textsWords start [] ts
 textsWords start (off ∷ spots) (t ∷ ts) = textWords start off t ++ textsWords start spots ts
 
--- an item's row: its numbers, then places and lengths of parts and name
+-- an item's row: its numbers, then places and lengths of parts and name; no file carries a reference, so that it is 0
 unfoldable pub itemRow : ℕ → List ℕ → Item → List ℕ
 itemRow start spots x =
     3 ∷ x .payer .prefix ∷ x .payer .base ∷ x .payee .prefix ∷ x .payee .base ∷ x .bank ∷ x .amount ∷ x .variable ∷ x .specific ∷ x .constant

@@ -10,11 +10,11 @@ use Rattle.base.specs.Pick.{pick}
 use Rattle.base.proofs.Cases.{pick-true}
 use Rattle.paper.specs.Bytes.{null}
 use Rattle.paper.specs.Accounts.{Account}
-use Rattle.paper.specs.Batch.{Item, Thing, aFile, aGroup, anItem, strange}
+use Rattle.paper.specs.Batch.{Item, Thing, aFile, aGroup, anItem, misnumbered, strange}
 use Rattle.paper.specs.Texts.{Piece}
 use Rattle.paper.specs.Entries.{Places}
 use Rattle.paper.specs.Words.{blanks}
-use Rattle.paper.specs.Rows.{textAt, thingIn, fileRow, groupRow, textWords, textsWords, itemRow, textSpots}
+use Rattle.paper.specs.Rows.{textAt, referenceProper, thingIn, fileRow, groupRow, textWords, textsWords, itemRow, textSpots}
 use Rattle.out.specs.word.Sizes.{Small}
 use Rattle.out.proofs.word.Laws.{blanks-small}
 use Rattle.rowlaws.specs.Places.{Here, Lies, Lie}
@@ -27,6 +27,7 @@ abbrev pub Fair : Thing → Type 0
 Fair (aFile k n) = Unit {0}
 Fair (aGroup d p) = Unit {0}
 Fair (anItem x) = x .amount < 2 ^ 64
+Fair (misnumbered x) = Unit {0}
 Fair strange = Unit {0}
 
 -- the row r holds the thing t, with its texts in f
@@ -106,7 +107,7 @@ module _ (f : List ℕ) (x : Item) (t1 t2 t3 t4 t5 : List ℕ) (p1 p2 p3 p4 p5 :
   line = wordsOf x p1 (length t1) p2 (length t2) p3 (length t3) p4 (length t4) p5 (length t5)
 
   line-tells : thingIn f line ≡ anItem (made x (t1 ∷ t2 ∷ t3 ∷ t4 ∷ []) t5)
-  unfolding thingIn textAt pick
+  unfolding thingIn referenceProper textAt pick
   line-tells = rw (told f p1 t1 s1, told f p2 t2 s2, told f p3 t3 s3, told f p4 t4 s4, told f p5 t5 s5)
 
   line-small : length f < 2 ^ 64 → x .amount < 2 ^ 64 → Short (x .payer) → Short (x .payee) → x .bank < 10000 → x .variable < 10000000000

@@ -16,6 +16,7 @@ ghost use Rattle.paper.specs.Amounts.{amountProper};
 ghost use Rattle.paper.specs.Texts.{nameProper, partProper};
 ghost use Rattle.paper.specs.Batch.{most14};
 ghost use Rattle.paper.specs.Proper.{Verdict, fine, check, headerProper, kindProper, payerProper, itemPayerProper};
+ghost use Rattle.paper.specs.Rows.{referenceProper};
 ghost use Rattle.rows.specs.read.Told.{textOfSpan};
 ghost use Rattle.rows.specs.read.After.{after};
 ghost use Rattle.rows.specs.proper.Stages.{moneyProper, symbolsProper, textsProper, ItemTested};
@@ -210,6 +211,16 @@ fn texts_check(texts: &[u8], x: ItemRow) -> Check
     Check::Fine
 }
 
+// Field 21: the reference.
+fn reference_check(x: ItemRow) -> Check
+    ensures { λ r. ⌜ ((k : ℕ) (rest : Verdict) → after k r rest ≡ check k 21 (referenceProper (x .reference)) rest) ⌝ }
+{
+    if 4294967296 <= x.reference {
+        return Check::Wrong(21);
+    }
+    Check::Fine
+}
+
 // An item's row, in a group that is single or not and whose items before it have this sum.
 pub fn item_check(texts: &[u8], x: ItemRow, single: bool, sum: u64) -> Check
     requires { ⌜ sum ≤ most14 ⌝ }
@@ -219,7 +230,10 @@ pub fn item_check(texts: &[u8], x: ItemRow, single: bool, sum: u64) -> Check
         Check::Wrong(n) => Check::Wrong(n),
         Check::Fine => match symbols_check(x) {
             Check::Wrong(n) => Check::Wrong(n),
-            Check::Fine => texts_check(texts, x),
+            Check::Fine => match texts_check(texts, x) {
+                Check::Wrong(n) => Check::Wrong(n),
+                Check::Fine => reference_check(x),
+            },
         },
     }
 }

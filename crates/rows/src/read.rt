@@ -5,11 +5,12 @@ ghost use mathlib.Core.List.{List};
 ghost use Prim.Native.Nat.{ℕ, _+_, _≤_};
 ghost use lib.Dec.{leb};
 ghost use lib.ListN.{length, drop};
+ghost use Rattle.paper.specs.Batch.{strange};
 ghost use Rattle.paper.specs.Words.{words};
 ghost use Rattle.paper.specs.Rows.{thingIn};
 ghost use Rattle.rows.specs.read.Told.{told, spanHere, sidesHere, symbolsHere, textsHere, itemWith, itemHere};
 
-// An item's row. No payer is prefix and base 0; the texts may lie outside what was lent.
+// An item's row. No payer is prefix and base 0; the texts may lie outside what was lent. The reference is the caller's own, and no item's.
 pub struct ItemRow {
     pub payerprefix: u64,
     pub payerbase: u64,
@@ -26,9 +27,10 @@ pub struct ItemRow {
     pub part3: Span,
     pub part4: Span,
     pub name: Span,
+    pub reference: u64,
 }
 
-// An item's row in the order of its words: who pays whom how much; the symbols; the texts.
+// An item's row in the order of its words, but for the last, its reference: who pays whom how much; the symbols; the texts.
 pub struct Sides {
     pub payerprefix: u64,
     pub payerbase: u64,
@@ -132,8 +134,8 @@ fn texts_at(rows: &[u8], at: usize) -> Texts
 }
 
 // The item with these words.
-fn item_with(w: Sides, y: Symbols, t: Texts) -> ItemRow
-    ensures { λ r. ⌜ r ≡ itemWith w y t ⌝ }
+fn item_with(w: Sides, y: Symbols, t: Texts, reference: u64) -> ItemRow
+    ensures { λ r. ⌜ r ≡ itemWith w y t reference ⌝ }
 {
     let part1 = t.part1;
     let part2 = t.part2;
@@ -156,6 +158,7 @@ fn item_with(w: Sides, y: Symbols, t: Texts) -> ItemRow
         part3,
         part4,
         name,
+        reference,
     }
 }
 
@@ -164,7 +167,13 @@ fn item_at(rows: &[u8], at: usize) -> ItemRow
     requires { ⌜ at + 192 ≤ length (now rows) ⌝ }
     ensures { λ r. ⌜ r ≡ itemHere (now (rows .entry)) at ⌝ }
 {
-    item_with(sides_at(rows, at), symbols_at(rows, at), texts_at(rows, at))
+    let reference = out::word::word_at(rows, at + 168);
+    item_with(
+        sides_at(rows, at),
+        symbols_at(rows, at),
+        texts_at(rows, at),
+        reference,
+    )
 }
 
 // The row that begins at `at`.
@@ -190,4 +199,26 @@ pub fn read_row(rows: &[u8], at: usize) -> RowRead
         );
     }
     RowRead::Strange
+}
+
+// The row that begins at `at`, where it was judged before and so is of a known kind: what is neither an item nor a group is an account file.
+pub fn take_row(rows: &[u8], at: usize) -> RowRead
+    requires { ⌜ at + 192 ≤ length (now rows) ⌝ }
+    ensures { λ r. ⌜ ((t : List ℕ) → (thingIn t (words 24 (drop at (now (rows .entry)))) ≡ strange → ⊥) → told t r ≡ thingIn t (words 24 (drop at (now (rows .entry))))) ⌝ }
+{
+    let kind = out::word::word_at(rows, at);
+    if kind == 3 {
+        return RowRead::Item(item_at(rows, at));
+    }
+    if kind == 2 {
+        return RowRead::Group(
+            out::word::word_at(rows, at + 8),
+            out::word::word_at(rows, at + 16),
+            out::word::word_at(rows, at + 24),
+        );
+    }
+    RowRead::File(
+        out::word::word_at(rows, at + 8),
+        out::word::word_at(rows, at + 16),
+    )
 }

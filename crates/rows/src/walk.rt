@@ -8,10 +8,10 @@ ghost use Prim.Native.Nat.{_≤_};
 ghost use lib.Dec.{ltb};
 ghost use Rattle.base.specs.Pick.{pick};
 ghost use Rattle.paper.specs.Accounts.{account};
-ghost use Rattle.paper.specs.Batch.{aFile, aGroup, anItem, most14};
+ghost use Rattle.paper.specs.Batch.{aFile, aGroup, most14};
 ghost use Rattle.paper.specs.Proper.{fileDue, groupDue, itemDue, mayStop, atTop, batchProper};
 ghost use Rattle.paper.specs.Rows.{rowsIn, thingsIn};
-ghost use Rattle.rows.specs.read.Told.{told, itemOf};
+ghost use Rattle.rows.specs.read.Told.{told, toldItem};
 ghost use Rattle.rows.specs.walk.Walks.{stageOf, beforeOf, Walks, verdictOf};
 
 // What may come next: an account file, a group, an item, or any of them.
@@ -147,7 +147,7 @@ pub fn group_proper(before: Before, date: u64, prefix: u64, base: u64) -> Walk
 // An item's row.
 pub fn item_proper(texts: &[u8], before: Before, x: ItemRow) -> Walk
     requires { ⌜ before .sum ≤ most14 ⌝ }
-    ensures { λ r. ⌜ Walks before (anItem (itemOf (now (texts .entry)) x)) r ⌝ }
+    ensures { λ r. ⌜ Walks before (toldItem (now (texts .entry)) x) r ⌝ }
 {
     let stage = before.stage;
     if !item_due(stage, before.items) {

@@ -78,7 +78,7 @@ fn fill_row(
     requires { ⌜ at + length (flat sh (stageWhen due) (thingsFrom (now texts) (now rows) row)) ≤ length (now out) ⌝ }
     ensures { λ r. ⌜ Filled sh due (thingIn (now (texts .entry)) (words 24 (drop row (now (rows .entry))))) (thingsFrom (now (texts .entry)) (now (rows .entry)) (row + 192)) (now (out .entry)) at (now (out .exit)) r ⌝ }
 {
-    match rows::read::read_row(rows, row) {
+    match rows::read::take_row(rows, row) {
         RowRead::File(kind, number) => {
             let e = end_file(out, at, due);
             let next = crate::putlines::put_file_line(out, e, sh, kind, number);

@@ -27,7 +27,7 @@ ghost use Rattle.calendar.specs.term.Allows.{allows};
 ghost use Rattle.rows.specs.declared.walk.Walk.the-variants.{On};
 ghost use Rattle.rows.specs.read.After.{after};
 ghost use Rattle.rows.specs.read.Sized.{Sized};
-ghost use Rattle.rows.specs.read.Told.{itemOf};
+ghost use Rattle.rows.specs.read.Told.{itemOf, toldItem};
 ghost use Rattle.rows.specs.walk.Walks.{Walks};
 ghost use Rattle.fileline.specs.seen.Bits.{Holds};
 ghost use Rattle.survey.specs.state.Known.{Due};
@@ -311,7 +311,7 @@ fn behind_item(
 // Row k is an item.
 fn item_row(sh: Sheet, texts: &[u8], k: u64, all: u64, banks: Banks, st: State, x: ItemRow) -> Step
     requires { ⌜ Low k st ⌝ }
-    ensures { λ r. ⌜ ((today from to kind : ℕ) (seen : List ℕ) → Steps sh today from to all kind banks seen k st (anItem (itemOf (now (texts .entry)) x)) r) ⌝ }
+    ensures { λ r. ⌜ ((today from to kind : ℕ) (seen : List ℕ) → Steps sh today from to all kind banks seen k st (toldItem (now (texts .entry)) x) r) ⌝ }
 {
     let before = st.before;
     match rows::walk::item_proper(texts, before, x) {

@@ -6,7 +6,7 @@ use lib.ListN.{length}
 use Rattle.sheet.specs.declared.Sheet.{Sheet}
 use Rattle.sheet.specs.declared.Style.{Style}
 use Rattle.paper.specs.Texts.{partCarried}
-use Rattle.paper.specs.Batch.{Header, Thing, aFile, aGroup, anItem, strange}
+use Rattle.paper.specs.Batch.{Header, Thing, aFile, aGroup, anItem, misnumbered, strange}
 use Rattle.paper.specs.Proper.{Verdict, fine}
 use Rattle.paper.specs.Carried.{headerCarried, partsCarriedFrom, itemCarried, Place, rowsCarried, batchCarried}
 use Rattle.paper.specs.FirstWrong.{seriesIn, itemsIn, kindIn, dateIn, inOrder, partRules, carriedHeader, carriedRow}
@@ -36,6 +36,7 @@ module _ (sh : Sheet) (today : ℕ) (h : Header) where
   row-tested k before (aFile kind number) ts = refl
   row-tested k before (aGroup date payer) ts = refl
   row-tested k before (anItem x) ts = simp (then, parts-tested)
+  row-tested k before (misnumbered x) ts = not-met k 21 [] _
   row-tested k before strange ts = not-met k 0 [] _
 
   pub batch-verdict : (ts : List Thing) → batchCarried sh today h ts ≡ verdictOn (inOrder (carriedRow sh today h) (λ k before. []) 1 [] ts) fine

@@ -8,9 +8,9 @@ use native.Mathlib.Omega.{arith}
 use lib.ListN.{length}
 use Rattle.base.specs.Pick.{pick}
 use Rattle.paper.specs.Texts.{partProper}
-use Rattle.paper.specs.Batch.{Item, Header, Thing, aFile, aGroup, anItem, strange, sum}
-use Rattle.paper.specs.Proper.{Verdict, fine, check, needFile, Before, atTop, afterFile, afterGroup, afterItem, headerProper, partsFrom, itemProper, rowsProper, batchProper}
-use Rattle.paper.specs.FirstWrong.{seriesIn, itemsOfFile, itemsOfGroup, inSingle, stageBehind, inOrder, partRules, properHeader, properRow, properEnd}
+use Rattle.paper.specs.Batch.{Item, Header, Thing, aFile, aGroup, anItem, misnumbered, strange, sum}
+use Rattle.paper.specs.Proper.{Verdict, fine, wrong, check, needFile, Before, atTop, afterFile, afterGroup, afterItem, headerProper, partsFrom, itemProper, itemStands, rowsProper, batchProper}
+use Rattle.paper.specs.FirstWrong.{seriesIn, itemsOfFile, itemsOfGroup, inSingle, stageBehind, inOrder, partRules, properHeader, itemRules, properRow, properEnd}
 use Rattle.outcomes.proofs.firstwrong.Verdicts.{verdictOn, then, not-met, tested-in-order, parts-in-order}
 
 -- two rules for one field, tested as one
@@ -39,11 +39,12 @@ at-top : standing [] ≡ atTop
 unfolding standing stageBehind seriesIn itemsOfFile inSingle itemsOfGroup sum
 at-top = refl
 
--- one row on; behind a row of no known kind nothing is tested
+-- one row on; behind a row that is none of a batch nothing is tested
 abbrev on : Thing → Before → Before
 on (aFile kind number) b = afterFile b
 on (aGroup date payer) b = afterGroup b payer
 on (anItem x) b = afterItem b x
+on (misnumbered x) b = record { stage = needFile; files = b .files; items = b .items; single = b .single; sum = b .sum }
 on strange b = record { stage = needFile; files = b .files; items = b .items; single = b .single; sum = b .sum }
 
 sum-with : (ts : List Thing) (x : Item) → sum (x ∷ itemsOfGroup ts) ≡ sum (itemsOfGroup ts) + x .amount
@@ -55,6 +56,7 @@ unfolding standing stageBehind seriesIn itemsOfFile inSingle itemsOfGroup sum
 stands (aFile kind number) ts = rw (add-one (length (seriesIn ts)))
 stands (aGroup date payer) ts = refl
 stands (anItem x) ts = rw (add-one (length (itemsOfFile ts)), ← (sum-with ts x))
+stands (misnumbered x) ts = refl
 stands strange ts = refl
 
 -- ---- one row
@@ -64,12 +66,20 @@ unfolding partsFrom
 parts-tested k ps rest =
     parts-in-order k (λ i p. partProper p) rest (λ n i qs. partsFrom k n qs rest) (λ n i. refl) (λ n i p qs. refl) 11 0 ps refl
 
+item-tested : (k : ℕ) (before : List Thing) (x : Item) (rest : Verdict) → itemStands k (standing before) x rest ≡ verdictOn (itemRules k before x) rest
+unfolding itemRules verdictOn itemProper standing
+item-tested k before x rest = simp (both-tested, sum-with, then, parts-tested)
+
 row-tested : (k : ℕ) (before : List Thing) (t : Thing) (ts : List Thing)
     → rowsProper k (standing before) (t ∷ ts) ≡ verdictOn (properRow k before t) (rowsProper (suc k) (on t (standing before)) ts)
-unfolding rowsProper properRow verdictOn itemProper standing
+unfolding rowsProper properRow verdictOn standing
 row-tested k before (aFile kind number) ts = simp both-tested
 row-tested k before (aGroup date payer) ts = refl
-row-tested k before (anItem x) ts = simp (both-tested, sum-with, then, parts-tested)
+row-tested k before (anItem x) ts = item-tested k before x _
+row-tested k before (misnumbered x) ts =
+    item-tested k before x (wrong k 21)
+    ∙ ap (λ v. verdictOn (itemRules k before x) v) (not-met k 21 [] _)
+    ∙ sym (then (itemRules k before x) _ _)
 row-tested k before strange ts = not-met k 0 [] _
 
 -- ---- all rows

@@ -5,7 +5,7 @@ use Prim.Native.Nat.{ℕ}
 use Rattle.base.proofs.Seek.{never}
 use Rattle.paper.specs.Accounts.{isNobody}
 use Rattle.sheet.specs.declared.Sheet.{Sheet}
-use Rattle.paper.specs.Batch.{Header, sum, Thing, aFile, aGroup, anItem, strange, Heap, heapOf, batchOf}
+use Rattle.paper.specs.Batch.{Header, sum, Thing, aFile, aGroup, anItem, misnumbered, strange, Heap, heapOf, batchOf}
 use Rattle.paper.specs.Proper.{Stage, needFile, needGroup, needItem, any, fileDue, groupDue, itemDue, mayStop, fine, batchProper}
 use Rattle.paper.specs.FileLine.{series, spellFile}
 use Rattle.paper.specs.FirstLine.{spellFirst}
@@ -24,6 +24,7 @@ sum-heap [] = refl
 sum-heap (aFile kind number ∷ ts) = refl
 sum-heap (aGroup date payer ∷ ts) = refl
 sum-heap (anItem x ∷ ts) = rw (sum-heap ts)
+sum-heap (misnumbered x ∷ ts) = sum-heap ts
 sum-heap (strange ∷ ts) = sum-heap ts
 
 -- a line and what follows it
@@ -60,6 +61,7 @@ module _ (sh : Sheet) (h : Header) where
   rows-flat seen c needGroup (anItem x ∷ ts) (d, o) = never (sym d)
   rows-flat seen c needItem (anItem x ∷ ts) (d, o) = line-then (spellItem sh x) _ _ (rows-flat seen c any ts o)
   rows-flat seen c any (anItem x ∷ ts) (d, o) = line-then (spellItem sh x) _ _ (rows-flat seen c any ts o)
+  rows-flat seen c st (misnumbered x ∷ ts) o = absurd o
   rows-flat seen c st (strange ∷ ts) o = absurd o
 
   -- the canonical file is the first line and the lines of the rows

@@ -10,7 +10,7 @@ use Rattle.sheet.specs.declared.Sheet.{Sheet}
 use Rattle.paper.specs.Numerals.{decimal}
 use Rattle.paper.specs.Days.{spellDay}
 use Rattle.paper.specs.Accounts.{Account}
-use Rattle.paper.specs.Batch.{Item, Header, Thing, aFile, aGroup, anItem, strange, batchOf}
+use Rattle.paper.specs.Batch.{Item, Header, Thing, aFile, aGroup, anItem, misnumbered, strange, batchOf}
 use Rattle.paper.specs.Proper.{Stage, needFile, needGroup, needItem, any, fileDue, groupDue, itemDue, mayStop, fine, batchProper}
 use Rattle.paper.specs.FirstLine.{spellFirst}
 use Rattle.paper.specs.FileLine.{spellFile}
@@ -74,6 +74,7 @@ module _ (sh : Sheet) where
   count-flat needGroup sum (anItem x ∷ ts) (d, o) = never (sym d)
   count-flat needItem sum (anItem x ∷ ts) (d, o) = item-turn sum x ts _ (count-flat any (sum + x .amount) ts o)
   count-flat any sum (anItem x ∷ ts) (d, o) = item-turn sum x ts _ (count-flat any (sum + x .amount) ts o)
+  count-flat st sum (misnumbered x ∷ ts) o = absurd o
   count-flat st sum (strange ∷ ts) o = absurd o
 
   pub flat-length : (ts : List Thing) → batchProper ts ≡ fine → length (flat sh needFile ts) ≡ count sh needFile 0 ts

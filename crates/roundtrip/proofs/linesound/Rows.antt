@@ -10,7 +10,7 @@ use Rattle.base.specs.Pick.{pick}
 use Rattle.base.proofs.Cases.{pick-both}
 use Rattle.paper.specs.Days.{realDay}
 use Rattle.paper.specs.Accounts.{Account}
-use Rattle.paper.specs.Batch.{Item, Thing, aFile, aGroup, anItem, strange, most14}
+use Rattle.paper.specs.Batch.{Item, Thing, aFile, aGroup, anItem, misnumbered, strange, most14}
 use Rattle.paper.specs.Proper.{fileDue, groupDue, itemDue, mayStop, Before, fine, afterFile, afterGroup, afterItem, kindProper, payerProper, itemProper, rowsProper}
 use Rattle.paper.proofs.Verdicts.{check-only}
 use Rattle.roundtrip.proofs.linesound.Items.{proper-rest, proper-sum}
@@ -53,6 +53,13 @@ module _ (k : ℕ) (b : Before) where
         p1,
         proper-rest k (b .single) (b .sum) x after p1,
       )
+
+  pub misnumbered-proper : (x : Item) (ts : List Thing) → rowsProper k b (misnumbered x ∷ ts) ≡ fine → ⊥
+  unfolding rowsProper
+  misnumbered-proper x ts e =
+      let q = proper-rest k (b .single) (b .sum) x _ (check-only k 0 _ _ e .1) in
+      let z : _≡_ {A = ℕ} 0 1 = cc in
+      omega arith
 
   pub strange-proper : (ts : List Thing) → rowsProper k b (strange ∷ ts) ≡ fine → ⊥
   unfolding rowsProper

@@ -14,7 +14,7 @@ use Rattle.paper.specs.Days.{realDay}
 use Rattle.paper.specs.Batch.{Batch, Header, Thing, things, batchOf}
 use Rattle.paper.specs.Proper.{Verdict, fine, wrong, headerProper, batchProper}
 use Rattle.paper.specs.Words.{word}
-use Rattle.paper.specs.Rows.{rowsIn, thingIn, thingsIn}
+use Rattle.paper.specs.Rows.{rowsIn, referenceProper, thingIn, thingsIn}
 use Rattle.paper.specs.Carried.{headerCarried, batchCarried}
 use Rattle.paper.specs.Canonical.{canon}
 use Rattle.paper.specs.Writing.{Draft, drafted, refusal, Refuses, onVerdict, draftOf, draftWith, draft}
@@ -73,7 +73,12 @@ rows-four t [] = tt
 rows-four t (r ∷ rs) =
     let i = rows-four t rs in
     by-test (eqb (word r 0) 1) (λ e. rw e i)
-    (λ e. by-test (eqb (word r 0) 2) (λ f. rw (e, f) i) (λ f. by-test (eqb (word r 0) 3) (λ g. rw (e, f, g) (refl, i)) (λ g. rw (e, f, g) i)))
+    (λ e.
+    by-test (eqb (word r 0) 2) (λ f. rw (e, f) i)
+    (λ f.
+    by-test (eqb (word r 0) 3)
+    (λ g. by-test (referenceProper (word r 21)) (λ n. rw (e, f, g, n) (refl, i)) (λ n. rw (e, f, g, n) i))
+    (λ g. rw (e, f, g) i)))
 
 -- 1 and 2 are not given
 pub draft-known : (sheet : ℕ) (sh : Sheet) → sheetOf sheet ≡ known.Sheet sh → (today : ℕ) → realDay today ≡ true → (h : Header) (rows texts : List ℕ)

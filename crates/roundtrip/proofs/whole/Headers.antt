@@ -6,7 +6,7 @@ use Prim.Native.Nat.{ℕ, suc}
 use Rattle.base.proofs.Cases.{by-test, pick-true, pick-false}
 use Rattle.sheet.specs.declared.Sheet.{Sheet}
 use Rattle.sheet.proofs.Laws.{Sane}
-use Rattle.paper.specs.Batch.{Item, Group, AccountFile, Batch, Header, noHeader, Thing, aFile, aGroup, anItem, strange}
+use Rattle.paper.specs.Batch.{Item, Group, AccountFile, Batch, Header, noHeader, Thing, aFile, aGroup, anItem, misnumbered, strange}
 use Rattle.paper.specs.FileLine.{series}
 use Rattle.paper.specs.Entries.{item, closeGroup, closeFile}
 use Rattle.paper.specs.FirstLine.{spellFirst}
@@ -53,6 +53,7 @@ module _ (sh : Sheet) where
         rw (number-any sh q off h (p .seen) number, number-any sh q off h′ (p .seen) number, rows-same (suc k) (behindFile p kind number) ts) refl
     rows-same k p (aGroup date payer ∷ ts) = rw (rows-same (suc k) (behindGroup p date) ts) refl
     rows-same k p (anItem x ∷ ts) = rw (rows-same (suc k) (behindItem p) ts) refl
+    rows-same k p (misnumbered x ∷ ts) = refl
     rows-same k p (strange ∷ ts) = refl
 
     passes-same : (ts : List Thing) → Passes sh today h ts → Passes sh today h′ ts

@@ -4,9 +4,9 @@ use mathlib.Core.Bool.{true}
 use mathlib.Core.List.{List, [], _∷_}
 use Prim.Native.Nat.{ℕ, suc}
 use Rattle.base.proofs.Seek.{never}
-use Rattle.paper.specs.Batch.{Thing, aFile, aGroup, anItem, strange, itemThings, groupThings, things, Heap, heapOf, batchOf}
+use Rattle.paper.specs.Batch.{Thing, aFile, aGroup, anItem, misnumbered, strange, itemThings, groupThings, things, Heap, heapOf, batchOf}
 use Rattle.paper.specs.Proper.{Stage, needFile, needGroup, needItem, any, groupDue, itemDue, Before, atTop, fine, rowsProper, batchProper, afterFile, afterGroup, afterItem}
-use Rattle.roundtrip.proofs.linesound.Rows.{file-proper, group-proper, item-proper, strange-proper}
+use Rattle.roundtrip.proofs.linesound.Rows.{file-proper, group-proper, item-proper, misnumbered-proper, strange-proper}
 
 -- what does not stand in an account file, or not in a group, is where nothing else may come
 abbrev Placed : Stage → Heap → Type 0
@@ -61,6 +61,7 @@ rows-things k b (anItem x ∷ ts) e =
     let (d, _, _, _, r) = item-proper k b x ts e in
     let (_, i) = rows-things (suc k) (afterItem b x) ts r in
     (item-placed (b .stage) _ d, ap (λ (l : List Thing). anItem x ∷ l) i)
+rows-things k b (misnumbered x ∷ ts) e = absurd (misnumbered-proper k b x ts e)
 rows-things k b (strange ∷ ts) e = absurd (strange-proper k b ts e)
 
 pub things-batch : (ts : List Thing) → batchProper ts ≡ fine → things (batchOf ts) ≡ ts

@@ -10,7 +10,7 @@ use Rattle.paper.specs.Accounts.{Account}
 use Rattle.paper.specs.GroupLine.{spellPayer}
 use Rattle.paper.specs.FileLine.{spellFile}
 use Rattle.paper.specs.ItemLine.{spellItem}
-use Rattle.paper.specs.Batch.{Thing, aFile, aGroup, anItem, strange}
+use Rattle.paper.specs.Batch.{Thing, aFile, aGroup, anItem, misnumbered, strange}
 use Rattle.paper.specs.Proper.{Stage, needFile, needGroup, needItem, any}
 
 -- how long a group's line is without its total
@@ -44,4 +44,5 @@ count sh st sum [] = fileClosing st sum
 count sh st sum (aFile kind number ∷ ts) = fileClosing st sum + (length (spellFile sh kind number) + 2) + count sh needGroup 0 ts
 count sh st sum (aGroup date payer ∷ ts) = groupClosing st sum + (groupFront sh payer date + 2) + count sh needItem 0 ts
 count sh st sum (anItem x ∷ ts) = (length (spellItem sh x) + 2) + count sh any (sum + x .amount) ts
+count sh st sum (misnumbered x ∷ ts) = count sh st sum ts
 count sh st sum (strange ∷ ts) = count sh st sum ts

@@ -2,7 +2,7 @@
 use Prim.Native.Nat.{ℕ, _+_}
 use mathlib.Core.List.{List, [], _∷_, _++_}
 use Rattle.sheet.specs.declared.Sheet.{Sheet}
-use Rattle.paper.specs.Batch.{Thing, aFile, aGroup, anItem, strange}
+use Rattle.paper.specs.Batch.{Thing, aFile, aGroup, anItem, misnumbered, strange}
 use Rattle.paper.specs.Proper.{Stage, needFile, needGroup, needItem, any}
 use Rattle.paper.specs.FileLine.{spellFile}
 use Rattle.paper.specs.GroupLine.{spellGroup}
@@ -33,6 +33,7 @@ groupSum [] = 0
 groupSum (aFile kind number ∷ ts) = 0
 groupSum (aGroup date payer ∷ ts) = 0
 groupSum (anItem x ∷ ts) = x .amount + groupSum ts
+groupSum (misnumbered x ∷ ts) = groupSum ts
 groupSum (strange ∷ ts) = groupSum ts
 
 -- the lines of the rows that are left, where the rows before make the stage
@@ -41,4 +42,5 @@ flat sh st [] = fileEnds st
 flat sh st (aFile kind number ∷ ts) = fileEnds st ++ (lineOf (spellFile sh kind number) ++ flat sh needGroup ts)
 flat sh st (aGroup date payer ∷ ts) = groupEnds st ++ (lineOf (spellGroup sh payer (groupSum ts) date) ++ flat sh needItem ts)
 flat sh st (anItem x ∷ ts) = lineOf (spellItem sh x) ++ flat sh any ts
+flat sh st (misnumbered x ∷ ts) = flat sh st ts
 flat sh st (strange ∷ ts) = flat sh st ts

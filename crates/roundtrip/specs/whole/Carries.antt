@@ -7,7 +7,7 @@ use Rattle.base.specs.Pick.{pick}
 use Rattle.sheet.specs.declared.Sheet.{Sheet}
 use Rattle.paper.specs.Days.{dueWarnings}
 use Rattle.paper.specs.Terms.{dayHere}
-use Rattle.paper.specs.Batch.{Group, Batch, Header, noHeader, Thing, aFile, aGroup, anItem, strange, things}
+use Rattle.paper.specs.Batch.{Group, Batch, Header, noHeader, Thing, aFile, aGroup, anItem, misnumbered, strange, things}
 use Rattle.paper.specs.Lines.{Line}
 use Rattle.paper.specs.Proper.{fine, headerProper, batchProper}
 use Rattle.paper.specs.Carried.{headerCarried, batchCarried}
@@ -19,6 +19,7 @@ FourParts [] = Unit {0}
 FourParts (aFile kind number ∷ ts) = FourParts ts
 FourParts (aGroup date payer ∷ ts) = FourParts ts
 FourParts (anItem x ∷ ts) = (length (x .parts) ≡ 4) × FourParts ts
+FourParts (misnumbered x ∷ ts) = FourParts ts
 FourParts (strange ∷ ts) = FourParts ts
 
 -- Rows and a header pass every test of 20 and of 21; where a sheet has no header (C), none is looked at.

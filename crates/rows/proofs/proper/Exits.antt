@@ -11,7 +11,8 @@ use Rattle.base.specs.Seek.{all, seek}
 use Rattle.base.proofs.Cases.{pick-true, pick-false}
 use Rattle.paper.specs.Bytes.{isText}
 use Rattle.paper.specs.Texts.{lacks, partProper, nameProper}
-use Rattle.paper.specs.Proper.{Verdict, partsFrom, itemProper}
+use Rattle.paper.specs.Proper.{Verdict, check, partsFrom, itemProper}
+use Rattle.paper.specs.Rows.{referenceProper}
 use Rattle.text.specs.declared.span.Span.{Span}
 use Rattle.rows.specs.declared.read.Check.{Check}
 use Rattle.rows.specs.declared.read.Check.the-variants.{Fine, Wrong}
@@ -67,30 +68,45 @@ module _ (t : List ℕ) (p : Span) (e : p .len ≡ 0) where
 
 pub ruleset places = (name-out, part-out, name-there, part-there, name-blank, part-blank)
 
--- ---- the three stages of an item
+-- ---- the three stages of an item, and behind them its reference
 
--- together they are the item's test
+-- together the three are the item's test
 stages : (k : ℕ) (single : Bool) (sum : ℕ) (t : List ℕ) (x : ItemRow) (rest : Verdict)
     → moneyProper k single sum x (symbolsProper k x (textsProper k t x rest)) ≡ itemProper k single sum (itemOf t x) rest
 unfolding itemProper partsFrom moneyProper symbolsProper textsProper
 stages k single sum t x rest = refl
 
 module _ (t : List ℕ) (x : ItemRow) (single : Bool) (sum : ℕ) where
+  -- the reference's test, and all of them
+  abbrev referred : ℕ → Verdict → Verdict
+  referred k rest = check k 21 (referenceProper (x .reference)) rest
+
+  abbrev whole : ℕ → Verdict → Verdict
+  whole k rest = itemProper k single sum (itemOf t x) (referred k rest)
+
   module _ (m : Check) (money : (k : ℕ) (rest : Verdict) → after k m rest ≡ moneyProper k single sum x rest) where
+    -- what a stage's test says is what the item's says, where those before it passed
+    on-money : (k : ℕ) (rest : Verdict) → after k m (symbolsProper k x (textsProper k t x (referred k rest))) ≡ whole k rest
+    on-money k rest = money k _ ∙ stages k single sum t x (referred k rest)
+
     pub money-wrong : (n : ℕ) → m ≡ Wrong n → ItemTested t x single sum (Wrong n)
-    money-wrong n h =
-        record { same = λ k rest. rw h at (money k (symbolsProper k x (textsProper k t x rest))) ∙ stages k single sum t x rest }
+    money-wrong n h = record { same = λ k rest. rw h at (on-money k rest) }
 
     module _ (h : m ≡ Fine) (s : Check) (symbols : (k : ℕ) (rest : Verdict) → after k s rest ≡ symbolsProper k x rest) where
-      -- what the symbols' test says is what the item's says
-      on : (k : ℕ) (rest : Verdict) → after k s (textsProper k t x rest) ≡ itemProper k single sum (itemOf t x) rest
-      on k rest =
-          symbols k (textsProper k t x rest) ∙ rw h at (money k (symbolsProper k x (textsProper k t x rest))) ∙ stages k single sum t x rest
+      on-symbols : (k : ℕ) (rest : Verdict) → after k s (textsProper k t x (referred k rest)) ≡ whole k rest
+      on-symbols k rest = symbols k _ ∙ rw h at (on-money k rest)
 
       pub symbols-wrong : (n : ℕ) → s ≡ Wrong n → ItemTested t x single sum (Wrong n)
-      symbols-wrong n g = record { same = λ k rest. rw g at (on k rest) }
+      symbols-wrong n g = record { same = λ k rest. rw g at (on-symbols k rest) }
 
-      pub texts-last : s ≡ Fine → (r : Check) → ((k : ℕ) (rest : Verdict) → after k r rest ≡ textsProper k t x rest) → ItemTested t x single sum r
-      texts-last g r texts = record { same = λ k rest. texts k rest ∙ rw g at (on k rest) }
+      module _ (g : s ≡ Fine) (l : Check) (texts : (k : ℕ) (rest : Verdict) → after k l rest ≡ textsProper k t x rest) where
+        on-texts : (k : ℕ) (rest : Verdict) → after k l (referred k rest) ≡ whole k rest
+        on-texts k rest = texts k _ ∙ rw g at (on-symbols k rest)
 
-pub ruleset stages-on = (money-wrong, symbols-wrong, texts-last)
+        pub texts-wrong : (n : ℕ) → l ≡ Wrong n → ItemTested t x single sum (Wrong n)
+        texts-wrong n i = record { same = λ k rest. rw i at (on-texts k rest) }
+
+        pub reference-last : l ≡ Fine → (r : Check) → ((k : ℕ) (rest : Verdict) → after k r rest ≡ referred k rest) → ItemTested t x single sum r
+        reference-last i r last = record { same = λ k rest. last k rest ∙ rw i at (on-texts k rest) }
+
+pub ruleset stages-on = (money-wrong, symbols-wrong, texts-wrong, reference-last)

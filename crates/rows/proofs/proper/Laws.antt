@@ -15,7 +15,8 @@ use Rattle.paper.specs.Amounts.{amountProper}
 use Rattle.paper.specs.BankField.{bankProper, priorityProper}
 use Rattle.paper.specs.Texts.{partProper, nameProper}
 use Rattle.paper.specs.Batch.{most14}
-use Rattle.paper.specs.Proper.{Verdict, fine, partsFrom, itemProper}
+use Rattle.paper.specs.Proper.{Verdict, fine, check, partsFrom, itemProper}
+use Rattle.paper.specs.Rows.{referenceProper}
 use Rattle.paper.proofs.Verdicts.{check-only, name-short}
 use Rattle.text.specs.declared.span.Span.{Span}
 use Rattle.rows.specs.declared.read.Check.{Check}
@@ -58,7 +59,8 @@ amount-low max v r e h = leb-true v max (pick-not (ltb v 1) (leb v max) (sym e �
 -- ---- an item
 
 module _ (t : List ℕ) (x : ItemRow) (single : Bool) (sum : ℕ) where
-  pub item-sized : (k : ℕ) (rest : Verdict) → itemProper k single sum (itemOf t x) rest ≡ fine → Sized t x × (sum + x .amount ≤ most14)
+  -- where all passes, so does what is tested behind the item
+  pub item-sized : (k : ℕ) (rest : Verdict) → itemProper k single sum (itemOf t x) rest ≡ fine → Sized t x × (sum + x .amount ≤ most14) × (rest ≡ fine)
   unfolding itemProper partsFrom amountProper bankProper priorityProper
   item-sized k rest e =
       let a = check-only k 1 _ _ e in
@@ -98,8 +100,16 @@ module _ (t : List ℕ) (x : ItemRow) (single : Bool) (sum : ℕ) where
           lowpriority = leb-true _ _ (pick-not _ _ (i .0) .1);
         },
         leb-true _ _ (m .1),
+        n .1,
       )
 
-  -- as the code tells it
-  pub sized-when : (r : Check) → ItemTested t x single sum r → r ≡ Fine → Sized t x × (sum + x .amount ≤ most14)
-  sized-when r tested e = item-sized 0 fine (sym ((rw e at (tested .same)) 0 fine))
+  -- as the code tells it, of a row that passed all tests
+  module _ (r : Check) (tested : ItemTested t x single sum r) (e : r ≡ Fine) where
+    passed : Sized t x × (sum + x .amount ≤ most14) × (check 0 21 (referenceProper (x .reference)) fine ≡ fine)
+    passed = item-sized 0 _ (sym ((rw e at (tested .same)) 0 fine))
+
+    pub sized-when : Sized t x × (sum + x .amount ≤ most14)
+    sized-when = (passed .0, passed .1)
+
+    pub numbered-when : referenceProper (x .reference) ≡ true
+    numbered-when = check-only 0 21 _ _ (passed .2) .0

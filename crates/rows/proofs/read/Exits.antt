@@ -1,5 +1,5 @@
--- What the row at a place says, by the words that stand there; and the ways out of `read_row`. Assumes nothing.
-use mathlib.Core.Path.{_≡_, _∙_}
+-- What the row at a place says, by the words that stand there; and the ways out of `read_row` and `take_row`. Assumes nothing.
+use mathlib.Core.Path.{_≡_, sym, _∙_}
 use mathlib.Core.List.{List}
 use Prim.Native.Nat.{ℕ, suc, _+_, _*_, _<_}
 use native.Mathlib.Nat.{add-zero}
@@ -8,14 +8,15 @@ use lib.Dec.{lit<}
 use lib.ListN.{drop, getD}
 use borrow.Author.Tests.{ne-eqb}
 use Rattle.base.specs.Pick.{pick}
+use Rattle.base.proofs.Cases.{by-eq}
 use Rattle.paper.specs.Accounts.{account}
-use Rattle.paper.specs.Batch.{aFile, aGroup, anItem, strange}
+use Rattle.paper.specs.Batch.{aFile, aGroup, strange}
 use Rattle.paper.specs.Words.{words}
 use Rattle.paper.specs.Rows.{textAt, itemIn, thingIn}
 use Rattle.out.specs.word.Places.{wordHere}
 use Rattle.out.proofs.word.Laws.{word-here}
 use Rattle.rows.specs.declared.read.ItemRow.{ItemRow}
-use Rattle.rows.specs.read.Told.{textOfSpan, itemOf, spanHere, itemHere}
+use Rattle.rows.specs.read.Told.{textOfSpan, itemOf, toldItem, spanHere, itemHere}
 
 module _ (rows : List ℕ) (at : ℕ) where
   -- the row's word i
@@ -54,9 +55,9 @@ module _ (rows : List ℕ) (at : ℕ) where
     first : getD (words 24 (drop at rows)) 0 0 ≡ kind
     first = w 0 (lit< tt) ∙ rw (add-zero, e)
 
-    pub item-exit : kind ≡ 3 → (x : ItemRow) → x ≡ itemHere rows at → (t : List ℕ) → anItem (itemOf t x) ≡ thingIn t (words 24 (drop at rows))
+    pub item-exit : kind ≡ 3 → (x : ItemRow) → x ≡ itemHere rows at → (t : List ℕ) → toldItem t x ≡ thingIn t (words 24 (drop at rows))
     unfolding thingIn pick
-    item-exit h x g t = rw (first, h, item-here t, g)
+    item-exit h x g t = rw (first, h, item-here t, w 21 (lit< tt), g)
 
     pub group-exit : kind ≡ 2 → (date prefix base : ℕ) → date ≡ wordHere rows (at + 8) → prefix ≡ wordHere rows (at + 16) → base ≡ wordHere rows (at + 24)
         → (t : List ℕ) → aGroup date (account prefix base) ≡ thingIn t (words 24 (drop at rows))
@@ -71,4 +72,15 @@ module _ (rows : List ℕ) (at : ℕ) where
     unfolding thingIn pick
     strange-exit a b c t = rw (first, ne-eqb kind 3 a, ne-eqb kind 2 b, ne-eqb kind 1 c)
 
+    -- where the row is of a known kind, it is an account file if it is neither of the others
+    module _ (t : List ℕ) (known : thingIn t (words 24 (drop at rows)) ≡ strange → ⊥) where
+      last-kind : (kind ≡ 3 → ⊥) → (kind ≡ 2 → ⊥) → kind ≡ 1
+      last-kind a b = by-eq kind 1 (λ e. e) (λ c. absurd (known (sym (strange-exit a b c t))))
+
+      pub file-taken : (kind ≡ 3 → ⊥) → (kind ≡ 2 → ⊥) → (k n : ℕ) → k ≡ wordHere rows (at + 8) → n ≡ wordHere rows (at + 16)
+          → aFile k n ≡ thingIn t (words 24 (drop at rows))
+      file-taken a b k n c d = file-exit (last-kind a b) k n c d t
+
 pub ruleset exits = (item-exit, group-exit, file-exit, strange-exit)
+
+pub ruleset takes = (item-exit, group-exit, file-taken)

@@ -27,9 +27,9 @@ module _ (rows : List ℕ) (at : ℕ) where
       → e ≡ spanHere rows (at + 152) → _≡_ {A = Texts} (record { part1 = a; part2 = b; part3 = c; part4 = d; name = e }) (textsHere rows at)
   texts-of a b c d e p q r s t = rw (p, q, r, s, t)
 
-  -- an item, of its words in three parts
-  pub item-of : (w : Sides) (y : Symbols) (t : Texts) → w ≡ sidesHere rows at → y ≡ symbolsHere rows at → t ≡ textsHere rows at
-      → (x : ItemRow) → x ≡ itemWith w y t → x ≡ itemHere rows at
-  item-of w y t p q r x e = e ∙ rw (p, q, r)
+  -- an item, of its words in three parts, and its reference
+  pub item-of : (w : Sides) (y : Symbols) (t : Texts) (n : ℕ) → w ≡ sidesHere rows at → y ≡ symbolsHere rows at → t ≡ textsHere rows at → n ≡ wordHere rows (at + 168)
+      → (x : ItemRow) → x ≡ itemWith w y t n → x ≡ itemHere rows at
+  item-of w y t n p q r s x e = e ∙ rw (p, q, r, s)
 
 pub ruleset parts = (span-of, sides-of, symbols-of, texts-of, item-of)

@@ -10,15 +10,16 @@ use Rattle.base.specs.Pick.{pick}
 use Rattle.base.proofs.Cases.{by-test, pick-both}
 use Rattle.paper.specs.Days.{realDay}
 use Rattle.paper.specs.Accounts.{Account}
-use Rattle.paper.specs.Batch.{Item, Thing, aFile, aGroup, anItem, strange, most14}
+use Rattle.paper.specs.Batch.{Item, Thing, aFile, aGroup, anItem, misnumbered, strange, most14}
 use Rattle.paper.specs.Proper as paper
-use Rattle.paper.specs.Proper.{Verdict, fine, wrong, check, mayStop, fileDue, groupDue, itemDue, kindProper, payerProper, itemProper, rowsProper}
+use Rattle.paper.specs.Proper.{Verdict, fine, wrong, check, mayStop, fileDue, groupDue, itemDue, kindProper, payerProper, partsFrom, itemProper, itemStands, rowsProper}
+use Rattle.paper.specs.Rows.{referenceProper}
 use Rattle.paper.proofs.Verdicts.{check-only}
 use Rattle.rows.specs.declared.read.ItemRow.{ItemRow}
 use Rattle.rows.specs.declared.walk.Before.{Before}
 use Rattle.rows.specs.declared.walk.Walk.{Walk}
 use Rattle.rows.specs.declared.walk.Walk.the-variants.{On}
-use Rattle.rows.specs.read.Told.{itemOf}
+use Rattle.rows.specs.read.Told.{itemOf, toldItem}
 use Rattle.rows.specs.walk.Walks.{beforeOf, behind, Walks, FilePassed, GroupPassed, ItemPassed}
 use Rattle.rows.proofs.proper.Laws.{item-sized}
 
@@ -27,6 +28,20 @@ past : (n : ℕ) (ok : Bool) (rest : Verdict) → wrong 1 0 ≡ check 0 n ok res
 unfolding check pick
 past n true rest e = (refl, e)
 past n false rest e = absurd (let z : _≡_ {A = ℕ} 0 1 = cc in omega arith)
+
+past-parts : (n : ℕ) (ps : List (List ℕ)) (rest : Verdict) → wrong 1 0 ≡ partsFrom 0 n ps rest → wrong 1 0 ≡ rest
+unfolding partsFrom
+past-parts n [] rest e = e
+past-parts n (p ∷ ps) rest e = past-parts (n + 2) ps rest (past n _ _ e .1)
+
+past-item : (single : Bool) (sum : ℕ) (x : Item) (rest : Verdict) → wrong 1 0 ≡ itemProper 0 single sum x rest → wrong 1 0 ≡ rest
+unfolding itemProper
+past-item single sum x rest e =
+    let payee = past 3 _ _ (past 1 _ _ e .1) .1 in
+    let amount = past 6 _ _ (past 5 _ _ payee .1) .1 in
+    let specific = past 8 _ _ (past 7 _ _ amount .1) .1 in
+    let priority = past 10 _ _ (past 9 _ _ specific .1) .1 in
+    past 19 _ _ (past-parts 11 (x .parts) _ priority) .1
 
 module _ (b next : Before) where
   -- where the row is the last
@@ -72,19 +87,34 @@ module _ (b next : Before) where
       let amount = check-only 0 6 _ _ (check-only 0 5 _ _ (payee .1) .1) in
       leb-true _ _ (pick-both _ _ (amount .0) .1)
 
+  -- no row that is none of a batch leads on: it would be the one that is wrong, and not the next
   never-strange : {A : Type 0} → Walks b strange (On next) → A
-  unfolding rowsProper check pick
+  unfolding rowsProper
   never-strange w =
-      let e : check 1 0 (mayStop (beforeOf next .stage)) fine ≡ wrong 0 0 = w .same 0 [] in
-      by-test (mayStop (beforeOf next .stage))
-      (λ h. absurd (let f = rw h at e in let z : _≡_ {A = ℕ} 0 1 = cc in omega arith))
-      (λ h. absurd (let f = rw h at e in let z : _≡_ {A = ℕ} 0 1 = cc in omega arith))
+      let e : wrong 1 0 ≡ wrong 0 0 = w .same 0 (strange ∷ []) in
+      absurd (let z : _≡_ {A = ℕ} 0 1 = cc in omega arith)
+
+  never-misnumbered : {A : Type 0} (x : Item) → Walks b (misnumbered x) (On next) → A
+  unfolding rowsProper
+  never-misnumbered x w =
+      let f : wrong 1 0 ≡ itemStands 0 (beforeOf b) x (wrong 0 21) = w .same 0 (strange ∷ []) in
+      let e : wrong 1 0 ≡ wrong 0 21 = past-item (b .single) (b .sum) x (wrong 0 21) (past 0 _ _ f .1) in
+      absurd (let z : _≡_ {A = ℕ} 0 1 = cc in omega arith)
+
+  -- so an item's row that leads on has a reference in range
+  pub item-told : (texts : List ℕ) (x : ItemRow) → Walks b (toldItem texts x) (On next) → toldItem texts x ≡ anItem (itemOf texts x)
+  unfolding pick
+  item-told texts x w =
+      by-test (referenceProper (x .reference))
+      (λ e. rw e)
+      (λ e. never-misnumbered (itemOf texts x) (rw e at w))
 
   -- a group's sum has at most 14 digits
   pub walk-sum : (t : Thing) → Walks b t (On next) → next .sum ≤ most14
   walk-sum (aFile kind number) w = omega (arith, ap (λ (p : paper.Before). p .sum) (w .leads))
   walk-sum (aGroup date payer) w = omega (arith, ap (λ (p : paper.Before). p .sum) (w .leads))
   walk-sum (anItem x) w = omega (arith, ap (λ (p : paper.Before). p .sum) (w .leads), item-sum x (check-only 0 0 _ _ (item-last x w) .1))
+  walk-sum (misnumbered x) w = never-misnumbered x w
   walk-sum strange w = never-strange w
 
 -- as the code knows it

@@ -1,17 +1,19 @@
 -- What a row leads to, by whether it may come here and by the answer of its fields' tests. Assumes nothing.
 use mathlib.Core.Path.{_≡_, refl, sym, _∙_}
 use mathlib.Core.Bool.{Bool, true, false, not}
-use mathlib.Core.List.{List}
-use Prim.Native.Nat.{ℕ, _+_, _<_}
+use mathlib.Core.List.{List, _∷_}
+use Prim.Native.Nat.{ℕ, suc, _+_, _<_}
 use native.Mathlib.Omega.{arith}
 use lib.Dec.{ltb}
 use borrow.Author.Tests.{ltb-true, not-false}
 use Rattle.base.specs.Pick.{pick}
-use Rattle.base.proofs.Cases.{pick-both}
+use Rattle.base.proofs.Cases.{by-test, pick-both}
 use Rattle.paper.specs.Days.{realDay}
 use Rattle.paper.specs.Accounts.{Account, account, isNobody}
-use Rattle.paper.specs.Batch.{aFile, aGroup, anItem}
-use Rattle.paper.specs.Proper.{Verdict, check, fileDue, groupDue, itemDue, kindProper, payerProper, rowsProper}
+use Rattle.paper.specs.Batch.{Thing, aFile, aGroup}
+use Rattle.paper.specs.Proper as paper
+use Rattle.paper.specs.Proper.{Verdict, check, fileDue, groupDue, itemDue, kindProper, payerProper, afterItem, itemStands, rowsProper}
+use Rattle.paper.specs.Rows.{referenceProper}
 use Rattle.rows.specs.declared.read.Check.{Check}
 use Rattle.rows.specs.declared.read.Check.the-variants as answer
 use Rattle.rows.specs.declared.read.ItemRow.{ItemRow}
@@ -22,11 +24,11 @@ use Rattle.rows.specs.declared.walk.Before.{Before}
 use Rattle.rows.specs.declared.walk.Walk.{Walk}
 use Rattle.rows.specs.declared.walk.Walk.the-variants.{On, Wrong}
 use Rattle.rows.specs.read.After.{after}
-use Rattle.rows.specs.read.Told.{told, itemOf}
+use Rattle.rows.specs.read.Told.{told, itemOf, toldItem}
 use Rattle.rows.specs.proper.Stages.{ItemTested}
-use Rattle.rows.specs.walk.Walks.{stageOf, Walks}
+use Rattle.rows.specs.walk.Walks.{stageOf, beforeOf, Walks}
 use Rattle.rows.proofs.read.Fields.{passes, fails}
-use Rattle.rows.proofs.proper.Laws.{sized-when}
+use Rattle.rows.proofs.proper.Laws.{sized-when, numbered-when}
 
 -- In each section t is whether the row may come here, and c is the answer of its fields' tests.
 
@@ -70,10 +72,15 @@ module _ (b : Before) (date : ℕ) (payer : Account) (t : Bool) (due : t ≡ gro
 
 -- ---- an item
 
+-- its reference is the last that is tested
+referred : (texts : List ℕ) (x : ItemRow) (k : ℕ) (b : paper.Before) (ts : List Thing)
+    → itemStands k b (itemOf texts x) (check k 21 (referenceProper (x .reference)) (rowsProper (suc k) (afterItem b (itemOf texts x)) ts)) ≡ rowsProper k b (toldItem texts x ∷ ts)
+unfolding rowsProper check pick
+referred texts x k b ts = by-test (referenceProper (x .reference)) (λ e. rw e) (λ e. rw e)
+
 module _ (b : Before) (texts : List ℕ) (x : ItemRow) (t : Bool) (due : t ≡ pick (itemDue (stageOf (b .stage))) (ltb (b .items) 99999) false) where
-  pub item-late : not t ≡ true → Walks b (anItem (itemOf texts x)) (Wrong 0)
-  unfolding rowsProper
-  item-late e = record { same = λ k ts. fails k 0 _ _ t _ due e refl; leads = tt }
+  pub item-late : not t ≡ true → Walks b (toldItem texts x) (Wrong 0)
+  item-late e = record { same = λ k ts. fails k 0 _ _ t _ due e refl ∙ referred texts x k (beforeOf b) ts; leads = tt }
 
   module _ (here : not t ≡ false) where
     pub item-fits : b .items + 1 < 18446744073709551616
@@ -83,14 +90,17 @@ module _ (b : Before) (texts : List ℕ) (x : ItemRow) (t : Bool) (due : t ≡ p
       pub sum-fits : c ≡ answer.Fine → b .sum + x .amount < 18446744073709551616
       sum-fits e = omega (arith, sized-when texts x (b .single) (b .sum) c tested e .1)
 
-      pub item-wrong : (field : ℕ) → c ≡ answer.Wrong field → Walks b (anItem (itemOf texts x)) (Wrong field)
-      unfolding rowsProper
-      item-wrong field e = record { same = λ k ts. passes k 0 _ _ t _ due here ((rw e at (tested .same)) k _); leads = tt }
+      pub item-wrong : (field : ℕ) → c ≡ answer.Wrong field → Walks b (toldItem texts x) (Wrong field)
+      item-wrong field e = record { same = λ k ts. passes k 0 _ _ t _ due here ((rw e at (tested .same)) k _) ∙ referred texts x k (beforeOf b) ts; leads = tt }
 
       pub item-on : c ≡ answer.Fine
-          → Walks b (anItem (itemOf texts x)) (On (record { stage = stage.Any; files = b .files; items = b .items + 1; single = b .single; sum = b .sum + x .amount }))
-      unfolding rowsProper
-      item-on e = record { same = λ k ts. passes k 0 _ _ t _ due here ((rw e at (tested .same)) k _); leads = refl }
+          → Walks b (toldItem texts x) (On (record { stage = stage.Any; files = b .files; items = b .items + 1; single = b .single; sum = b .sum + x .amount }))
+      unfolding pick
+      item-on e =
+          record {
+            same = λ k ts. passes k 0 _ _ t _ due here ((rw e at (tested .same)) k _) ∙ referred texts x k (beforeOf b) ts;
+            leads = rw (numbered-when texts x (b .single) (b .sum) c tested e);
+          }
 
 pub ruleset fits = (file-fits, item-fits, sum-fits)
 
@@ -105,7 +115,7 @@ module _ (b : Before) (texts : List ℕ) (r : RowRead) (w : Walk) where
   pub row-group : (date prefix base : ℕ) → r ≡ row.Group date prefix base → Walks b (aGroup date (account prefix base)) w → Walks b (told texts r) w
   row-group date prefix base e p = rw e p
 
-  pub row-item : (x : ItemRow) → r ≡ row.Item x → Walks b (anItem (itemOf texts x)) w → Walks b (told texts r) w
+  pub row-item : (x : ItemRow) → r ≡ row.Item x → Walks b (toldItem texts x) w → Walks b (told texts r) w
   row-item x e p = rw e p
 
 pub row-strange : (b : Before) (texts : List ℕ) (r : RowRead) → r ≡ row.Strange → Walks b (told texts r) (Wrong 0)

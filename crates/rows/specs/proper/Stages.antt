@@ -11,6 +11,7 @@ use Rattle.paper.specs.BankField.{bankProper, priorityProper}
 use Rattle.paper.specs.Texts.{partProper, nameProper}
 use Rattle.paper.specs.Batch.{most14}
 use Rattle.paper.specs.Proper.{Verdict, check, itemPayerProper, itemProper}
+use Rattle.paper.specs.Rows.{referenceProper}
 use Rattle.rows.specs.declared.read.Check.{Check}
 use Rattle.rows.specs.declared.read.ItemRow.{ItemRow}
 use Rattle.rows.specs.read.Told.{textOfSpan, itemOf}
@@ -41,8 +42,8 @@ textsProper k t x rest =
     (check k 17 (partProper (textOfSpan t (x .part4)))
     (check k 19 (nameProper (textOfSpan t (x .name))) rest))))
 
--- ---- the three together
+-- ---- the three together, and behind them the reference
 
--- c is the answer of all tests of the item x, in a group that is single or not and whose items before it have this sum
+-- c is the answer of all tests of the row x, in a group that is single or not and whose items before it have this sum
 pub record ItemTested (t : List ℕ) (x : ItemRow) (single : Bool) (sum : ℕ) (c : Check) : Type 0 where
-  pub same : (k : ℕ) (rest : Verdict) → after k c rest ≡ itemProper k single sum (itemOf t x) rest
+  pub same : (k : ℕ) (rest : Verdict) → after k c rest ≡ itemProper k single sum (itemOf t x) (check k 21 (referenceProper (x .reference)) rest)

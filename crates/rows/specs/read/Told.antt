@@ -5,7 +5,8 @@ use lib.Dec.{leb}
 use lib.ListN.{length, take, drop}
 use Rattle.base.specs.Pick.{pick}
 use Rattle.paper.specs.Accounts.{account}
-use Rattle.paper.specs.Batch.{Item, Thing, aFile, aGroup, anItem, strange}
+use Rattle.paper.specs.Batch.{Item, Thing, aFile, aGroup, anItem, misnumbered, strange}
+use Rattle.paper.specs.Rows.{referenceProper}
 use Rattle.out.specs.word.Places.{wordHere}
 use Rattle.text.specs.declared.span.Span.{Span}
 use Rattle.rows.specs.declared.read.ItemRow.{ItemRow}
@@ -35,11 +36,15 @@ itemOf t x =
       name = textOfSpan t (x .name);
     }
 
+-- what an item's row says, by its reference
+abbrev pub toldItem : List ℕ → ItemRow → Thing
+toldItem t x = pick (referenceProper (x .reference)) (anItem (itemOf t x)) (misnumbered (itemOf t x))
+
 -- what a row says
 abbrev pub told : List ℕ → RowRead → Thing
 told t (File kind number) = aFile kind number
 told t (Group date prefix base) = aGroup date (account prefix base)
-told t (AnItem x) = anItem (itemOf t x)
+told t (AnItem x) = toldItem t x
 told t Strange = strange
 
 -- ---- a row in lent bytes
@@ -80,8 +85,8 @@ textsHere rows at =
     }
 
 -- the item with these words
-abbrev pub itemWith : Sides → Symbols → Texts → ItemRow
-itemWith w y t =
+abbrev pub itemWith : Sides → Symbols → Texts → ℕ → ItemRow
+itemWith w y t n =
     record {
       payerprefix = w .payerprefix;
       payerbase = w .payerbase;
@@ -98,8 +103,9 @@ itemWith w y t =
       part3 = t .part3;
       part4 = t .part4;
       name = t .name;
+      reference = n;
     }
 
 -- the item whose row begins at a place
 abbrev pub itemHere : List ℕ → ℕ → ItemRow
-itemHere rows at = itemWith (sidesHere rows at) (symbolsHere rows at) (textsHere rows at)
+itemHere rows at = itemWith (sidesHere rows at) (symbolsHere rows at) (textsHere rows at) (wordHere rows (at + 168))

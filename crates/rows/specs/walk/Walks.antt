@@ -5,7 +5,7 @@ use mathlib.Core.Path.{_≡_}
 use mathlib.Core.Bool.{true}
 use mathlib.Core.List.{List, _∷_}
 use Rattle.paper.specs.Days.{realDay}
-use Rattle.paper.specs.Batch.{Thing, aFile, aGroup, anItem, strange}
+use Rattle.paper.specs.Batch.{Thing, aFile, aGroup, anItem, misnumbered, strange}
 use Rattle.paper.specs.Proper as paper
 use Rattle.rows.specs.declared.read.ItemRow.{ItemRow}
 use Rattle.rows.specs.read.Sized.{Sized}
@@ -33,6 +33,7 @@ abbrev pub behind : paper.Before → Thing → paper.Before
 behind b (aFile kind number) = paper.afterFile b
 behind b (aGroup date payer) = paper.afterGroup b payer
 behind b (anItem x) = paper.afterItem b x
+behind b (misnumbered x) = b
 behind b strange = b
 
 -- the verdict where row k leads to r, and ts are the rows behind it

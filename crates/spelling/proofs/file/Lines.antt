@@ -3,7 +3,7 @@ use mathlib.Core.Path.{_≡_, refl, sym}
 use mathlib.Core.Bool.{Bool}
 use mathlib.Core.List.{List, [], _∷_, _++_, append-assoc}
 use Rattle.sheet.specs.declared.Sheet.{Sheet}
-use Rattle.paper.specs.Batch.{Thing, aFile, aGroup, anItem, strange}
+use Rattle.paper.specs.Batch.{Thing, aFile, aGroup, anItem, misnumbered, strange}
 use Rattle.paper.specs.Proper.{needFile, needGroup, needItem}
 use Rattle.roundtrip.specs.flat.Flat.{groupEnds, fileEnds, flat}
 use Rattle.spelling.specs.file.Lines.{stageWhen, rowLines, dueAfter}
@@ -16,6 +16,7 @@ module _ (sh : Sheet) where
   flat-group (aFile kind number ∷ ts) = refl
   flat-group (aGroup date payer ∷ ts) = refl
   flat-group (anItem x ∷ ts) = refl
+  flat-group (misnumbered x ∷ ts) = flat-group ts
   flat-group (strange ∷ ts) = flat-group ts
 
   flat-item : (ts : List Thing) → flat sh needItem ts ≡ flat sh needFile ts
@@ -24,6 +25,7 @@ module _ (sh : Sheet) where
   flat-item (aFile kind number ∷ ts) = refl
   flat-item (aGroup date payer ∷ ts) = refl
   flat-item (anItem x ∷ ts) = refl
+  flat-item (misnumbered x ∷ ts) = flat-item ts
   flat-item (strange ∷ ts) = flat-item ts
 
   pub flat-row : (due : Bool) (x : Thing) (ts : List Thing)
@@ -32,6 +34,7 @@ module _ (sh : Sheet) where
   flat-row due (aFile kind number) ts = rw (flat-group ts) (sym (append-assoc (fileEnds (stageWhen due)) _ _))
   flat-row due (aGroup date payer) ts = rw (flat-item ts) (sym (append-assoc (groupEnds (stageWhen due)) _ _))
   flat-row due (anItem x) ts = refl
+  flat-row due (misnumbered x) ts = refl
   flat-row due strange ts = refl
 
   -- behind the last row

@@ -3,15 +3,17 @@ use mathlib.Core.Path.{_≡_}
 use mathlib.Core.List.{List, _∷_}
 use Prim.Native.Nat.{ℕ, suc, _≤_}
 use native.Mathlib.Omega.{arith}
+use Rattle.base.specs.Pick.{pick}
+use Rattle.base.proofs.Cases.{by-test}
 use Rattle.paper.specs.Accounts.{Account}
-use Rattle.paper.specs.Batch.{Thing, aFile, aGroup, anItem, strange, most14}
+use Rattle.paper.specs.Batch.{Thing, aFile, aGroup, anItem, misnumbered, strange, most14}
 use Rattle.paper.specs.Proper.{atTop, fine, batchProper, afterFile, afterGroup, afterItem}
-use Rattle.paper.specs.Rows.{thingsIn}
-use Rattle.roundtrip.proofs.linesound.Rows.{file-proper, group-proper, item-proper, strange-proper}
+use Rattle.paper.specs.Rows.{referenceProper, thingsIn}
+use Rattle.roundtrip.proofs.linesound.Rows.{file-proper, group-proper, item-proper, misnumbered-proper, strange-proper}
 use Rattle.roundtrip.specs.flat.Flat.{groupSum}
 use Rattle.roundtrip.proofs.flat.Order.{sum-small, proper-ordered}
 use Rattle.rows.specs.declared.read.ItemRow.{ItemRow}
-use Rattle.rows.specs.read.Told.{itemOf}
+use Rattle.rows.specs.read.Told.{itemOf, toldItem}
 use Rattle.rows.specs.read.Sized.{Sized}
 use Rattle.rows.proofs.proper.Laws.{item-sized}
 use Rattle.spelling.specs.file.Sum.{itemSum}
@@ -33,11 +35,20 @@ pass-on (aGroup date payer) ts p =
 pass-on (anItem x) ts p =
     let (_, _, l, _, r) = item-proper (p .k) (p .before) x ts (p .rest) in
     record { k = suc (p .k); before = afterItem (p .before) x; low = l; rest = r }
+pass-on (misnumbered x) ts p = absurd (misnumbered-proper (p .k) (p .before) x ts (p .rest))
 pass-on strange ts p = absurd (strange-proper (p .k) (p .before) ts (p .rest))
 
 -- a row of no known kind does not pass
 pub pass-known : (ts : List Thing) → Passing (strange ∷ ts) → ⊥
 pass-known ts p = strange-proper (p .k) (p .before) ts (p .rest)
+
+-- an item's row that passes has a reference in range
+pub pass-told : (t : List ℕ) (x : ItemRow) (ts : List Thing) → Passing (toldItem t x ∷ ts) → toldItem t x ≡ anItem (itemOf t x)
+unfolding pick
+pass-told t x ts p =
+    by-test (referenceProper (x .reference))
+    (λ e. rw e)
+    (λ e. let q = rw e at p in absurd (misnumbered-proper (q .k) (q .before) (itemOf t x) ts (q .rest)))
 
 -- an item's row is as its writer needs it
 pub pass-sized : (t : List ℕ) (x : ItemRow) (ts : List Thing) → Passing (anItem (itemOf t x) ∷ ts) → Sized t x

@@ -10,7 +10,7 @@ use Rattle.base.proofs.Put.{_then_}
 use Rattle.out.proofs.put.Room.{room-first, room-then}
 use Rattle.sheet.specs.declared.Sheet.{Sheet}
 use Rattle.paper.specs.Accounts.{account}
-use Rattle.paper.specs.Batch.{Thing, aFile, aGroup, anItem, most14}
+use Rattle.paper.specs.Batch.{Thing, aFile, aGroup, anItem, strange, most14}
 use Rattle.paper.specs.FileLine.{spellFile}
 use Rattle.paper.specs.GroupLine.{spellGroup}
 use Rattle.paper.specs.ItemLine.{spellItem}
@@ -29,7 +29,7 @@ use Rattle.spelling.specs.declared.file.Step.{Step}
 use Rattle.spelling.specs.file.Sum.{itemSum}
 use Rattle.spelling.specs.file.Passing.{Passing}
 use Rattle.spelling.specs.file.Lines.{stageWhen, rowLines, dueAfter, Filled}
-use Rattle.spelling.proofs.file.Passing.{pass-known, pass-sized, pass-small, pass-sum}
+use Rattle.spelling.proofs.file.Passing.{pass-known, pass-told, pass-sized, pass-small, pass-sum}
 use Rattle.spelling.proofs.file.Lines.{flat-row}
 
 abbrev step : ℕ → Bool → Step
@@ -53,10 +53,17 @@ module _ (sh : Sheet) (due : Bool) (t rows : List ℕ) (row : ℕ) (here : 192 �
     row-room : at + length (rowLines sh due this behind) ≤ length o
     row-room = room-first (rowLines sh due this behind) _ at (length o) (rw (row-is, flat-row sh due this behind) at room)
 
-    module _ (r : RowRead) (said : (u : List ℕ) → told u r ≡ thingIn u (words 24 (drop row rows))) where
+    -- the row was taken as r, since it is of a known kind
+    known : this ≡ strange → ⊥
+    known e = pass-known behind (rw e at passed)
+
+    module _ (r : RowRead) (taken : (u : List ℕ) → (thingIn u (words 24 (drop row rows)) ≡ strange → ⊥) → told u r ≡ thingIn u (words 24 (drop row rows))) where
+      said : told t r ≡ this
+      said = taken t known
+
       module _ (kind number : ℕ) (e : r ≡ File kind number) where
         file-is : this ≡ aFile kind number
-        file-is = sym (said t) ∙ ap (told t) e
+        file-is = sym said ∙ ap (told t) e
 
         file-lines : at + length (fileEnds (stageWhen due) ++ lineOf (spellFile sh kind number)) ≤ length o
         unfolding rowLines
@@ -75,7 +82,7 @@ module _ (sh : Sheet) (due : Bool) (t rows : List ℕ) (row : ℕ) (here : 192 �
 
       module _ (date prefix base : ℕ) (e : r ≡ Group date prefix base) where
         group-is : this ≡ aGroup date (account prefix base)
-        group-is = sym (said t) ∙ ap (told t) e
+        group-is = sym said ∙ ap (told t) e
 
         group-passed : Passing (aGroup date (account prefix base) ∷ behind)
         group-passed = rw group-is at passed
@@ -105,7 +112,9 @@ module _ (sh : Sheet) (due : Bool) (t rows : List ℕ) (row : ℕ) (here : 192 �
 
       module _ (x : ItemRow) (e : r ≡ Item x) where
         item-is : this ≡ anItem (itemOf t x)
-        item-is = sym (said t) ∙ ap (told t) e
+        item-is =
+            let here = sym said ∙ ap (told t) e in
+            here ∙ pass-told t x behind (rw here at passed)
 
         pub sized-item : Sized t x
         sized-item = pass-sized t x behind (rw item-is at passed)
@@ -119,6 +128,6 @@ module _ (sh : Sheet) (due : Bool) (t rows : List ℕ) (row : ℕ) (here : 192 �
         fill-item o1 q w = rw item-is (record { wrote = w; after = refl })
 
       pub fill-strange : r ≡ Strange → Filled sh due this behind o at o (step at due)
-      fill-strange e = absurd (pass-known behind (rw (sym (said t) ∙ ap (told t) e) at passed))
+      fill-strange e = absurd (known (sym said ∙ ap (told t) e))
 
 pub ruleset asked = (room-file-ends, room-file, sum-low, room-group-ends, room-group, sized-item, room-item)

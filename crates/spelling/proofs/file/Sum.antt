@@ -8,11 +8,11 @@ use lib.Dec.{eqb, lit<}
 use lib.ListN.{length, drop, getD}
 use borrow.Author.Tests.{ne-eqb}
 use Rattle.base.specs.Pick.{pick}
-use Rattle.base.proofs.Cases.{by-lt, by-eq}
+use Rattle.base.proofs.Cases.{by-test, by-lt, by-eq}
 use Rattle.paper.specs.Batch.{most14}
 use Rattle.paper.specs.Proper.{Stage, any}
 use Rattle.paper.specs.Words.{words, word}
-use Rattle.paper.specs.Rows.{thingIn, thingsIn}
+use Rattle.paper.specs.Rows.{referenceProper, thingIn, thingsIn}
 use Rattle.roundtrip.specs.flat.Flat.{groupSum}
 use Rattle.roundtrip.specs.flat.Order.{Ordered}
 use Rattle.out.specs.word.Places.{wordHere, rowsFrom}
@@ -61,5 +61,8 @@ item-sum t st (r ∷ rs) o =
     (λ f. rw f)
     (λ f.
     by-eq (word r 0) 3
-    (λ g. let q = (rw g at o) .1 in rw (g, item-sum t any rs q))
+    (λ g.
+    by-test (referenceProper (word r 21))
+    (λ n. let q = (rw (g, n) at o) .1 in rw (g, n, item-sum t any rs q))
+    (λ n. absurd (rw (g, n) at o)))
     (λ g. absurd (rw (ne-eqb (word r 0) 1 e, ne-eqb (word r 0) 2 f, ne-eqb (word r 0) 3 g) at o))))

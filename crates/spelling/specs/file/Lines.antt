@@ -5,7 +5,7 @@ use mathlib.Core.Bool.{Bool, true, false}
 use mathlib.Core.List.{List, [], _++_}
 use Rattle.base.specs.Put.{Wrote}
 use Rattle.sheet.specs.declared.Sheet.{Sheet}
-use Rattle.paper.specs.Batch.{Thing, aFile, aGroup, anItem, strange}
+use Rattle.paper.specs.Batch.{Thing, aFile, aGroup, anItem, misnumbered, strange}
 use Rattle.paper.specs.Proper.{Stage, needFile, any}
 use Rattle.paper.specs.FileLine.{spellFile}
 use Rattle.paper.specs.GroupLine.{spellGroup}
@@ -23,6 +23,7 @@ unfoldable pub rowLines : Sheet → Bool → Thing → List Thing → List ℕ
 rowLines sh due (aFile kind number) ts = fileEnds (stageWhen due) ++ lineOf (spellFile sh kind number)
 rowLines sh due (aGroup date payer) ts = groupEnds (stageWhen due) ++ lineOf (spellGroup sh payer (groupSum ts) date)
 rowLines sh due (anItem x) ts = lineOf (spellItem sh x)
+rowLines sh due (misnumbered x) ts = []
 rowLines sh due strange ts = []
 
 -- are closing lines due behind the row?
@@ -30,6 +31,7 @@ unfoldable pub dueAfter : Bool → Thing → Bool
 dueAfter due (aFile kind number) = false
 dueAfter due (aGroup date payer) = false
 dueAfter due (anItem x) = true
+dueAfter due (misnumbered x) = due
 dueAfter due strange = due
 
 -- the lines of the row x, before the rows ts, were put into o at `at`, and o1 is what was left

@@ -5,7 +5,7 @@ use Prim.Native.Nat.{ℕ, _+_, _/_}
 use native.Mathlib.Omega.{arith}
 use Rattle.sheet.specs.declared.Sheet.{Sheet}
 use Rattle.paper.specs.Accounts.{Account, account}
-use Rattle.paper.specs.Batch.{Item, Header, Thing, aFile, aGroup, anItem}
+use Rattle.paper.specs.Batch.{Header, Thing, aFile, aGroup, anItem}
 use Rattle.paper.specs.Rows.{thingIn}
 use Rattle.paper.specs.Carried.{Place}
 use Rattle.calendar.specs.declared.term.Banks.{Banks}
@@ -15,9 +15,9 @@ use Rattle.rows.specs.declared.walk.Walk.the-variants.{On, Wrong}
 use Rattle.rows.specs.declared.read.ItemRow.{ItemRow}
 use Rattle.rows.specs.declared.read.RowRead.{RowRead}
 use Rattle.rows.specs.declared.read.RowRead.the-variants as row
-use Rattle.rows.specs.read.Told.{told, itemOf}
+use Rattle.rows.specs.read.Told.{told, itemOf, toldItem}
 use Rattle.rows.specs.walk.Walks.{Walks}
-use Rattle.rows.proofs.walk.Passed.{file-passed, walks-on}
+use Rattle.rows.proofs.walk.Passed.{file-passed, item-told, walks-on}
 use Rattle.fileline.specs.seen.Bits.{Holds}
 use Rattle.survey.specs.declared.state.State.{State}
 use Rattle.survey.specs.declared.state.Step.{Step}
@@ -55,13 +55,20 @@ module _ (sh : Sheet) (k : ℕ) (st next : State) (low : Low (k + 1) next) where
   steps-group kind date payer today b from to all banks seen =
       record { low = low; goes = λ h p f t known. passed-on sh today h p k st (aGroup date payer) next (b h p (known .within)) }
 
-  pub steps-item : (x : Item) (all : ℕ) (banks : Banks)
-      → ((today : ℕ) (h : Header) (p : Place) → p .items ≡ all → Due sh today banks (p .kind) (p .date) → Behind sh today h p k st (anItem x) next)
-      → (today from to kind : ℕ) (seen : List ℕ) → Steps sh today from to all kind banks seen k st (anItem x) (step.Item next)
-  steps-item x all banks b today from to kind seen =
-      record { low = low; goes = λ h p f t known. passed-on sh today h p k st (anItem x) next (b today h p (known .items) (known .due)) }
+  pub steps-item : (texts : List ℕ) (x : ItemRow) (r : Walk) → Walks (st .before) (toldItem texts x) r → (b : Before) → r ≡ On b → (all : ℕ) (banks : Banks)
+      → ((today : ℕ) (h : Header) (p : Place) → p .items ≡ all → Due sh today banks (p .kind) (p .date) → Behind sh today h p k st (anItem (itemOf texts x)) next)
+      → (today from to kind : ℕ) (seen : List ℕ) → Steps sh today from to all kind banks seen k st (toldItem texts x) (step.Item next)
+  steps-item texts x r w b e all banks behind today from to kind seen =
+      rw (item-told (st .before) b texts x (walks-on (st .before) _ r w b e))
+      (record { low = low; goes = λ h p f t known. passed-on sh today h p k st (anItem (itemOf texts x)) next (behind today h p (known .items) (known .due)) })
 
 pub ruleset stepping = (steps-wrong, steps-file, steps-group, steps-item)
+
+-- an item's row that leads on is that of an item
+pub item-walks : (b : Before) (texts : List ℕ) (x : ItemRow) (r : Walk) → Walks b (toldItem texts x) r → (next : Before) → r ≡ On next → Walks b (anItem (itemOf texts x)) (On next)
+item-walks b texts x r w next e =
+    let on = walks-on b _ r w next e in
+    rw (item-told b next texts x on) at on
 
 -- ---- a row that was read as r: s is what it leads to
 
@@ -77,7 +84,7 @@ module _ (texts : List ℕ) (r : RowRead) (sh : Sheet) (k : ℕ) (st : State) (s
   row-group date prefix base e today kind p from to all banks seen = record { steps = rw e (p from to all banks seen) }
 
   pub row-item : (x : ItemRow) → r ≡ row.Item x → (all : ℕ) (banks : Banks)
-      → ((today from to kind : ℕ) (seen : List ℕ) → Steps sh today from to all kind banks seen k st (anItem (itemOf texts x)) s)
+      → ((today from to kind : ℕ) (seen : List ℕ) → Steps sh today from to all kind banks seen k st (toldItem texts x) s)
       → (today from to kind : ℕ) (seen : List ℕ) → StepsRead sh today from to all kind banks seen k st texts r s
   row-item x e all banks p today from to kind seen = record { steps = rw e (p today from to kind seen) }
 

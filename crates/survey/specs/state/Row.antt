@@ -3,7 +3,7 @@ use Prim.Native.Nat.{ℕ, suc, _+_}
 use mathlib.Core.Path.{_≡_}
 use mathlib.Core.List.{List, _∷_}
 use Rattle.sheet.specs.declared.Sheet.{Sheet}
-use Rattle.paper.specs.Batch.{Header, Thing, aFile, aGroup, anItem, strange}
+use Rattle.paper.specs.Batch.{Header, Thing, aFile, aGroup, anItem, misnumbered, strange}
 use Rattle.paper.specs.Carried.{Place, behindFile, behindGroup, behindItem, rowsCarried}
 use Rattle.roundtrip.specs.flat.Count.{count}
 use Rattle.rows.specs.declared.walk.Walk.the-variants.{On}
@@ -17,6 +17,7 @@ abbrev pub placeBehind : Place → Thing → Place
 placeBehind p (aFile kind number) = behindFile p kind number
 placeBehind p (aGroup date payer) = behindGroup p date
 placeBehind p (anItem x) = behindItem p
+placeBehind p (misnumbered x) = p
 placeBehind p strange = p
 
 -- ---- the row t, before which st stands

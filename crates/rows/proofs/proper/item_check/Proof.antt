@@ -25,6 +25,15 @@ enum-told-2 c = search needs
 texts-check-requires : tie.Need-texts-check-requires
 texts-check-requires c κs = search needs
 
+enum-known-n-3 : tie.Need-enum-known-n-3
+enum-known-n-3 c = search needs
+
+enum-told-3 : tie.Need-enum-told-3
+enum-told-3 c = search needs
+
+reference-check-requires : tie.Need-reference-check-requires
+reference-check-requires c κs = search needs
+
 returns : tie.Need-returns
 returns c = search stages-on
 
@@ -33,6 +42,9 @@ returns-2 c = search stages-on
 
 returns-3 : tie.Need-returns-3
 returns-3 c = search stages-on
+
+returns-4 : tie.Need-returns-4
+returns-4 c = search stages-on
 
 pub item-check-spec : {M : Type 1} → statement M
 item-check-spec =
@@ -45,6 +57,10 @@ item-check-spec =
     enum-known-n-2
     enum-told-2
     texts-check-requires
+    enum-known-n-3
+    enum-told-3
+    reference-check-requires
     returns
     returns-2
-    returns-3)
+    returns-3
+    returns-4)

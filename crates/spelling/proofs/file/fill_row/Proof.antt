@@ -4,8 +4,8 @@ use Rattle.spelling.proofs.file.Row.{fill-file, fill-group, fill-item, 
 use Rattle.spelling.proofs.file.fill_row.Statement.{statement}
 use Rattle.spelling.proofs.file.fill_row.Tie as tie
 
-read-row-requires : tie.Need-read-row-requires
-read-row-requires c κs = search needs
+take-row-requires : tie.Need-take-row-requires
+take-row-requires c κs = search needs
 
 enum-known-kind : tie.Need-enum-known-kind
 enum-known-kind c = search needs
@@ -65,7 +65,7 @@ pub fill-row-spec : {M : Type 1} → statement M
 fill-row-spec =
     tie.close
     (tie.spec
-    read-row-requires
+    take-row-requires
     enum-known-kind
     end-file-requires
     put-file-line-requires

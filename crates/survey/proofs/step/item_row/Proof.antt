@@ -1,7 +1,6 @@
 -- `item_row`: by the answer of the row's tests. Assumes nothing.
 use borrow.Author.Needs.{needs}
-use Rattle.rows.proofs.walk.Passed.{walks-on}
-use Rattle.survey.proofs.step.Rows.{stepping}
+use Rattle.survey.proofs.step.Rows.{stepping, item-walks}
 use Rattle.survey.proofs.step.item_row.Statement.{statement}
 use Rattle.survey.proofs.step.item_row.Tie as tie
 
@@ -15,7 +14,7 @@ enum-known-next : tie.Need-enum-known-next
 enum-known-next c = search needs
 
 behind-item-requires : tie.Need-behind-item-requires
-behind-item-requires c κs = search (walks-on, needs)
+behind-item-requires c κs = search (item-walks, needs)
 
 returns : tie.Need-returns
 returns c = search stepping
