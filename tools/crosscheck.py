@@ -181,9 +181,9 @@ class Batches:
     def span(self, usual):
         return self.rnd.choice(usual) if self.rnd.random() < self.good else self.rnd.choice(SPANS)
 
-    @staticmethod
-    def row(*words):
-        return struct.pack("<24Q", *(list(words) + [0] * (24 - len(words))))
+    def row(self, *words):
+        """words that a row does not use may be anything"""
+        return struct.pack("<24Q", *(list(words) + [self.rnd.choice([0, LAST])] * (24 - len(words))))
 
     def item(self, sheet, single, term):
         bank = self.rnd.choice(TERM_BANKS) if term else 300
@@ -193,7 +193,8 @@ class Batches:
         for part in range(4):
             words += self.span([(0, 0), (0, 3), (4, 4)] if part == 0 else [(0, 0)])
         words += self.span([(0, 0), (0, 3)] if sheet == 3 else [(0, 0)])
-        return self.row(*(words + [self.rnd.choice([0, 5])] * 3))
+        reference = self.rnd.choice([0, 5, 2 ** 32 - 1] * 8 + [2 ** 32, LAST])
+        return self.row(*words, reference)
 
     def rows(self, sheet, term):
         self.good = self.rnd.choice([1.0, 0.99, 0.97, 0.9])

@@ -18,7 +18,7 @@ rm -rf "$work"/crates/*/must-fail
 mkdir -p "$work/crates/crosscheck/src" "$work/crates/crosscheck/proofs"
 printf 'base:\nsheet: base\npaper: base sheet\nwhy: base sheet paper\ngpc: base paper\ncrosscheck: base sheet paper why gpc\n' >"$work/crates.txt"
 echo '// Equations between the definitions and the second program. No code.' >"$work/crates/crosscheck/src/lib.rt"
-cases=$(python3 tools/crosscheck.py "$build/libpeer.so" "$work/crates/crosscheck/proofs" "${1:-1}" "${2:-120}" "${3:-80}")
+cases=$(python3 tools/crosscheck.py "$build/libpeer.so" "$work/crates/crosscheck/proofs" "${1:-1}" "${2:-120}" "${3:-110}")
 if (cd "$work" && rt check crosscheck >check.log 2>&1); then
     echo "$cases passed, 0 failed"
 else

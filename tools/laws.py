@@ -23,7 +23,7 @@ STANDING = {
     # functions that make the calls as a user does, so that the calls' promises are used
     "demands/src/lib": "*",
     # document 01's cases and its sample run, and worked examples of each rule, computed from the definitions
-    **{f"cases/proofs/{name}": "*" for name in ("Cases", "WholeRun", "Lines", "Heads", "Items", "Order", "Warned", "Writing", "Calls", "Previous", "Collections")},
+    **{f"cases/proofs/{name}": "*" for name in ("Cases", "WholeRun", "Lines", "Heads", "Items", "Order", "Warned", "Writing", "Calls", "Previous", "Collections", "References")},
     "amount/proofs/Edges": "*",
     "bank/proofs/Edges": "*",
     "calendar/proofs/Examples": "*",

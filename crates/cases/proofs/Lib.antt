@@ -9,3 +9,4 @@ pub mod WholeRun
 pub mod Writing
 pub mod Previous
 pub mod Collections
+pub mod References

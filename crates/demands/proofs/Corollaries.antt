@@ -3,7 +3,7 @@ use mathlib.Core.Path.{_≡_}
 use mathlib.Core.Bool.{Bool, true}
 use mathlib.Core.List.{List}
 use mathlib.Core.Logic.{_↔_}
-use Prim.Native.Nat.{ℕ, suc, _/_, _%_, _≤_, _<_}
+use Prim.Native.Nat.{ℕ, suc, _*_, _/_, _%_, _^_, _≤_, _<_}
 use lib.ListN.{length, take}
 use Rattle.sheet.specs.declared.Sheet.{Sheet}
 use Rattle.sheet.specs.declared.Known.the-variants as known
@@ -16,7 +16,7 @@ use Rattle.paper.specs.Lines.{linesOf}
 use Rattle.paper.specs.Spells.{Spells, dues}
 use Rattle.paper.specs.Judge.{Refused, Accepted, judge}
 use Rattle.paper.specs.FirstFault.{FirstFault}
-use Rattle.paper.specs.Rows.{rowSize}
+use Rattle.paper.specs.Rows.{rowSize, rowsIn}
 use Rattle.paper.specs.Reading.{readAnswer, rowsAfter}
 use Rattle.paper.specs.Canonical.{canon}
 use Rattle.paper.specs.Writing.{drafted, draftOf, draft, writtenIn}
@@ -31,6 +31,8 @@ use Rattle.exact.proofs.named.Main as places
 use Rattle.roundtrip.specs.whole.Carries.{Carries, headRead, pastWarnings, Exactly}
 use Rattle.roundtrip.proofs.whole.Main as whole
 use Rattle.outcomes.specs.numbers.Gives.{NoSheet, NoDay, Spelled, FileOf}
+use Rattle.rowlaws.specs.References.{AllAlike, Unreferred}
+use Rattle.outcomes.proofs.References as refers
 use Rattle.outcomes.proofs.numbers.Reading as read-numbers
 use Rattle.outcomes.proofs.numbers.Writing as write-numbers
 use Rattle.bounds.proofs.Input as input
@@ -78,6 +80,19 @@ module _ (sheet today : ℕ) (h : Header) (rows texts : List ℕ) (room : ℕ) w
 -- The rewriting program reads 8,193 bytes at most, and what it does not read cannot matter.
 pub input-read : (s : List ℕ) → rewriting (take 8193 s) ≡ rewriting s
 input-read = input.first-bytes
+
+-- ---- the order book's references, document 02, W-206
+
+module _ (sheet today : ℕ) where
+  -- Rows that differ in references alone, all in range, are written alike: the same file, or the same refusal at the same row and field.
+  pub references : (h : Header) (rows rows′ texts : List ℕ) → AllAlike (rowsIn rows) (rowsIn rows′)
+      → draft sheet today h rows texts ≡ draft sheet today h rows′ texts
+  references = refers.references sheet today
+
+  -- Behind an accepted reading every item's reference is 0.
+  pub read-reference : (f lent : List ℕ) → length f < 2 ^ 64 → readAnswer sheet today f lent .number ≡ 0
+      → Unreferred (rowsIn (take (rowSize * readAnswer sheet today f lent .rows) (rowsAfter sheet today f lent)))
+  read-reference = refers.read-reference sheet today
 
 -- ---- from P to C, document 02, W-201
 

@@ -3,3 +3,4 @@ pub mod Writing
 pub mod Written
 pub mod Back
 pub mod Kept
+pub mod References

@@ -21,7 +21,7 @@ use Rattle.rowlaws.proofs.Row.{words-of}
 
 -- ---- one row
 
-texts-long : (start : ℕ) (spots : List ℕ) (ts : List (List ℕ)) → length (textsWords start spots ts) ≡ 2 * length ts
+pub texts-long : (start : ℕ) (spots : List ℕ) (ts : List (List ℕ)) → length (textsWords start spots ts) ≡ 2 * length ts
 unfolding textsWords
 texts-long start spots [] = refl
 texts-long start [] (t ∷ ts) = rw (words-of start 0 t) (omega (arith, texts-long start [] ts))

@@ -7,4 +7,5 @@ pub mod Row
 pub mod Filled
 pub mod Fitting
 pub mod Lengths
+pub mod References
 pub mod Main
