@@ -44,9 +44,9 @@ extern "C" {
 
 /* ---- Version: the first part grows when a program must be changed to go on working, the second when something is added ---- */
 
-#define ABO_VERSION_MAJOR 1
-#define ABO_VERSION_MINOR 6
-#define ABO_VERSION "1.6"
+#define ABO_VERSION_MAJOR 2
+#define ABO_VERSION_MINOR 0
+#define ABO_VERSION "2.0"
 
 /* ---- Sheets: which bank's rules a file is judged by ---- */
 
@@ -142,7 +142,8 @@ enum abo_field {
     ABO_ITEM_PART_2 = 13,      /* item: second message part */
     ABO_ITEM_PART_3 = 15,      /* item: third message part */
     ABO_ITEM_PART_4 = 17,      /* item: fourth message part */
-    ABO_ITEM_NAME = 19         /* item: payee's name */
+    ABO_ITEM_NAME = 19,        /* item: payee's name */
+    ABO_ITEM_REFERENCE = 21    /* item: the caller's own reference, below 2^32; no file carries it */
 };
 
 /* Fields of the header, as abo_write numbers them where the row is 0. */
@@ -183,7 +184,10 @@ struct abo_item_row {
     uint64_t bank, amount, variable, specific, constant, priority;
     struct abo_place part[ABO_PARTS];
     struct abo_place name;
-    uint64_t unused[3];
+    uint64_t reference; /* the caller's own, to find the item by again: 0 when read; when written only its range is looked at.
+                           Up to version 1.6 this word was unused: what a program leaves there is now refused with 20 if it is
+                           2^32 or more, so zero a row before filling it */
+    uint64_t unused[2];
 };
 
 /* One row, by word number or by name.  `word[ABO_FIELD_ROW]` says which of the three views it has. */
@@ -566,6 +570,7 @@ ABO_HOLDS(item_constant, ABO_AT(abo_item_row, constant, ABO_ITEM_CONSTANT));
 ABO_HOLDS(item_priority, ABO_AT(abo_item_row, priority, ABO_ITEM_PRIORITY));
 ABO_HOLDS(item_part, ABO_AT(abo_item_row, part, ABO_ITEM_PART_1));
 ABO_HOLDS(item_name, ABO_AT(abo_item_row, name, ABO_ITEM_NAME));
+ABO_HOLDS(item_reference, ABO_AT(abo_item_row, reference, ABO_ITEM_REFERENCE));
 ABO_HOLDS(statement_row, sizeof(union abo_statement_row) == ABO_STATEMENT_ROW_BYTES);
 ABO_HOLDS(statement_head, sizeof(struct abo_statement_head) == ABO_STATEMENT_ROW_BYTES);
 ABO_HOLDS(statement_movement, sizeof(struct abo_statement_movement) == ABO_STATEMENT_ROW_BYTES);

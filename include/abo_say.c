@@ -138,7 +138,8 @@ static const struct field_words fields[][ABO_ROW_WORDS] = {
                       [ABO_ITEM_PART_2] = {{"the second part of the message", "druhá část zprávy"}, A_PART},
                       [ABO_ITEM_PART_3] = {{"the third part of the message", "třetí část zprávy"}, A_PART},
                       [ABO_ITEM_PART_4] = {{"the fourth part of the message", "čtvrtá část zprávy"}, A_PART},
-                      [ABO_ITEM_NAME] = {{"the name", "jméno"}, {A_TEXT, A_TEXT_CZ}}},
+                      [ABO_ITEM_NAME] = {{"the name", "jméno"}, {A_TEXT, A_TEXT_CZ}},
+                      [ABO_ITEM_REFERENCE] = {{"the reference", "referenční číslo"}, {"0 to 4294967295", "0 až 4294967295"}}},
 };
 
 #define A_SUM                                                                                                               \

@@ -63,6 +63,7 @@ static struct named fields[] = {
     OF_ITEM("message part 3", part[2], ABO_ITEM_PART_3),
     OF_ITEM("message part 4", part[3], ABO_ITEM_PART_4),
     OF_ITEM("name", name, ABO_ITEM_NAME),
+    OF_ITEM("reference", reference, ABO_ITEM_REFERENCE),
 };
 
 static const size_t first_unused[] = {
@@ -171,7 +172,7 @@ static int begins(const char *cell, const char *words)
     return strncmp(cell, words, len) == 0 && strchr(" ,:", cell[len]) != NULL;
 }
 
-/* The first and last word that `7`, `11, 12` or `21 to 23` names. */
+/* The first and last word that `7`, `11, 12` or `11 to 20` names. */
 static size_t words_of(const char *cell, size_t *last)
 {
     char *end;
@@ -552,6 +553,65 @@ static void check_helpers(void)
                      out);
 }
 
+/* What word 21 of the small batch's rows may hold: an item's reference is
+   tested, and the same word of the rows above it is none. */
+static void check_reference_written(uint64_t reference, uint64_t due)
+{
+    union abo_row rows[SMALL_ROWS];
+    struct abo_header header;
+    uint8_t out[SOME_ROOM], plain[SOME_ROOM];
+    size_t row, len;
+    make_batch(rows, &header);
+    len = check_write_rows(rows, &header, ABO_SHEET_K, SOME_ROOM, ABO_ACCEPTED,
+                           plain);
+    for (row = 0; row + 1 < SMALL_ROWS; row++)
+        rows[row].word[ABO_ITEM_REFERENCE] = UINT64_MAX;
+    rows[2].item.reference = reference;
+    struct abo_written w =
+        abo_write_rows(rows, SMALL_ROWS, some_text, sizeof some_text, &header,
+                       ABO_SHEET_K, SOME_DAY, out, sizeof out);
+    check(w.number == due, "a reference", "is taken exactly below 2^32");
+    if (due == ABO_ACCEPTED)
+        check(w.bytes == len && memcmp(out, plain, len) == 0, "a reference",
+              "leaves the file as it is without");
+    else
+        check(w.row == 3 && w.field == ABO_ITEM_REFERENCE && w.bytes == 0,
+              "a reference", "is refused at its row and field");
+}
+
+/* Reading stores 0 over whatever stood there; a refusal leaves it. */
+static void check_reference_read(uint64_t sheet, uint64_t due)
+{
+    union abo_row rows[SMALL_ROWS];
+    struct abo_header header;
+    uint8_t out[SOME_ROOM];
+    make_batch(rows, &header);
+    rows[2].item.reference = 7;
+    size_t len = check_write_rows(rows, &header, ABO_SHEET_K, SOME_ROOM,
+                                  ABO_ACCEPTED, out);
+    memset(rows, 0xff, sizeof rows);
+    struct abo_answer a =
+        abo_read_rows(out, len, sheet, SOME_DAY, rows, SMALL_ROWS);
+    check(a.number == due, "a file", "has the number that is due");
+    check(rows[2].item.reference == (due == ABO_ACCEPTED ? 0 : UINT64_MAX),
+          "a reference", "is 0 when read, and as it was when refused");
+}
+
+static void check_references(void)
+{
+    static const uint64_t taken[] = {0, 1, INT32_MAX, UINT32_MAX - 1,
+                                     UINT32_MAX};
+    static const uint64_t refused[] = {
+        UINT64_C(1) << 32, (UINT64_C(1) << 32) + 1, UINT64_C(1) << 63,
+        UINT64_MAX};
+    for (size_t i = 0; i < COUNT_OF(taken); i++)
+        check_reference_written(taken[i], ABO_ACCEPTED);
+    for (size_t i = 0; i < COUNT_OF(refused); i++)
+        check_reference_written(refused[i], ABO_NOT_A_BATCH);
+    check_reference_read(ABO_SHEET_K, ABO_ACCEPTED);
+    check_reference_read(ABO_SHEET_S, ABO_BAD_PAYER_BANK);
+}
+
 /* ABO_EXPLAIN_BYTES holds the longest text of a refused file: numbers of 20
    digits, the longest field, rule and spelling, 60 bytes that are all escaped,
    and six sheets, so that one more is no change for a program. */
@@ -600,5 +660,6 @@ int main(int argc, char **argv)
     check_longest_text();
     check_version();
     check_helpers();
+    check_references();
     return last_line();
 }

@@ -67,7 +67,8 @@ for standard in c99 c11 c++11; do
 done
 wrong 'two fields of an item exchanged' 's/uint64_t bank, amount,/uint64_t amount, bank,/'
 wrong 'a field that is missing' 's/uint64_t due;//'
-wrong 'a row one word too long' 's/uint64_t unused\[3\]/uint64_t unused[4]/'
+wrong 'a row one word too long' 's/uint64_t unused\[2\]/uint64_t unused[3]/'
+wrong 'the reference behind an unused word' 's/uint64_t reference; /uint64_t more, reference; /; s/uint64_t unused\[2\]/uint64_t unused[1]/'
 wrong 'an answer one word too long' 's/uint64_t bytes;/uint64_t bytes, more;/'
 wrong 'two fields of a movement exchanged' 's/uint64_t amount, code,/uint64_t code, amount,/'
 wrong 'two balances exchanged' 's/int64_t old_balance, new_balance,/int64_t new_balance, old_balance,/'

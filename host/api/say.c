@@ -106,7 +106,7 @@ static void check_fields(void)
         check_field(odd[i], ABO_FILE_KIND, 0);
     check_field(KINDS, ABO_FILE_KIND, 0);
     /* of the header, an account file, a group and an item */
-    check(fields == 5 + 2 + 2 + 13, "the page", "has as many fields");
+    check(fields == 5 + 2 + 2 + 14, "the page", "has as many fields");
 }
 
 /* ---- what the library refuses has words ---- */
@@ -170,6 +170,7 @@ static const struct change changes[] = {
     OF_PART(ABO_ITEM_PART_3),
     OF_PART(ABO_ITEM_PART_4),
     OF_PART(ABO_ITEM_NAME),
+    OF_ITEM(ABO_ITEM_REFERENCE, UINT64_C(4294967296)),
 };
 
 /* Where the library refused with ABO_NOT_A_BATCH, and on which sheet with

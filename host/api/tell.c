@@ -573,6 +573,7 @@ static void check_sentence(uint64_t language, struct abo_written w,
 static void check_written(void)
 {
     static const struct abo_written bank = {20, 3, ABO_ITEM_BANK, 0},
+                                    own = {20, 3, ABO_ITEM_REFERENCE, 0},
                                     missing = {20, 1, 0, 0},
                                     kind = {21, 1, ABO_FILE_KIND, 0},
                                     sheet = {1, 0, 0, 0},
@@ -588,6 +589,12 @@ static void check_written(void)
     check_sentence(ABO_CZECH, bank, ABO_ROW_ITEM,
                    "Řádek 3, položka, banka příjemce: toto není dávka podle "
                    "žádného listu; dovoleno: 0001 až 9999 (20).");
+    check_sentence(ABO_ENGLISH, own, ABO_ROW_ITEM,
+                   "Row 3, item, the reference: this is no batch on any "
+                   "sheet; allowed: 0 to 4294967295 (20).");
+    check_sentence(ABO_CZECH, own, ABO_ROW_ITEM,
+                   "Řádek 3, položka, referenční číslo: toto není dávka podle "
+                   "žádného listu; dovoleno: 0 až 4294967295 (20).");
     check_sentence(ABO_ENGLISH, missing, 0,
                    "Row 1: this is no batch on any sheet (20).");
     check_sentence(ABO_CZECH, missing, 0,
