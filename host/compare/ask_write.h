@@ -7,7 +7,7 @@
 
 #include "../generate/draft.h"
 
-enum { WRITE_FIELDS = 21, WRITE_THINGS = 5 };
+enum { WRITE_FIELDS = ABO_ITEM_REFERENCE + 1, WRITE_THINGS = 5 };
 
 /* How often each number came, and 20 and 21 with each field of the header (0),
    of each kind of row, and of a row that is missing or strange (4). */

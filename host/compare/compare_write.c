@@ -160,7 +160,7 @@ static void report(struct seeds seeds)
                                         "item", "no row"};
     static const uint32_t wanted[2][WRITE_THINGS] = {
         /* a bit for each field */
-        {0x3e, 0x7, 0x7, 0xaafeb, 0x1},
+        {0x3e, 0x7, 0x7, 0x2aafeb, 0x1},
         {0x20, 0x6, 0x2, 0xaac61, 0x0},
     };
     bool tested = are_enough(seeds, ENOUGH);

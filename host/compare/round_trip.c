@@ -54,7 +54,8 @@ static bool same_text(const struct reading *a, const struct reading *b,
                         memcmp(a->file + at_a, b->file + at_b, len) == 0);
 }
 
-/* How many words of a row say something. */
+/* How many words of a row a file carries: an item's reference is none of them.
+   So batches are compared without it, and it is 0 behind reading. */
 static size_t words_of(const struct reading *r, size_t row)
 {
     static const size_t words[] = {1, 3, 4, 21};
@@ -85,7 +86,7 @@ static bool same_batch(const struct reading *a, const struct reading *b)
     return true;
 }
 
-/* What reading stores where there is nothing: zeros. */
+/* What reading stores where there is nothing, as for a reference: zeros. */
 static bool is_tidy(const struct reading *r)
 {
     for (size_t row = 0; row < (size_t)r->answer.rows; row++) {

@@ -112,10 +112,22 @@ static uint64_t draw_bank_word(struct draft_plan *p)
     return draw_own_or_other(&p->dice, p->sheet, own);
 }
 
+/* What the caller keeps there: nothing, as behind reading, a small number, one
+   at the limit, or any below it. */
+static uint64_t draw_reference(struct draft_plan *p)
+{
+    static const uint64_t some[] = {0, 0, 1, 2, 1000, UINT32_MAX - 1,
+                                    UINT32_MAX};
+    uint64_t reference = one_in(&p->dice, 2)
+                             ? PICK(&p->dice, some)
+                             : below(&p->dice, UINT64_C(1) << 32);
+    return limited(p, AT_REFERENCE, reference, 0, UINT32_MAX);
+}
+
 void put_item_row(struct draft_plan *p, bool single, uint64_t amount)
 {
     static const uint64_t symbols[] = {0, 0, 1, 9999999999, 1234567890};
-    uint64_t words[21] = {3}, most = most_of_item(p->sheet);
+    uint64_t words[ABO_ITEM_REFERENCE + 1] = {3}, most = most_of_item(p->sheet);
     struct dice *d = &p->dice;
     draw_account_words(p, AT_PAYER, !single, words + 1);
     draw_account_words(p, AT_PAYEE, false, words + 3);
@@ -129,5 +141,6 @@ void put_item_row(struct draft_plan *p, bool single, uint64_t amount)
     words[10] = p->sheet == K ? between(d, 3, 9) : 5;
     words[10] = limited(p, AT_PRIORITY, words[10], 3, one_in(d, 2) ? 5 : 9);
     draw_texts(p, words + 11);
-    put_row(p, words, 21);
+    words[ABO_ITEM_REFERENCE] = draw_reference(p);
+    put_row(p, words, COUNT_OF(words));
 }
