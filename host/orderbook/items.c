@@ -168,11 +168,21 @@ static bool payer_stands(struct ledger *l, struct span word)
                 line);
 }
 
+/* The row of the line in hand, which is its reference: if the item is refused,
+ * the line is found by it again. */
+static bool add_item(struct ledger *l, struct span word)
+{
+    if (!add_row(l, ABO_ROW_ITEM, word))
+        return false;
+    set_number(l, ABO_ITEM_REFERENCE, l->line, word);
+    return true;
+}
+
 static bool take_item(struct ledger *l, struct cursor *c, struct span word,
                       uint64_t constant)
 {
     struct span name, amount;
-    if (!payer_stands(l, word) || !add_row(l, ABO_ROW_ITEM, word) ||
+    if (!payer_stands(l, word) || !add_item(l, word) ||
         !take_name(l, c, &name) || !take_payee(l, c) ||
         !take_amount(l, c, &amount))
         return false;

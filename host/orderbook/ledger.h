@@ -33,6 +33,7 @@ struct ledger {
     bool payer_waits; /* no group has come behind the payer line yet */
     bool collects;    /* the last account file's kind takes money in */
     size_t names_out; /* how many names do not go into the file */
+    uint64_t line;    /* the number of the line in hand, from 1 */
     size_t lines;     /* that are neither blank nor comments */
     char fault[FAULT_ROOM];
     struct span fault_span;

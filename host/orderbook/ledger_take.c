@@ -255,6 +255,7 @@ bool ledger_take(struct ledger *l, const struct input *from,
     for (size_t at = 0; at < l->text.len;) {
         struct span line = line_from(l, at, &at);
         struct cursor words = {line.at, line.at + line.len};
+        l->line++;
         if (!take_line(l, &words))
             return false;
     }

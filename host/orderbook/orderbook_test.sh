@@ -10,7 +10,7 @@ export LC_ALL
 cd "$(dirname "$0")/../.." || exit 2
 . host/target.sh
 . host/tally.sh
-build_test orderbook || exit 2
+build_test orderbook references_test || exit 2
 work=$build/ledger
 rm -rf "$work"
 mkdir -p "$work" || exit 2
@@ -136,6 +136,25 @@ while read -r mark front sheet line; do
     check "lines, case $number" same_as_expected lines '== ' "$number"
 done <"$work/lines"
 check 'lines: all were tried' [ "$number" -eq "$(grep -c '^== ' "$cases/lines.expected")" ]
+
+# items are numbered by their lines, whatever ends these, and whatever stands between them
+{ printf '# Wages\r\n\r\nfirm R\rclient 1\r  \rinterval 0 999\npayer 19-19\n\rfile 1501 000001\r\ndue 2026-11-20\r\n'
+    printf 'wage Z 19-19/0800 5 vs=1\r\n\r\nwage Y 19-19/0800 5 vs=2\n\n# one more\n\t\nwage X 19-19/0800 5 vs=3\r\rdue 2026-11-21\n'
+    printf 'wage W 19-19/0800 5 vs=4'; } >"$work/ends.txt"
+references() { # LEDGER
+    # shellcheck disable=SC2086
+    $run "$build/references_test" "$1" 2>"$work/err"
+}
+for ledger in $cases/pond.txt $cases/czech.txt "$work/ends.txt"; do
+    add "the references of $ledger" references "$ledger"
+    check "a reference that is too large in $ledger" grep -qx 'orderbook: the reference 4294967296 is not allowed: it must be 0 to 4294967295; it is the number of the line (20, row [0-9]*, field 21).' "$work/err"
+    check "a reference that is too large in $ledger: no more is said" [ "$(wc -l <"$work/err")" -eq 1 ]
+done
+# the last of them is refused, in a line without an end
+{ cat "$work/ends.txt"; printf ' priority=2'; } >"$work/refused.txt"
+check 'the last line of many ends is refused' refused 1 "the priority 2 is not allowed: it must be 3 to 9 (20, row 7, field 10)." \
+    "$work/refused.txt" --sheet K --day "$day"
+check 'the last line of many ends is shown' [ "$(tail -n 3 "$work/err")" = "$(printf '%s, line 20:\n  wage W 19-19/0800 5 vs=4 priority=2\n                                    ^' "$work/refused.txt")" ]
 
 # one item or account file too many
 awk 'BEGIN {

@@ -45,25 +45,36 @@ static void show_line(const struct ledger *l, struct span line,
     free(copy);
 }
 
-static void show_in_ledger(const struct order *o, const struct ledger *l,
-                           struct span at)
-{
+/* A line, its number, and the place in it that is meant. */
+struct shown {
+    struct span line, at;
     uint64_t number;
-    struct span line = ledger_line(l, at.at, &number);
-    if (line.len == 0) /* an empty ledger has nothing to show */
+};
+
+static struct shown shown_at(const struct ledger *l, struct span at)
+{
+    struct shown s = {{0, 0}, at, 0};
+    s.line = ledger_line(l, at.at, &s.number);
+    return s;
+}
+
+static void show_in_ledger(const struct order *o, const struct ledger *l,
+                           struct shown s)
+{
+    if (s.line.len == 0) /* an empty ledger has nothing to show */
         return;
     if (strcmp(o->name, "-") == 0)
         fputs("standard input", stderr);
     else
         put_name(stderr, o->name);
-    fprintf(stderr, ", line %" PRIu64 ":\n", number);
-    show_line(l, line, at);
+    fprintf(stderr, ", line %" PRIu64 ":\n", s.number);
+    show_line(l, s.line, s.at);
 }
 
 void tell_misread(const struct order *o, const struct ledger *l)
 {
     fprintf(stderr, "orderbook: %s\n", l->fault);
-    show_in_ledger(o, l, l->fault_span);
+    show_in_ledger(o, l, shown_at(l, l->fault_span));
 }
 
 /* ---- Refusals of a row ---- */
@@ -158,7 +169,14 @@ static struct span tell_row(const struct order *o, const struct ledger *l,
 static bool is_text(uint64_t kind, uint64_t field)
 {
     return (kind == 0 && field == ABO_HEADER_NAME) ||
-           (kind == ABO_ROW_ITEM && field >= ABO_ITEM_PART_1);
+           (kind == ABO_ROW_ITEM && field >= ABO_ITEM_PART_1 &&
+            field <= ABO_ITEM_NAME);
+}
+
+/* No word of the ledger, but the number of the item's line. */
+static bool is_reference(uint64_t kind, uint64_t field)
+{
+    return kind == ABO_ROW_ITEM && field == ABO_ITEM_REFERENCE;
 }
 
 /* A ledger's group always has its payer, which must be an account as any
@@ -191,6 +209,15 @@ static void put_value(const struct ledger *l, struct span value, bool text)
     if (text)
         fprintf(stderr, " of %zu letter%s", value.len,
                 value.len == 1 ? "" : "s");
+}
+
+static void put_field(const struct ledger *l, struct abo_written w)
+{
+    uint64_t kind = kind_of(l, w.row);
+    if (is_reference(kind, w.field))
+        fprintf(stderr, "%" PRIu64, l->rows[w.row - 1].item.reference);
+    else
+        put_value(l, ledger_span(l, w.row, w.field), is_text(kind, w.field));
 }
 
 /* An amount that is small enough by itself is too much for its group. */
@@ -275,6 +302,8 @@ static struct span tell_more(const struct order *o, const struct ledger *l,
     }
     if (kind == ABO_ROW_ITEM && w.field == ABO_ITEM_BANK && carried)
         tell_group_day(o, l, w.row);
+    if (is_reference(kind, w.field))
+        fputs("; it is the number of the line", stderr);
     if (w.row == 0 && w.field == ABO_HEADER_TO && carried)
         fprintf(stderr, ", which is %03" PRIu64, l->header.from);
     return value;
@@ -286,7 +315,7 @@ static struct span tell_field(const struct order *o, const struct ledger *l,
     uint64_t kind = kind_of(l, w.row);
     const char *noun = abo_say_field(kind, w.field);
     fprintf(stderr, "%s ", noun != NULL ? noun : "a field");
-    put_value(l, ledger_span(l, w.row, w.field), is_text(kind, w.field));
+    put_field(l, w);
     fputs(" is not allowed", stderr);
     if (w.number == ABO_NOT_CARRIED) {
         fputs(" on ", stderr);
@@ -294,6 +323,22 @@ static struct span tell_field(const struct order *o, const struct ledger *l,
     }
     fprintf(stderr, ": it must be %s", allowed_in(o, w.number, kind, w.field));
     return tell_more(o, l, w);
+}
+
+/* ---- The whole sentence, and the line ---- */
+
+/* The line of a refused row. An item's is known by its reference. The account
+ * that an item is paid from stands in another line, and other rows have no
+ * reference: their lines are counted up to the place that is meant. */
+static struct shown shown_of(const struct ledger *l, struct abo_written w,
+                             struct span at)
+{
+    uint64_t kind = kind_of(l, w.row);
+    if (kind != ABO_ROW_ITEM || is_payer(kind, w.field))
+        return shown_at(l, at);
+    uint64_t number = l->rows[w.row - 1].item.reference;
+    struct abo_found line = abo_line(l->text.bytes, l->text.len, number);
+    return (struct shown){{(size_t)line.at, (size_t)line.len}, at, number};
 }
 
 void tell_unwritten(const struct order *o, const struct ledger *l,
@@ -310,5 +355,5 @@ void tell_unwritten(const struct order *o, const struct ledger *l,
                          : tell_field(o, l, w);
     fprintf(stderr, " (%" PRIu64 ", row %" PRIu64 ", field %" PRIu64 ").\n",
             w.number, w.row, w.field);
-    show_in_ledger(o, l, at);
+    show_in_ledger(o, l, shown_of(l, w, at));
 }
