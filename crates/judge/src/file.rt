@@ -2,21 +2,25 @@
 use crate::accountfile::Left;
 use crate::group::Counts;
 use crate::group::Shelf;
+use fileline::seen::Seen;
 use firstline::FirstRead;
 use scan::kind::LineKind;
 use scan::line::Cut;
 use sheet::Sheet;
 ghost use mathlib.Core.Path.{_≡_};
 ghost use mathlib.Core.Bool.{true};
-ghost use Prim.Native.Nat.{_-_, _≤_};
+ghost use mathlib.Core.List.{List};
+ghost use Prim.Native.Nat.{ℕ, _-_, _≤_};
 ghost use lib.ListN.{length, take, drop};
 ghost use Rattle.sheet.proofs.Laws.{Sane};
 ghost use Rattle.paper.specs.Days.{realDay};
 ghost use Rattle.paper.specs.Entries.{headLine, kindOf};
 ghost use Rattle.scan.specs.line.Cutting.{Cuts};
-ghost use Rattle.tally.specs.Tally.{tally};
+ghost use Rattle.fileline.specs.seen.Bits.{Holds};
+ghost use Rattle.tally.specs.Tally.{seeded};
+ghost use Rattle.tally.specs.Short.{tally};
 ghost use Rattle.judge.specs.accountfile.Resume.{Good};
-ghost use Rattle.judge.specs.file.Answer.{Went, fromFirst, told, Kept};
+ghost use Rattle.judge.specs.file.Answer.{Went, fromSeen, told, Concluded, Kept};
 
 // The header. A name, if it has one, is the file's bytes 10 to 29.
 pub struct Head {
@@ -35,6 +39,12 @@ pub enum FileJudged {
         rows: u64,
         warnings: u64,
     },
+}
+
+// What a file comes to, and the numbers seen by then.
+pub struct Ended {
+    pub judged: FileJudged,
+    pub seen: Seen,
 }
 
 // What holds for the whole file: the sheet, today, and the interval of the header.
@@ -152,13 +162,13 @@ fn groups(
 
 // ---- the file
 
-// Everything behind the first line, from `at` on.
-fn behind_first(f: &[u8], sh: Sheet, today: u64, at: usize, head: Head) -> FileJudged
+// Everything behind the first line, from `at` on, where the numbers of a set count as seen before.
+fn behind_first(f: &[u8], sh: Sheet, today: u64, at: usize, head: Head, set: Seen) -> Ended
     requires { ⌜ Sane sh × (realDay today ≡ true) ⌝ }
     requires { ⌜ (2 ≤ at) × (at ≤ length (now f)) ⌝ }
     requires { ⌜ (head .named ≡ true → 30 ≤ length (now f)) ⌝ }
-    ensures { λ r. ⌜ told (now (f .entry)) r ≡ fromFirst sh today (now (f .entry)) at head ⌝ }
-    ensures { λ r. ⌜ Kept (now (f .entry)) r ⌝ }
+    ensures { λ r. ⌜ ((u : List ℕ) → Holds (set .words) u → Concluded (now (f .entry)) (fromSeen u sh today (now (f .entry)) at head) (r .judged) (r .seen .words)) ⌝ }
+    ensures { λ r. ⌜ Kept (now (f .entry)) (r .judged) ⌝ }
 {
     let terms = Terms {
         sheet: sh,
@@ -166,7 +176,7 @@ fn behind_first(f: &[u8], sh: Sheet, today: u64, at: usize, head: Head) -> FileJ
         from: head.from,
         to: head.to,
     };
-    let mut seen = [0u64; 16];
+    let mut seen = set.words;
     let mut left = Left::File(at, 2, NOTHING);
     loop {
         match left {
@@ -177,26 +187,32 @@ fn behind_first(f: &[u8], sh: Sheet, today: u64, at: usize, head: Head) -> FileJ
                 left = groups(f, terms, at, line, counts, shelf, &mut seen, 16);
             }
             Left::Refused(n, line, byte) => {
-                return FileJudged::Refused(n, line, byte);
+                return Ended {
+                    judged: FileJudged::Refused(n, line, byte),
+                    seen: Seen { words: seen },
+                };
             }
             Left::Accepted(rows, warnings) => {
-                return FileJudged::Accepted {
-                    head,
-                    rows,
-                    warnings,
+                return Ended {
+                    judged: FileJudged::Accepted {
+                        head,
+                        rows,
+                        warnings,
+                    },
+                    seen: Seen { words: seen },
                 };
             }
         }
     }
 }
 
-// The first line, which is known as one, and everything behind it.
-fn from_first(f: &[u8], sh: Sheet, today: u64, cut: Cut) -> FileJudged
+// The first line, which is known as one, and everything behind it, where the numbers of a set count as seen before.
+pub fn from_first(f: &[u8], sh: Sheet, today: u64, cut: Cut, set: Seen) -> Ended
     requires { ⌜ Sane sh × (realDay today ≡ true) ⌝ }
     requires { ⌜ Cuts (now f) 0 cut ⌝ }
     requires { ⌜ kindOf (take (cut .stop - 0) (drop 0 (now f))) ≡ headLine ⌝ }
-    ensures { λ r. ⌜ told (now (f .entry)) r ≡ tally sh today (now (f .entry)) ⌝ }
-    ensures { λ r. ⌜ Kept (now (f .entry)) r ⌝ }
+    ensures { λ r. ⌜ ((u : List ℕ) → Holds (set .words) u → Concluded (now (f .entry)) (seeded u sh today (now (f .entry))) (r .judged) (r .seen .words)) ⌝ }
+    ensures { λ r. ⌜ Kept (now (f .entry)) (r .judged) ⌝ }
 {
     let stop = cut.stop;
     match firstline::first_line(&f[0..stop], sh) {
@@ -217,9 +233,13 @@ fn from_first(f: &[u8], sh: Sheet, today: u64, cut: Cut) -> FileJudged
                 to,
                 named: true,
             },
+            set,
         ),
-        FirstRead::Plain => behind_first(f, sh, today, cut.next, PLAIN),
-        FirstRead::Refused(n, off) => FileJudged::Refused(n, 1, off as u64),
+        FirstRead::Plain => behind_first(f, sh, today, cut.next, PLAIN, set),
+        FirstRead::Refused(n, off) => Ended {
+            judged: FileJudged::Refused(n, 1, off as u64),
+            seen: set,
+        },
     }
 }
 
@@ -235,7 +255,10 @@ pub fn judge_file(f: &[u8], sh: Sheet, today: u64) -> FileJudged
     let cut = scan::line::next_line(f, 0);
     let stop = cut.stop;
     match scan::kind::kind_of(&f[0..stop]) {
-        LineKind::Head => from_first(f, sh, today, cut),
+        LineKind::Head => {
+            let ended = from_first(f, sh, today, cut, Seen::none());
+            ended.judged
+        }
         LineKind::File => FileJudged::Refused(3, 1, 0),
         LineKind::Group => FileJudged::Refused(3, 1, 0),
         LineKind::Item => FileJudged::Refused(3, 1, 0),

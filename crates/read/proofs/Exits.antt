@@ -16,7 +16,7 @@ use Rattle.paper.specs.Lines.{linesOf}
 use Rattle.paper.specs.Words.{rowsBytes}
 use Rattle.paper.specs.Rows.{rowSize, linesRows}
 use Rattle.paper.specs.Reading.{ReadAnswer, refusedAt, needs, acceptedAs, readWith, rowsWith, readAnswer, rowsAfter}
-use Rattle.tally.specs.Tally.{Yes, tally}
+use Rattle.tally.specs.Short.{Yes, tally}
 use Rattle.judge.specs.declared.file.Head.{Head}
 use Rattle.judge.specs.declared.file.FileJudged.{FileJudged}
 use Rattle.judge.specs.declared.file.FileJudged.the-variants as judged

@@ -16,8 +16,8 @@ use Rattle.paper.specs.Judge.{Refused, Accepted, judge}
 use Rattle.paper.specs.Words.{rowsBytes}
 use Rattle.paper.specs.Rows.{rowSize, linesRows}
 use Rattle.paper.specs.Reading.{refusedAt, needs, acceptedAs, answered, readWith, filled, rowsWith}
-use Rattle.tally.specs.Tally.{No, Yes, tally}
-use Rattle.tally.proofs.Same.{tally-is, refused-is, accepted-is}
+use Rattle.tally.specs.Short.{No, Yes, tally}
+use Rattle.tally.proofs.Short.{tally-is, refused-is, accepted-is}
 use Rattle.rowlaws.proofs.Main.{row-bytes}
 use Rattle.fill.specs.file.Judged.{AllSaid}
 use Rattle.read.proofs.Said.{file-said}

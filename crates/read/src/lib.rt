@@ -15,7 +15,7 @@ ghost use Rattle.paper.specs.Days.{realDay};
 ghost use Rattle.paper.specs.Batch.{spaces20};
 ghost use Rattle.paper.specs.Rows.{rowSize};
 ghost use Rattle.paper.specs.Reading.{refusedAt, needs, readWith, rowsWith, readAnswer, rowsAfter};
-ghost use Rattle.tally.specs.Tally.{Yes, tally};
+ghost use Rattle.tally.specs.Short.{Yes, tally};
 ghost use Rattle.judge.specs.file.Answer.{headOf, Sound};
 ghost use Rattle.read.specs.Told.{toldHeader, told};
 
@@ -42,7 +42,7 @@ pub struct AboAnswer {
 }
 
 // A refusal. Numbers that are not named are 0, and a header that is not read is C's.
-fn refusal(number: u64, line: u64, byte: u64) -> AboAnswer
+pub fn refusal(number: u64, line: u64, byte: u64) -> AboAnswer
     ensures { λ r. ⌜ told r ≡ refusedAt number line byte ⌝ }
 {
     AboAnswer {
@@ -123,7 +123,7 @@ fn header_of(file: &[u8], head: Head) -> AboHeader
 }
 
 // The file was judged and accepted, with so many rows and warnings. Rows are put if there is room for all of them.
-fn accept(
+pub fn accept(
     file: &[u8],
     sh: Sheet,
     today: u64,
@@ -155,7 +155,7 @@ fn accept(
 }
 
 // The answer on the sheet sh: 2, or what the file is judged to be.
-fn read_on(file: &[u8], sh: Sheet, today: u64, rows: &mut [u8]) -> AboAnswer
+pub fn read_on(file: &[u8], sh: Sheet, today: u64, rows: &mut [u8]) -> AboAnswer
     requires { ⌜ Sane sh ⌝ }
     ensures { λ r. ⌜ told r ≡ readWith (known.Sheet sh) today (now (file .entry)) (length (now (rows .entry)) / rowSize) ⌝ }
     ensures { λ _. ⌜ now (rows .exit) ≡ rowsWith (known.Sheet sh) today (now (file .entry)) (now (rows .entry)) ⌝ }

@@ -1,6 +1,6 @@
 -- The machine of numbers gives the judge's answer in brief. Assumes nothing.
 use mathlib.Core.Path.{_≡_, refl, sym, ap, _∙_}
-use mathlib.Core.List.{List, [], _∷_}
+use mathlib.Core.List.{List, [], _∷_, _++_, append-nil}
 use Prim.Native.Nat.{ℕ, suc, _+_}
 use native.Mathlib.Omega.{arith}
 use lib.ListN.{length}
@@ -114,13 +114,13 @@ module _ (sh : Sheet) (k at : ℕ) where
   meets closeGroup v q (stop a) = refl
   meets closeFile v q (stop a) = refl
 
-  saids : (r : Counted) (st : State) → abs (judge.onSaid sh k at r st) ≡ numbers.onSaid sh k at r (abs st)
+  pub saids : (r : Counted) (st : State) → abs (judge.onSaid sh k at r st) ≡ numbers.onSaid sh k at r (abs st)
   unfolding judge.onSaid numbers.onSaid abs brief
   saids (got t) st = meets (t .entry) (t .warnings) (t .places) st
   saids (no n off) st = refl
 
 module _ (sh : Sheet) (today k : ℕ) (t : Line) where
-  reads : (kind : Kind) (st : State) → abs (judge.read sh today k t kind st) ≡ numbers.read sh today k t kind (abs st)
+  pub reads : (kind : Kind) (st : State) → abs (judge.read sh today k t kind st) ≡ numbers.read sh today k t kind (abs st)
   unfolding judge.read numbers.read
   reads kind st =
       rw (
@@ -144,12 +144,20 @@ module _ (sh : Sheet) (today k : ℕ) (t : Line) where
 
 -- ---- the end
 
-endings : (n k : ℕ) (st : State) → brief (judge.endOf n k st) ≡ numbers.endOf n k (abs st)
+rev-back : {A : Type 0} (a m r : List A) → revOn (revOn a m) r ≡ revOn m (a ++ r)
+rev-back [] m r = refl
+rev-back (x ∷ a) m r = rev-back a (x ∷ m) r
+
+-- turned round twice, a list is as it was
+pub rev-rev : {A : Type 0} (a : List A) → revOn (revOn a []) [] ≡ a
+rev-rev a = rev-back a [] [] ∙ append-nil a
+
+pub endings : (n k : ℕ) (st : State) → brief (judge.endOf n k st) ≡ numbers.endOf n k (abs st)
 unfolding judge.endOf numbers.endOf abs brief fileRows
 endings n k atFirst = refl
 endings n k (atFile y) =
     let r : length (things (revOn (y .files) [])) ≡ fileRows (y .files) = omega (arith, things-rows (revOn (y .files) []), fileRows-rev (y .files) []) in
-    map-pick brief _ _ _ ∙ rw (← (empty-null (y .files)), r)
+    map-pick brief _ _ _ ∙ rw (← (empty-null (y .files)), rev-rev (y .files), r)
 endings n k (atGroup y) = refl
 endings n k (atItem y) = refl
 endings n k (stop a) = refl
@@ -177,11 +185,14 @@ refused-is (judge.Refused n₁ l₁ p₁) n l p e =
     rw (a, b, c)
 refused-is (judge.Accepted h b w) n l p e = absurd (let z : _≡_ {A = ℕ} 0 1 = cc in omega arith)
 
-pub accepted-is : (a : judge.Answer) (h : Header) (n w : ℕ) → brief a ≡ numbers.Yes h n w → (b : Batch) × (a ≡ judge.Accepted h b w) × (n ≡ length (things b))
+-- the numbers are those of its account files, last one first
+pub accepted-is : (a : judge.Answer) (h : Header) (s : List ℕ) (n w : ℕ) → brief a ≡ numbers.Yes h s n w
+    → (b : Batch) × (a ≡ judge.Accepted h b w) × (n ≡ length (things b)) × (s ≡ seen (revOn b []))
 unfolding brief
-accepted-is (judge.Refused n₁ l₁ p₁) h n w e = absurd (let z : _≡_ {A = ℕ} 0 1 = cc in omega arith)
-accepted-is (judge.Accepted h₁ b w₁) h n w e =
+accepted-is (judge.Refused n₁ l₁ p₁) h s n w e = absurd (let z : _≡_ {A = ℕ} 0 1 = cc in omega arith)
+accepted-is (judge.Accepted h₁ b w₁) h s n w e =
     let x : h₁ ≡ h = cc in
     let y : w₁ ≡ w = cc in
     let z : n ≡ length (things b) = cc in
-    (b, rw (x, y), z)
+    let v : s ≡ seen (revOn b []) = cc in
+    (b, rw (x, y), z, v)

@@ -1,3 +1,4 @@
 pub mod Tally
 pub mod Abs
 pub mod Small
+pub mod Short

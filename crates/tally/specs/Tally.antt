@@ -2,7 +2,7 @@
 -- count in the place of a list; `proofs/Same.antt` says that both answer alike. Assumes nothing.
 use Prim.Native.Nat.{ℕ, suc, _+_}
 use mathlib.Core.Bool.{Bool, true, false}
-use mathlib.Core.List.{List, [], _∷_}
+use mathlib.Core.List.{List, [], _∷_, _++_}
 use lib.Dec.{eqb, leb}
 use lib.ListN.{length}
 use Rattle.base.specs.Pick.{pick}
@@ -13,16 +13,17 @@ use Rattle.paper.specs.Lines.{Line, linesOf}
 use Rattle.paper.specs.Entries.{Saying, Counted, got, no, counted, Kind, headLine, fileLine, groupLine, itemLine, groupEnd, fileEnd, kindOf, onHead, onFile, onGroup, onItem}
 use Rattle.paper.specs.FileLine.{series}
 use Rattle.paper.specs.Spells.{Context, forHead, forFile, forGroup, forItem, readAs, differs}
-use Rattle.paper.specs.Judge.{Answer, Refused, Accepted, is, totalBroken}
+use Rattle.paper.specs.Judge.{Answer, Refused, Accepted, revOn, seen, is, totalBroken}
 
--- the judge's answer in brief: number, line and byte; or the header and the counts of rows and warnings
+-- The judge's answer in brief: number, line and byte; or the header, the first three digits of account files' numbers (last one first), and the
+-- counts of rows and warnings.
 pub data Brief : Type 0 where
   No : ℕ → ℕ → ℕ → Brief
-  Yes : Header → ℕ → ℕ → Brief
+  Yes : Header → List ℕ → ℕ → ℕ → Brief
 
 unfoldable pub brief : Answer → Brief
 brief (Refused n l p) = No n l p
-brief (Accepted h b w) = Yes h (length (things b)) w
+brief (Accepted h b w) = Yes h (seen (revOn b [])) (length (things b)) w
 
 -- of the file so far: the header, the first three digits of account files' numbers, account files, items, rows, warnings
 pub record Book : Type 0 where
@@ -152,7 +153,7 @@ step sh today k t (tStop a) = tStop a
 
 unfoldable pub endOf : ℕ → ℕ → Tally → Brief
 endOf n k tFirst = No 3 k n
-endOf n k (tFile b) = pick (eqb (b .files) 0) (No 3 k n) (Yes (b .head) (b .rows) (b .warnings))
+endOf n k (tFile b) = pick (eqb (b .files) 0) (No 3 k n) (Yes (b .head) (b .seen) (b .rows) (b .warnings))
 endOf n k (tGroup b s) = No 3 k n
 endOf n k (tItem b s o) = No 3 k n
 endOf n k (tStop a) = a
@@ -164,3 +165,24 @@ run sh today n k (t ∷ ts) c = run sh today n (suc k) ts (step sh today k t c)
 -- the file from its top, in brief
 unfoldable pub tally : Sheet → ℕ → List ℕ → Brief
 tally sh today f = run sh today (length f) 1 (linesOf 0 f) tFirst
+
+-- ---- numbers that came before the file: they count as seen
+
+-- in front of those of the file
+abbrev pub seedBook : List ℕ → Book → Book
+seedBook u b = record { head = b .head; seen = b .seen ++ u; files = b .files; items = b .items; rows = b .rows; warnings = b .warnings }
+
+unfoldable pub seed : List ℕ → Tally → Tally
+seed u tFirst = tFirst
+seed u (tFile b) = tFile (seedBook u b)
+seed u (tGroup b s) = tGroup (seedBook u b) s
+seed u (tItem b s o) = tItem (seedBook u b) s o
+seed u (tStop a) = tStop a
+
+-- the lines of a file, of n bytes, from its top: they are seen from the second line on
+unfoldable pub seededRun : List ℕ → Sheet → ℕ → ℕ → List Line → Brief
+seededRun u sh today n [] = endOf n 1 tFirst
+seededRun u sh today n (t ∷ ts) = run sh today n 2 ts (seed u (step sh today 1 t tFirst))
+
+unfoldable pub seeded : List ℕ → Sheet → ℕ → List ℕ → Brief
+seeded u sh today f = seededRun u sh today (length f) (linesOf 0 f)

@@ -11,7 +11,7 @@ use Rattle.sheet.specs.Sheets.{sheetOf}
 use Rattle.sheet.proofs.Laws.{sheet-sane}
 use Rattle.paper.specs.Days.{realDay}
 use Rattle.paper.specs.Reading.{refusedAt, readWith}
-use Rattle.tally.specs.Tally.{No}
+use Rattle.tally.specs.Short.{No}
 use Rattle.why.specs.declared.Finding.{Finding}
 use Rattle.tracing.specs.declared.file.Outcome.{Outcome}
 use Rattle.tracing.specs.declared.file.Outcome.the-variants as outcome

@@ -12,8 +12,8 @@ use Rattle.paper.specs.Days.{realDay}
 use Rattle.paper.specs.Batch.{Batch, Header}
 use Rattle.paper.specs.Judge.{Answer, Refused, Accepted, judge}
 use Rattle.paper.specs.Reading.{rowCount, refusedAt, acceptedAs, answered, readWith}
-use Rattle.tally.specs.Tally.{Brief, No, Yes, brief, tally}
-use Rattle.tally.proofs.Same.{tally-is}
+use Rattle.tally.specs.Short.{Brief, No, Yes, brief, tally}
+use Rattle.tally.proofs.Short.{tally-is}
 use Rattle.tracing.specs.declared.file.Outcome.{Outcome}
 use Rattle.tracing.specs.declared.file.Outcome.the-variants as outcome
 use Rattle.tracing.specs.file.Comes.{Comes}

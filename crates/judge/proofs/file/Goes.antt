@@ -1,17 +1,18 @@
 -- The readers one after the other, and the loop that resumes them. Assumes nothing.
 use mathlib.Core.Path.{_≡_, refl, sym, ap, _∙_}
 use mathlib.Core.Bool.{true}
-use mathlib.Core.List.{List, []}
+use mathlib.Core.List.{List}
 use Prim.Native.Nat.{ℕ, _+_, _-_, _≤_, _<_, min}
 use native.Mathlib.Omega.{arith}
-use lib.ListN.{length, replicate}
+use lib.ListN.{length}
 use Rattle.sheet.specs.declared.Sheet.{Sheet}
 use Rattle.paper.specs.Batch.{Header}
 use Rattle.fileline.specs.seen.Bits.{Holds}
-use Rattle.fileline.proofs.seen.Laws.{holds-none}
-use Rattle.tally.specs.Tally.{No, Yes}
+use Rattle.tally.specs.Tally.{Yes}
+use Rattle.tally.specs.Short.{short}
 use Rattle.judge.specs.declared.file.Head.{Head}
-use Rattle.judge.specs.file.Answer.{headOf, Sound, Went, fromFirst}
+use Rattle.judge.specs.declared.file.FileJudged.the-variants as judged
+use Rattle.judge.specs.file.Answer.{headOf, Sound, Went, fromSeen, Concluded}
 use Rattle.judge.specs.declared.group.Counts.{Counts}
 use Rattle.judge.specs.declared.group.Shelf.{Shelf}
 use Rattle.judge.specs.declared.accountfile.Left.{Left}
@@ -128,58 +129,75 @@ pub ruleset readers = (went-none, stepped-on, stepped-last, moved-on, moved-last
 
 pub ruleset calls = (budget-less, stepped-group, moved-group, moved-file)
 
--- ---- the loop: the words hold some numbers, with which the answer from where reading stands is the file's
+-- ---- the loop: u was seen before; the words hold some numbers, with which the answer from where reading stands is the file's
 
-pub record Stand (sh : Sheet) (today : ℕ) (f : List ℕ) (at : ℕ) (head : Head) (words : List ℕ) (o : Left) : Type 0 where
+pub record Stand (u : List ℕ) (sh : Sheet) (today : ℕ) (f : List ℕ) (at : ℕ) (head : Head) (words : List ℕ) (o : Left) : Type 0 where
   pub earlier : List ℕ
   pub holds : Holds words earlier
-  pub same : resume sh today f (headOf f head) earlier o ≡ fromFirst sh today f at head
-  pub good : Good f o
+  pub same : resume sh today f (headOf f head) earlier o ≡ fromSeen u sh today f at head
 
-pub stand-start : (sh : Sheet) (today : ℕ) (f : List ℕ) (at : ℕ) (head : Head) → 2 ≤ at → at ≤ length f
-    → Stand sh today f at head (replicate 16 0) (left.File at 2 (record { files = 0; items = 0; rows = 0; warnings = 0 }))
-unfolding resume fromFirst
-stand-start sh today f at head p q =
-    record {
-      earlier = [];
-      holds = holds-none 16;
-      same = refl;
-      good = record {
-        inside = q;
-        lines = p;
-        low = record { files = omega arith; items = omega arith; rows = omega arith; warnings = omega arith };
-      };
-    }
+-- for all that the words held at the start, and the place is good
+abbrev pub Stands : Sheet → ℕ → List ℕ → ℕ → Head → List ℕ → List ℕ → Left → Type 0
+Stands sh today f at head start words o = ((u : List ℕ) → Holds start u → Stand u sh today f at head words o) × Good f o
 
-module _ (sh : Sheet) (today : ℕ) (f : List ℕ) (at : ℕ) (head : Head) (words : List ℕ) (o : Left) (stand : Stand sh today f at head words o) where
+pub stand-start : (sh : Sheet) (today : ℕ) (f : List ℕ) (at : ℕ) (head : Head) (start : List ℕ) → 2 ≤ at → at ≤ length f
+    → Stands sh today f at head start start (left.File at 2 (record { files = 0; items = 0; rows = 0; warnings = 0 }))
+unfolding resume fromSeen
+stand-start sh today f at head start p q = (
+  λ u held. record { earlier = u; holds = held; same = refl },
+  record {
+    inside = q;
+    lines = p;
+    low = record { files = omega arith; items = omega arith; rows = omega arith; warnings = omega arith };
+  },
+)
+
+module _ (sh : Sheet) (today : ℕ) (f : List ℕ) (at : ℕ) (head : Head) (start words : List ℕ) (o : Left) (stand : Stands sh today f at head start words o) where
   pub stand-file : (next k : ℕ) (c : Counts) → o ≡ left.File next k c → AtFile f next k c
-  stand-file next k c e = let g : Good f (left.File next k c) = rw e at (stand .good) in g
+  stand-file next k c e = let g : Good f (left.File next k c) = rw e at (stand .1) in g
 
   pub stand-group : (next k : ℕ) (c : Counts) (s : Shelf) → o ≡ left.Group next k c s → AtGroup f next k c s
-  stand-group next k c s e = let g : Good f (left.Group next k c s) = rw e at (stand .good) in g
+  stand-group next k c s e = let g : Good f (left.Group next k c s) = rw e at (stand .1) in g
 
   -- a reader went on from p, which is where reading stood
   module _ (p : Left) (e : o ≡ p) (b : ℕ) (after : List ℕ) (r : Left) (w : Went sh today (head .from) (head .to) f p b words after r) where
-    pub stand-on : Stand sh today f at head after r
-    stand-on =
-        let x = w .same (headOf f head) refl refl (stand .earlier) (stand .holds) in
-        record { earlier = x .0; holds = x .1; same = x .2 ∙ (ap (resume sh today f (headOf f head) (stand .earlier)) (sym e) ∙ stand .same); good = w .good }
+    goes : (u : List ℕ) → Stand u sh today f at head words o → Stand u sh today f at head after r
+    goes u s =
+        let x = w .same (headOf f head) refl refl (s .earlier) (s .holds) in
+        record { earlier = x .0; holds = x .1; same = x .2 ∙ (ap (resume sh today f (headOf f head) (s .earlier)) (sym e) ∙ s .same) }
+
+    pub stand-on : Stands sh today f at head start after r
+    stand-on = (λ u held. goes u (stand .0 u held), w .good)
 
     pub stand-less : min b 1 ≡ 1 → toGo f r < toGo f o
     stand-less one = rw e (omega (arith, w .less))
 
-  pub stand-refused : (n k byte : ℕ) → o ≡ left.Refused n k byte → No n k byte ≡ fromFirst sh today f at head
-  unfolding resume
-  stand-refused n k byte e = rw e at (stand .same)
+  pub stand-refused : (n k byte : ℕ) → o ≡ left.Refused n k byte → (u : List ℕ) → Holds start u → Concluded f (fromSeen u sh today f at head) (judged.Refused n k byte) words
+  unfolding resume short
+  stand-refused n k byte e u held =
+      record {
+        same = ap short (rw e at (stand .0 u held .same));
+        holds = λ h rows warnings no. absurd (let z : _≡_ {A = ℕ} 0 1 = cc in omega arith);
+      }
 
   module _ (rows warnings : ℕ) (e : o ≡ left.Accepted rows warnings) where
-    pub stand-accepted : Yes (headOf f head) rows warnings ≡ fromFirst sh today f at head
-    unfolding resume
-    stand-accepted = rw e at (stand .same)
+    pub stand-accepted : (u : List ℕ) → Holds start u → Concluded f (fromSeen u sh today f at head) (judged.Accepted head rows warnings) words
+    unfolding resume short
+    stand-accepted u held =
+        let s = stand .0 u held in
+        let same : Yes (headOf f head) (s .earlier) rows warnings ≡ fromSeen u sh today f at head = rw e at (s .same) in
+        record {
+          same = ap short same;
+          holds = λ h r w q.
+              let a : head ≡ h = cc in
+              let b : rows ≡ r = cc in
+              let c : warnings ≡ w = cc in
+              (s .earlier, s .holds, sym same ∙ rw (a, b, c));
+        }
 
     pub stand-kept : (head .named ≡ true → 30 ≤ length f) → Sound f head rows warnings
     stand-kept name =
-        let g : Good f (left.Accepted rows warnings) = rw e at (stand .good) in
+        let g : Good f (left.Accepted rows warnings) = rw e at (stand .1) in
         record { name = name; rows-low = g .0; warnings-low = g .1 }
 
 pub ruleset stands = (stand-start, stand-file, stand-group, stand-on, stand-less, stand-refused, stand-accepted, stand-kept)

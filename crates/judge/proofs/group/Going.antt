@@ -35,7 +35,7 @@ use Rattle.judge.specs.group.Stands.{bookOf, shelfOf, inGroup, LowItem, 
 -- ---- lines
 
 -- an answer stays as it is
-run-stop : (sh : Sheet) (today n k : ℕ) (ts : List Line) (a : Brief) → run sh today n k ts (tStop a) ≡ a
+pub run-stop : (sh : Sheet) (today n k : ℕ) (ts : List Line) (a : Brief) → run sh today n k ts (tStop a) ≡ a
 unfolding run step endOf
 run-stop sh today n k [] a = refl
 run-stop sh today n k (t ∷ ts) a = run-stop sh today n (suc k) ts a

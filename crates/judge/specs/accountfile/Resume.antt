@@ -26,7 +26,7 @@ unfoldable pub resume : Sheet → ℕ → List ℕ → Header → List ℕ → L
 resume sh today f h l (left.File at k c) = run sh today (length f) k (linesFrom f at) (tFile (bookOf h l c))
 resume sh today f h l (left.Group at k c s) = run sh today (length f) k (linesFrom f at) (inFile h l c s)
 resume sh today f h l (left.Refused n k byte) = No n k byte
-resume sh today f h l (left.Accepted rows warnings) = Yes h rows warnings
+resume sh today f h l (left.Accepted rows warnings) = Yes h l rows warnings
 
 -- the numbers are small where no account file is open, whatever the header and the earlier numbers are
 abbrev pub LowFile : Counts → Type 0

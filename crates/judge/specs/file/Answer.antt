@@ -8,7 +8,10 @@ use Rattle.base.specs.Pick.{pick}
 use Rattle.sheet.specs.declared.Sheet.{Sheet}
 use Rattle.paper.specs.Batch.{Header, spaces20}
 use Rattle.paper.specs.Lines.{linesFrom}
-use Rattle.tally.specs.Tally.{Brief, No, Yes, tFile, newBook, run}
+use Rattle.fileline.specs.seen.Bits.{Holds}
+use Rattle.tally.specs.Short.{Brief, No, Yes, short}
+use Rattle.tally.specs.Tally.{tFile, run}
+use Rattle.tally.specs.Tally as numbers
 use Rattle.judge.specs.declared.accountfile.Left.{Left}
 use Rattle.judge.specs.accountfile.Resume.{Good, toGo, Same}
 use Rattle.judge.specs.declared.file.Head.{Head}
@@ -45,6 +48,14 @@ pub record Went (sh : Sheet) (today from to : ℕ) (f : List ℕ) (o : Left) (bu
   pub good : Good f r
   pub less : toGo f r + min budget 1 ≤ toGo f o
 
--- the answer of the file f from behind its first line, where line 2 starts at `at`
-unfoldable pub fromFirst : Sheet → ℕ → List ℕ → ℕ → Head → Brief
-fromFirst sh today f at h = run sh today (length f) 2 (linesFrom f at) (tFile (newBook (headOf f h) 0))
+-- ---- the file
+
+-- the answer of the file f from behind its first line, where line 2 starts at `at` and the numbers u count as seen before
+unfoldable pub fromSeen : List ℕ → Sheet → ℕ → List ℕ → ℕ → Head → numbers.Brief
+fromSeen u sh today f at h =
+    run sh today (length f) 2 (linesFrom f at) (tFile (record { head = headOf f h; seen = u; files = 0; items = 0; rows = 0; warnings = 0 }))
+
+-- j is the answer a, and of an accepted file the words hold the numbers that a has
+pub record Concluded (f : List ℕ) (a : numbers.Brief) (j : FileJudged) (words : List ℕ) : Type 0 where
+  pub same : told f j ≡ short a
+  pub holds : (h : Head) (rows warnings : ℕ) → j ≡ judged.Accepted h rows warnings → (m : List ℕ) × Holds words m × (a ≡ numbers.Yes (headOf f h) m rows warnings)

@@ -217,8 +217,8 @@ module _ (f : List ℕ) (k : ℕ) (x : Course) where
   unfolding endOf
   end-passed c e some sh today at words long reached =
       let h = reached .held .stands .header in
-      let yes : endOf (length f) k (numbersOf h (reached .held .stands .earlier) (x .stage)) ≡ Yes h (c .rows) (c .warnings) = rw e (pick-false _ _ (ne-eqb (c .files) 0 some)) in
-      let (b, judged, n) = accepted-is (judge sh today f) h (c .rows) (c .warnings) (ends-brief sh today f at k x words (reached .state) (reached .held) long ∙ yes) in
+      let yes : endOf (length f) k (numbersOf h (reached .held .stands .earlier) (x .stage)) ≡ Yes h (reached .held .stands .earlier) (c .rows) (c .warnings) = rw e (pick-false _ _ (ne-eqb (c .files) 0 some)) in
+      let (b, judged, n, _) = accepted-is (judge sh today f) h (reached .held .stands .earlier) (c .rows) (c .warnings) (ends-brief sh today f at k x words (reached .state) (reached .held) long ∙ yes) in
       let low : LowFile c = rw e at (reached .held .low) in
       let limits = file-limits _ low in
       record { header = h; batch = b; judged = judged; counted = sym n; rows-low = limits .rows; warnings-low = limits .warnings }

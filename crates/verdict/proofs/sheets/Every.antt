@@ -21,8 +21,8 @@ use Rattle.paper.specs.Batch.{Batch, Header}
 use Rattle.paper.specs.Spells.{Spells}
 use Rattle.paper.specs.Judge.{Answer, Refused, Accepted, judge}
 use Rattle.paper.specs.Reading.{readWith}
-use Rattle.tally.specs.Tally.{brief}
-use Rattle.tally.proofs.Same.{tally-is}
+use Rattle.tally.specs.Short.{brief}
+use Rattle.tally.proofs.Short.{tally-is}
 use Rattle.exact.proofs.Main.{exact}
 use Rattle.exact.proofs.named.Main.{judge-named}
 use Rattle.why.specs.Finding.{accepts}

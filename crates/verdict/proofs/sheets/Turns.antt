@@ -20,8 +20,8 @@ use Rattle.paper.specs.Bytes.{bytes}
 use Rattle.paper.specs.Days.{realDay}
 use Rattle.paper.specs.Judge.{Answer, Refused, Accepted, judge}
 use Rattle.paper.specs.Reading.{readWith}
-use Rattle.tally.specs.Tally.{brief}
-use Rattle.tally.proofs.Same.{tally-is}
+use Rattle.tally.specs.Short.{brief}
+use Rattle.tally.proofs.Short.{tally-is}
 use Rattle.exact.proofs.named.Main.{judge-named}
 use Rattle.numeral.specs.counted.Counted.{Counted}
 use Rattle.numeral.proofs.counted.Laws.{counted-nothing, _counted-then_}

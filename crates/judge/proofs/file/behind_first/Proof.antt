@@ -1,12 +1,12 @@
 -- The loop of `behind_first`: the answer from where reading stands is the answer of the file, and there is less to go. Assumes nothing.
 use borrow.Author.Needs.{needs}
 use Rattle.judge.specs.accountfile.Resume.{toGo}
-use Rattle.judge.proofs.file.Goes.{Stand, stands}
+use Rattle.judge.proofs.file.Goes.{Stands, stands}
 use Rattle.judge.proofs.file.behind_first.Statement.{statement}
 use Rattle.judge.proofs.file.behind_first.Tie as tie
 
 abbrev Inv-loop : tie.InvT-loop
-Inv-loop f today at head terms seen₀ left₀ seen left = Stand (terms .sheet) today f at head seen left
+Inv-loop f today at head terms seen₀ left₀ seen left = Stands (terms .sheet) today f at head seen₀ seen left
 
 abbrev μ-loop : tie.MeasureT-loop
 μ-loop f today at head terms seen₀ left₀ seen left = toGo f left

@@ -1,7 +1,7 @@
 -- `judge_file` meets its contract: an empty file, a first line, or 3 for each other kind of line. Assumes nothing.
 use borrow.Author.Needs.{needs}
 use Rattle.tally.specs.Tally.{isDue}
-use Rattle.judge.proofs.file.Heads.{heads}
+use Rattle.judge.proofs.file.Heads.{none-seen, heads}
 use Rattle.judge.proofs.file.judge_file.Statement.{statement}
 use Rattle.judge.proofs.file.judge_file.Tie as tie
 
@@ -26,6 +26,9 @@ kind-of-requires c κs = search needs
 enum-told : tie.Need-enum-told
 enum-told c = search needs
 
+none-requires : tie.Need-none-requires
+none-requires c κs = search needs
+
 from-first-requires : tie.Need-from-first-requires
 from-first-requires c κs = search (heads, needs)
 
@@ -45,7 +48,7 @@ enum-told-6 : tie.Need-enum-told-6
 enum-told-6 c = search needs
 
 returns-2 : tie.Need-returns-2
-returns-2 c = search needs
+returns-2 c = (none-seen _ _ _ _ _ _ (c .before .none .ensures) (c .from-first .ensures .0), c .from-first .ensures .1)
 
 returns-3 : tie.Need-returns-3
 unfolding isDue
@@ -78,6 +81,7 @@ judge-file-spec =
     part-kind-of-end
     kind-of-requires
     enum-told
+    none-requires
     from-first-requires
     enum-told-2
     enum-told-3
