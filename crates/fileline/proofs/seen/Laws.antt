@@ -18,16 +18,16 @@ use Rattle.paper.specs.FileLine.{member}
 use Rattle.fileline.specs.seen.Bits.{bit, Marked, Holds}
 
 -- bit i of a word
-abbrev at : ℕ → ℕ → ℕ
+abbrev pub at : ℕ → ℕ → ℕ
 at w i = w / 2 ^ i % 2
 
 at-or : (a b i : ℕ) → at (bitOr a b) i ≡ bitOr (at a i) (at b i)
 at-or a b i = ap (λ (x : ℕ). x % 2) (or-shr a b i) ∙ or-mod (a / 2 ^ i) (b / 2 ^ i) 1
 
-at-same : (j : ℕ) → at (2 ^ j) j ≡ 1
+pub at-same : (j : ℕ) → at (2 ^ j) j ≡ 1
 at-same j = rw (div-self (pow-pos j))
 
-at-other : (i j : ℕ) → i ≢ j → at (2 ^ j) i ≡ 0
+pub at-other : (i j : ℕ) → i ≢ j → at (2 ^ j) i ≡ 0
 at-other i j d = go (decLt i j)
   where
     go : Dec (i < j) → at (2 ^ j) i ≡ 0
@@ -42,14 +42,14 @@ or-one (suc zero) l = refl
 or-one (suc (suc x)) l = absurd (omega arith)
 
 -- k and n are the same number where their words and their bits are
-same-number : (k n : ℕ) → k / 64 ≡ n / 64 → k % 64 ≡ n % 64 → k ≡ n
+pub same-number : (k n : ℕ) → k / 64 ≡ n / 64 → k % 64 ≡ n % 64 → k ≡ n
 same-number k n p q = omega arith
 
 module _ (l : List ℕ) (n : ℕ) (inside : n / 64 < length l) where
   after : List ℕ
   after = set l (n / 64) (bitOr (getD l (n / 64) 0) (1 * 2 ^ (n % 64) % 2 ^ 64))
 
-  one-shl : 1 * 2 ^ (n % 64) % 2 ^ 64 ≡ 2 ^ (n % 64)
+  pub one-shl : 1 * 2 ^ (n % 64) % 2 ^ 64 ≡ 2 ^ (n % 64)
   one-shl = shl-exact {a = 1} 1 (n % 64) 64 (lit< tt) (omega arith) ∙ one-mul (2 ^ (n % 64))
 
   -- in the word of n

@@ -1,0 +1,7 @@
+pub mod Digits
+pub mod Counted
+pub mod Filled
+pub mod Laid
+pub mod Laws
+pub mod Exits
+pub mod Determined
