@@ -1,0 +1,12 @@
+pub mod Shape
+pub mod First
+pub mod Numbers
+pub mod Way
+pub mod Outcome
+pub mod Exact
+pub mod Faults
+pub mod Steps
+pub mod Answers
+pub mod Headed
+pub mod Reading
+pub mod Examples

@@ -1,0 +1,5 @@
+pub mod Against
+pub mod Registered
+pub mod Turned
+pub mod FirstUsed
+pub mod Outcomes
