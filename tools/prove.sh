@@ -1,5 +1,5 @@
 #!/usr/bin/env bash
-# Proves the library and writes its archive, target/staticlib/libabo.a, as `rt staticlib` does of abo and of tell, whose object is put to abo's, and says meanwhile how far it is:
+# Proves the library and writes its archive, target/staticlib/libabo.a, as `rt staticlib` does of abo and of tell and enrol, whose objects are put to abo's, and says meanwhile how far it is:
 # crate n of m, the seconds so far, and about how many are left. A crate that has not changed since it was last proved is not proved
 # again. Of a crate that is not proved, what rt says is shown; build/prove.log has all of it, and the exit status is rt's.
 #
@@ -9,7 +9,7 @@ cd "$(dirname "$0")/.." || exit 2
 mkdir -p "${BUILD:-build}" || exit 2
 log=${BUILD:-build}/prove.log
 
-# The crates that abo and tell stand on, and these. A crate takes about as long as its source is, since what is to be proved of it is made from
+# The crates that abo, tell and enrol stand on, and these. A crate takes about as long as its source is, since what is to be proved of it is made from
 # there; 1000 bytes more stand for what each takes, however short it is.
 declare -A weight seen
 left=0 crates=0
@@ -27,7 +27,7 @@ done < <(
                 for (i = split(below[name], part, " "); i > 0; i--) visit(part[i])
                 print name, bytes[name] + 0
             }
-            END { visit("abo"); visit("tell") }' - crates.txt
+            END { visit("abo"); visit("tell"); visit("enrol") }' - crates.txt
 )
 # abo's turn is longer: all code is compiled in it, and nothing is proved meanwhile
 weight[abo]=$((weight[abo] + left / 20)) left=$((left + left / 20))
@@ -74,7 +74,7 @@ report() { # reads what rt says, and keeps it back until it is known whether tha
         if [[ $line =~ ^rt:\ ([A-Za-z0-9_]+)\ proved\ \((.) ]]; then
             if [ "${BASH_REMATCH[2]}" = u ]; then ended "${BASH_REMATCH[1]}" unchanged; else ended "${BASH_REMATCH[1]}" proved; fi
             said=''
-        elif [[ $line =~ ^rt:\ target/staticlib/lib(abo|tell)\.a\  ]]; then
+        elif [[ $line =~ ^rt:\ target/staticlib/lib(abo|tell|enrol)\.a\  ]]; then
             ended "${BASH_REMATCH[1]}" proved
             said=''
         elif [[ $line =~ ^rt:\ [A-Za-z0-9_]+\ NOT\ PROVED ]]; then
@@ -90,21 +90,21 @@ report() { # reads what rt says, and keeps it back until it is known whether tha
 }
 
 # `rt staticlib` proves one crate after another. What it would prove first is therefore proved by `rt check`, some at a time.
-below=$(sed -n 's/#.*//; s/^abo: *//p; s/^tell: *//p' crates.txt)
+below=$(sed -n 's/#.*//; s/^abo: *//p; s/^tell: *//p; s/^enrol: *//p' crates.txt)
 
-# The two are compiled by themselves, so that what both use stays a part of reading's loops; then one archive has both objects.
-joined() {
-    grep -q '^tell:' crates.txt || return 0
-    rt staticlib tell || return
+# The three are compiled by themselves, so that what they share stays a part of reading's loops; then one archive has all objects.
+joined() { # UNIT
+    grep -q "^$1:" crates.txt || return 0
+    rt staticlib "$1" || return
     (
         . host/target.sh || exit 2
         cd target/staticlib || exit 2
-        ar=$($cc -print-prog-name=ar) && "$ar" x libtell.a tell.o && "$ar" rs libabo.a tell.o && rm tell.o
+        ar=$($cc -print-prog-name=ar) && "$ar" x "lib$1.a" "$1.o" && "$ar" rs libabo.a "$1.o" && rm "$1.o"
     )
 }
 SECONDS=0
 # shellcheck disable=SC2086
-{ rt check $below && rt staticlib abo && joined; } 2>&1 | tee "$log" | report
+{ rt check $below && rt staticlib abo && joined tell && joined enrol; } 2>&1 | tee "$log" | report
 status=${PIPESTATUS[0]}
 [ "$status" -eq 0 ] || echo "The library is not proved. $log has all that rt said." >&2
 exit "$status"

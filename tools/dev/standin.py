@@ -1,6 +1,6 @@
 #!/usr/bin/env python3
 """Translates the crates to Rust, without their contracts and unproved, and compiles them with rustc to a static library of the same calls, in the
-same two units. So code is measured before it is proved, in seconds; nothing of it is in the product or in the gate.
+same three units. So code is measured before it is proved, in seconds; nothing of it is in the product or in the gate.
 
   tools/dev/standin.py build/standin.a      then: LIB=build/standin.a BYTES=300000 TIMES=0 bench/run.sh
 
@@ -29,7 +29,7 @@ pub mod num {
 PLACE = r"(\w+(?:\.\w+)*)"
 
 
-UNITS = ["abo", "tell"]
+UNITS = ["abo", "tell", "enrol"]
 
 
 def libraries(unit):

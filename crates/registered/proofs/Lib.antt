@@ -1,0 +1,4 @@
+pub mod Dates
+pub mod Judging
+pub mod Ends
+pub mod Answers
