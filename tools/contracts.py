@@ -15,7 +15,7 @@ import time
 
 from copies import ROOT, Modules, complaints, copy, is_fact, is_ours, is_proved, is_refused, rlib, rt_check, stands_on
 
-CALLS = ("abo", "tell")
+CALLS = ("abo", "tell", "enrol")
 ABOVE = "demands"
 
 
@@ -44,7 +44,8 @@ def rounds(one):
 def ask(tree, kept):
     """What the prover says of the crate above, with the calls from their source and all else as it is proved."""
     words = ["--incremental", str(kept), "-L", f"dependency={ROOT / 'target/rlib'}"]
-    for name in filter(is_ours, stands_on(ABOVE)):
+    below = dict.fromkeys(name for crate in (*CALLS, ABOVE) for name in stands_on(crate))
+    for name in filter(is_ours, below):
         if name in CALLS:
             words += ["--lib", f"{name}:{','.join(stands_on(name))}={tree / name / 'src/lib.rt'}"]
         else:

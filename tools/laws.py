@@ -20,6 +20,7 @@ STANDING = {
     "demands/proofs/Corollaries": "*",
     "demands/proofs/Statements": "*",
     "demands/proofs/Findings": "*",
+    "demands/proofs/Register": "*",
     # functions that make the calls as a user does, so that the calls' promises are used
     "demands/src/lib": "*",
     # document 01's cases and its sample run, and worked examples of each rule, computed from the definitions
@@ -41,6 +42,8 @@ STANDING = {
     "internal/proofs/Examples": "*",
     "turnover/proofs/Edges": "*",
     "gpcwhole/proofs/Examples": "*",
+    # worked examples of files against a register
+    "against/proofs/Examples": "*",
     # contracts that are no equations leave one answer all the same
     "reader/proofs/Determined": ("finds-one",),
     "rewriting/proofs/Front": ("determined",),
@@ -250,13 +253,13 @@ def spoken(files):
     """the files of definitions whose words say what is proved: those of the demands' statements and of the contracts of the calls and of
     the functions that make them, and from there on down"""
     todo = []
-    for key in ("demands/proofs/Demands", "demands/proofs/Corollaries", "demands/proofs/Statements", "demands/proofs/Findings"):
+    for key in ("demands/proofs/Demands", "demands/proofs/Corollaries", "demands/proofs/Statements", "demands/proofs/Findings", "demands/proofs/Register"):
         stated = (line.split("-- ")[0] for line in files[key].lines if not re.match(r"\s*[^\s:]+( [^\s:]+)* = ", line))
         todo += named(files, files[key], set().union(*map(words, stated)))
     for line in files["demands/proofs/Demands/Words"].lines:
         found = re.match(r"pub use (\S+?)\.\{(.*?)\}$", line)
         todo += [(key_of(found.group(1)), name) for name in found.group(2).split(", ")] if found else []
-    for key in ("abo/src/lib.rt", "tell/src/lib.rt", "demands/src/lib.rt"):
+    for key in ("abo/src/lib.rt", "tell/src/lib.rt", "enrol/src/lib.rt", "demands/src/lib.rt"):
         promised = (line for line in files[key].lines if line.strip().startswith(("requires", "ensures")))
         todo += named(files, files[key], set().union(*map(words, promised)))
     seen = set()

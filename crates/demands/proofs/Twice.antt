@@ -25,6 +25,11 @@ use Rattle.gpc.specs.Answers.{statementAnswer, statementRows}
 use Rattle.statement.specs.declared.reading.AboStatement.{AboStatement}
 use Rattle.statement.specs.reading.Told.{told as toldStatement}
 use Rattle.statement.proofs.reading.Determined as statement
+use Rattle.register.specs.declared.AboRegister.{AboRegister}
+use Rattle.register.specs.Register.{RegisterAnswer, startAnswer, startAfter, giveAnswer, giveAfter}
+use Rattle.register.specs.Told.{toldAnswer as toldRegister}
+use Rattle.register.proofs.Determined as register
+use Rattle.against.specs.Registered.{registeredAnswer, registeredRows, registerAfter}
 
 -- ---- reading: l and m are the rows lent
 
@@ -70,3 +75,31 @@ statement-rows-alike f l m r q e x y = x ∙ ap (λ (z : List ℕ). statementRow
 
 pub line-alike : (line : ℕ) (f : List ℕ) (a b : AboLine) → toldLine a ≡ lineAnswer line f → toldLine b ≡ lineAnswer line f → a ≡ b
 line-alike line f a b x y = reader.told-one a b (x ∙ sym y)
+
+-- ---- the day's numbers: l and m are the registers lent
+
+pub start-alike : (d : ℕ) (l m : List ℕ) (a b : AboRegister) → l ≡ m → toldRegister a ≡ startAnswer d l → toldRegister b ≡ startAnswer d m → a ≡ b
+start-alike d l m a b e x y = register.told-one a b (x ∙ ap (λ (z : List ℕ). startAnswer d z) e ∙ sym y)
+
+pub started-alike : (d : ℕ) (l m r q : List ℕ) → l ≡ m → r ≡ startAfter d l → q ≡ startAfter d m → r ≡ q
+started-alike d l m r q e x y = x ∙ ap (λ (z : List ℕ). startAfter d z) e ∙ sym y
+
+pub asked-alike : (v : RegisterAnswer) (a b : AboRegister) → toldRegister a ≡ v → toldRegister b ≡ v → a ≡ b
+asked-alike v a b x y = register.told-one a b (x ∙ sym y)
+
+pub give-alike : (n : ℕ) (l m : List ℕ) (a b : AboRegister) → l ≡ m → toldRegister a ≡ giveAnswer l n → toldRegister b ≡ giveAnswer m n → a ≡ b
+give-alike n l m a b e x y = register.told-one a b (x ∙ ap (λ (z : List ℕ). giveAnswer z n) e ∙ sym y)
+
+pub given-alike : (n : ℕ) (l m r q : List ℕ) → l ≡ m → r ≡ giveAfter l n → q ≡ giveAfter m n → r ≡ q
+given-alike n l m r q e x y = x ∙ ap (λ (z : List ℕ). giveAfter z n) e ∙ sym y
+
+-- .. and o and p the rows
+module _ (sheet today : ℕ) (f o p l m : List ℕ) where
+  pub registered-alike : (a b : AboAnswer) → toldRead a ≡ registeredAnswer sheet today f o l → toldRead b ≡ registeredAnswer sheet today f p m → o ≡ p → l ≡ m → a ≡ b
+  registered-alike a b x y e g = read.told-one a b (x ∙ (ap (λ (z : List ℕ). registeredAnswer sheet today f z l) e ∙ (ap (λ (z : List ℕ). registeredAnswer sheet today f p z) g ∙ sym y)))
+
+  pub registered-rows-alike : (r q : List ℕ) → r ≡ registeredRows sheet today f o l → q ≡ registeredRows sheet today f p m → o ≡ p → l ≡ m → r ≡ q
+  registered-rows-alike r q x y e g = x ∙ (ap (λ (z : List ℕ). registeredRows sheet today f z l) e ∙ (ap (λ (z : List ℕ). registeredRows sheet today f p z) g ∙ sym y))
+
+  pub registers-alike : (r q : List ℕ) → r ≡ registerAfter sheet today f o l → q ≡ registerAfter sheet today f p m → o ≡ p → l ≡ m → r ≡ q
+  registers-alike r q x y e g = x ∙ (ap (λ (z : List ℕ). registerAfter sheet today f z l) e ∙ (ap (λ (z : List ℕ). registerAfter sheet today f p z) g ∙ sym y))

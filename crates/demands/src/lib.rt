@@ -3,6 +3,7 @@ use explain::AboText;
 use findings::AboList;
 use read::AboAnswer;
 use reader::AboLine;
+use register::AboRegister;
 use statement::reading::AboStatement;
 use write::AboWritten;
 ghost use mathlib.Core.Path.{_≡_};
@@ -15,6 +16,8 @@ ghost use Rattle.outcomes.specs.Outcomes.{ComesBack};
 ghost use Rattle.gpc.specs.Answers.{statementAnswer, statementRows};
 ghost use Rattle.gpcwhole.specs.Outcomes.{ComesBack as StatementsComeBack};
 ghost use Rattle.statement.specs.reading.Told.{told as toldStatement};
+ghost use Rattle.register.specs.Register.{answer};
+ghost use Rattle.register.specs.Told.{toldAnswer as toldRegister};
 
 // two answers of reading
 pub struct TwoReadings {
@@ -245,4 +248,106 @@ pub fn statement_write_and_read(rows: &[u8], out: &mut [u8], back: &mut [u8]) ->
     }
     let read = statement_read_front(out, written.bytes, back);
     StatementsReturned { written, read }
+}
+
+// ---- the day's numbers
+
+// two answers of reading against a register
+pub struct TwoRegisteredReadings {
+    pub first: AboAnswer,
+    pub second: AboAnswer,
+}
+
+// Reads a file twice, into rows and against registers that were lent alike.
+pub fn read_registered_twice(
+    file: &[u8],
+    sheet: u64,
+    today: u64,
+    a: &mut [u8],
+    b: &mut [u8],
+    c: &mut [u8],
+    d: &mut [u8],
+) -> TwoRegisteredReadings
+    requires { ⌜ now a ≡ now b ⌝ }
+    requires { ⌜ now c ≡ now d ⌝ }
+    ensures { λ r. ⌜ r .first ≡ r .second ⌝ }
+    ensures { λ _. ⌜ now (a .exit) ≡ now (b .exit) ⌝ }
+    ensures { λ _. ⌜ now (c .exit) ≡ now (d .exit) ⌝ }
+{
+    let first = enrol::abo_read_registered(file, sheet, today, a, c);
+    let second = enrol::abo_read_registered(file, sheet, today, b, d);
+    TwoRegisteredReadings { first, second }
+}
+
+// two answers of the calls on a register
+pub struct TwoRegisters {
+    pub first: AboRegister,
+    pub second: AboRegister,
+}
+
+// Starts a day twice, in registers that were lent alike.
+pub fn register_start_twice(date: u64, a: &mut [u8], b: &mut [u8]) -> TwoRegisters
+    requires { ⌜ now a ≡ now b ⌝ }
+    ensures { λ r. ⌜ r .first ≡ r .second ⌝ }
+    ensures { λ _. ⌜ now (a .exit) ≡ now (b .exit) ⌝ }
+{
+    let first = enrol::abo_register_start(date, a);
+    let second = enrol::abo_register_start(date, b);
+    TwoRegisters { first, second }
+}
+
+// Asks for the lowest free number twice.
+pub fn register_lowest_twice(register: &[u8]) -> TwoRegisters
+    ensures { λ r. ⌜ r .first ≡ r .second ⌝ }
+{
+    let first = enrol::abo_register_lowest(register);
+    let second = enrol::abo_register_lowest(register);
+    TwoRegisters { first, second }
+}
+
+// Asks how many numbers are free twice.
+pub fn register_free_twice(register: &[u8]) -> TwoRegisters
+    ensures { λ r. ⌜ r .first ≡ r .second ⌝ }
+{
+    let first = enrol::abo_register_free(register);
+    let second = enrol::abo_register_free(register);
+    TwoRegisters { first, second }
+}
+
+// Gives a number back twice, to registers that were lent alike.
+pub fn register_give_back_twice(a: &mut [u8], b: &mut [u8], number: u64) -> TwoRegisters
+    requires { ⌜ now a ≡ now b ⌝ }
+    ensures { λ r. ⌜ r .first ≡ r .second ⌝ }
+    ensures { λ _. ⌜ now (a .exit) ≡ now (b .exit) ⌝ }
+{
+    let first = enrol::abo_register_give_back(a, number);
+    let second = enrol::abo_register_give_back(b, number);
+    TwoRegisters { first, second }
+}
+
+// the answers of a call on a register, and of the two questions behind it
+pub struct Asked {
+    pub done: AboRegister,
+    pub lowest: AboRegister,
+    pub free: AboRegister,
+}
+
+// Starts a day, and asks: all numbers are free, and the lowest is 0.
+pub fn start_and_ask(date: u64, register: &mut [u8]) -> Asked
+    ensures { λ r. ⌜ (r .done .number ≡ 0 → (toldRegister (r .lowest) ≡ answer 0 0) × (toldRegister (r .free) ≡ answer 0 1000)) ⌝ }
+{
+    let done = enrol::abo_register_start(date, register);
+    let lowest = enrol::abo_register_lowest(register);
+    let free = enrol::abo_register_free(register);
+    Asked { done, lowest, free }
+}
+
+// Gives a number back, and asks: the lowest free one is not above it, and one or more are free.
+pub fn give_back_and_ask(register: &mut [u8], number: u64) -> Asked
+    ensures { λ r. ⌜ (r .done .number ≡ 0 → (r .lowest .number ≡ 0) × (r .lowest .value ≤ number) × (r .free .number ≡ 0) × (1 ≤ r .free .value)) ⌝ }
+{
+    let done = enrol::abo_register_give_back(register, number);
+    let lowest = enrol::abo_register_lowest(register);
+    let free = enrol::abo_register_free(register);
+    Asked { done, lowest, free }
 }
