@@ -45,7 +45,7 @@ struct peer_text peer_explain(const uint8_t *file, size_t len, uint64_t sheet,
                               uint64_t today, uint8_t *out, size_t out_len)
 {
     struct judge j;
-    peer_judge(&j, file, len, sheet, today);
+    peer_judge(&j, file, len, sheet, today, NULL);
     if (j.number != 0)
         return give_refusal(j.number, j.fault_line, j.fault_at, out, out_len);
     uint8_t room[LINE_ROOM], *end = put_words(room, "accepted rows ");

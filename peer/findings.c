@@ -30,7 +30,7 @@ static uint64_t accepting(const uint8_t *file, size_t len, uint64_t today)
     struct judge j;
     uint64_t sheets = 0;
     for (uint64_t sheet = 1; sheet <= SHEETS; sheet++) {
-        peer_judge(&j, file, len, sheet, today);
+        peer_judge(&j, file, len, sheet, today, NULL);
         if (j.number == 0)
             sheets |= UINT64_C(1) << (sheet - 1);
     }
@@ -41,7 +41,7 @@ struct peer_list peer_findings(const uint8_t *file, size_t len, uint64_t sheet,
                                uint64_t today, uint8_t *out, size_t out_len)
 {
     struct judge j;
-    peer_judge(&j, file, len, sheet, today);
+    peer_judge(&j, file, len, sheet, today, NULL);
     if (j.number == 1 || j.number == 2)
         return (struct peer_list){.number = j.number};
     uint64_t count = j.number != 0 ? 1 : j.warnings;

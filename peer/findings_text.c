@@ -85,7 +85,7 @@ struct peer_text peer_findings_text(const uint8_t *file, size_t len,
     if (peer_sheet_of(sheet) == NULL)
         return (struct peer_text){1, 0};
     for (size_t i = 0; i < SHEETS; i++)
-        peer_judge(&t.by[i], file, len, i + 1, today);
+        peer_judge(&t.by[i], file, len, i + 1, today, NULL);
     t.asked = &t.by[sheet - 1];
     if (t.asked->number == 2)
         return (struct peer_text){2, 0};

@@ -90,9 +90,11 @@ static void judge_lines(struct judge *j)
 }
 
 void peer_judge(struct judge *j, const uint8_t *file, size_t len,
-                uint64_t sheet, uint64_t today)
+                uint64_t sheet, uint64_t today, const struct bytes *reg)
 {
-    *j = (struct judge){.file = {file, len}, .sheet = peer_sheet_of(sheet)};
+    *j = (struct judge){
+        .file = {file, len}, .sheet = peer_sheet_of(sheet), .reg = reg,
+    };
     memset(j->header.name, ' ', NAME_BYTES);
     if (j->sheet == NULL) {
         j->number = 1;

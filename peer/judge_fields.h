@@ -11,6 +11,7 @@ struct judge {
     struct bytes file;
     const struct peer_sheet *sheet;
     uint64_t today, month_ahead; /* as day numbers */
+    const struct bytes *reg;     /* a register or NULL; only K looks at it */
 
     size_t at;      /* the next byte to judge */
     uint64_t line;  /* its line, from 1 */

@@ -1,6 +1,7 @@
 #include "judge_heads.h"
 #include "account.h"
 #include "days.h"
+#include "register.h"
 
 /* A field of the first line, which is known by its place. */
 static bool placed_digits(struct judge *j, size_t at, size_t digits,
@@ -30,6 +31,14 @@ static bool pass_rest(struct judge *j)
     return true;
 }
 
+/* K: a register that is lent is for this creation date. */
+static bool pass_register(struct judge *j, uint64_t date, size_t at)
+{
+    if (!j->sheet->interval || j->reg == NULL || register_is_for(*j->reg, date))
+        return true;
+    return refuse(j, 23, at);
+}
+
 bool peer_judge_first(struct judge *j)
 {
     struct peer_header *h = &j->header;
@@ -42,6 +51,8 @@ bool peer_judge_first(struct judge *j)
     h->date = date_of_short(h->date);
     if (!day_is_real(h->date))
         return refuse(j, 11, 4);
+    if (!pass_register(j, h->date, 4))
+        return false;
     if (text_end(j->file, 10) < 30)
         return refuse(j, 4, 10);
     memcpy(h->name, j->file.data + 10, NAME_BYTES);
@@ -53,14 +64,17 @@ bool peer_judge_first(struct judge *j)
     return pass_rest(j);
 }
 
-/* K: the number's first three digits lie in the interval and are new. */
-static bool pass_interval(struct judge *j, uint64_t number, size_t at)
+/* K: the number's first three digits lie in the interval and are new, in the
+   file and then in the day's register, which by now is known to be sound. */
+static bool pass_number(struct judge *j, uint64_t number, size_t at)
 {
     uint64_t three = number / 1000;
     uint64_t bit = UINT64_C(1) << three % 64, *word = &j->met[three / 64];
     if (three < j->header.from || three > j->header.to || (*word & bit) != 0)
         return refuse(j, 9, at);
     *word |= bit;
+    if (j->reg != NULL && number_is_marked(j->reg->data, three))
+        return refuse(j, 22, at);
     return true;
 }
 
@@ -82,7 +96,7 @@ bool peer_judge_file(struct judge *j)
         return false;
     at = j->at;
     if (!pass_digits(j, 6, 6, &value) ||
-        (sheet->interval && !pass_interval(j, value, at)) || !pass_divider(j))
+        (sheet->interval && !pass_number(j, value, at)) || !pass_divider(j))
         return false;
     at = j->at;
     if (!pass_digits(j, 4, 4, &value))

@@ -10,6 +10,11 @@
  * Word 21 of an item's row is the caller's own reference, below 2^32 (request
  * W-206).  Reading sets it to 0; writing tests its range and passes over it.
  *
+ * A day's register (request W-207) is 17 words like those of rows, 136 bytes:
+ * the creation date, then a bit for each number.  Number n is marked where bit
+ * n % 64 of word 1 + n / 64 is set; the 24 bits of 1,000 to 1,023 are 0.  Lent
+ * bytes behind these are neither looked at nor changed.
+ *
  * Each file here is used by those above it only:
  *
  *   rewrite.c                                 the rewriting program
@@ -17,6 +22,7 @@
  *   read.c, write.c                           the calls for batches
  *   read_statement.c, write_statement.c       the calls for statements
  *   findings.c, findings_text.c               the calls for findings
+ *   register.c                                the calls for a day's register
  *   sentence; reason, warnings                findings in words; findings
  *   spelling; reason_field                    the same of one field
  *   pen.h; retrace                            words; a judged file again
@@ -27,6 +33,7 @@
  *   statement                                 its records and their rows
  *   internal.h                                accounts in statements
  *   account.h, lines.h                        accounts, and the kinds of lines
+ *   register.h                                a register in lent bytes
  *   finding.h                                 what a finding says
  *   bytes.h, days.h, digits.h, header.h, sheet
  */
@@ -47,6 +54,36 @@ struct peer_answer {
 
 struct peer_answer peer_read(const uint8_t *file, size_t len, uint64_t sheet,
                              uint64_t today, uint8_t *rows, size_t rows_len);
+
+/* The same against a day's register.  On K the header's date must be the
+   register's (else 23) and each number unused (else 22); acceptance marks the
+   first three digits of the file's numbers.  Other sheets do not look at it. */
+struct peer_answer peer_read_registered(const uint8_t *file, size_t len,
+                                        uint64_t sheet, uint64_t today,
+                                        uint8_t *rows, size_t rows_len,
+                                        uint8_t *reg, size_t reg_len);
+
+/* number 0: what was asked for, or 0; number 16: value is the bytes needed;
+   any other number: value is 0. */
+struct peer_register_answer {
+    uint64_t number, value;
+};
+
+/* Begins a day with nothing marked, whatever stood there: 2 for a day that is
+   not real, then 16. */
+struct peer_register_answer peer_register_start(uint64_t date, uint8_t *reg,
+                                                size_t reg_len);
+
+/* The lowest number that is free, 1,000 if none is, and how many are free.  23
+   if the register is malformed. */
+struct peer_register_answer peer_register_lowest(const uint8_t *reg,
+                                                 size_t reg_len);
+struct peer_register_answer peer_register_free(const uint8_t *reg,
+                                               size_t reg_len);
+
+/* Takes the mark off a number: 23, then 24 if it has none or is above 999. */
+struct peer_register_answer peer_register_give_back(uint8_t *reg,
+                                                    size_t reg_len, uint64_t n);
 
 /* number 0: bytes written; number 16: bytes needed; numbers 20 and 21, and of
    statements 50 to 53: the row (0 is the header) and the field. */

@@ -144,5 +144,8 @@ void test_warnings(void);
 void test_damage(void);
 void test_findings_text(void);
 void test_random_findings(void);
+void test_register(void);
+void test_registered(void);
+void test_random_registered(void);
 
 #endif

@@ -22,6 +22,9 @@ int main(void)
     test_damage();
     test_findings_text();
     test_random_findings();
+    test_register();
+    test_registered();
+    test_random_registered();
     free(test_out);
     free(test_found);
     free(test_text);
