@@ -1,6 +1,7 @@
 /*
- * Reading, writing and explaining Czech ABO (.kpc) payment files for the bank sheets K, S, C, E and P, finding their lines, and reading
- * and writing statements (GPC records 074 and 075): seven calls, the rows that they take and give, and the numbers that they return.
+ * Reading, writing and explaining Czech ABO (.kpc) payment files for the bank sheets K, S, C, E and P, finding their lines, keeping the
+ * numbers that a day's files have used, and reading and writing statements (GPC records 074 and 075): twelve calls, the rows that they take
+ * and give, and the numbers that they return.
  * For C99 and later and for C++; link with libabo.a.
  *
  * Days.  Every day is a number YYYYMMDD: the 2nd of January 2018 is 20180102.  So is `today`, which the caller gives with each
@@ -45,8 +46,8 @@ extern "C" {
 /* ---- Version: the first part grows when a program must be changed to go on working, the second when something is added ---- */
 
 #define ABO_VERSION_MAJOR 2
-#define ABO_VERSION_MINOR 0
-#define ABO_VERSION "2.0"
+#define ABO_VERSION_MINOR 1
+#define ABO_VERSION "2.1"
 
 /* ---- Sheets: which bank's rules a file is judged by ---- */
 
@@ -80,6 +81,9 @@ enum abo_number {
     ABO_NO_ROOM = 16,        /* the lent room is too small; the answer says how much is needed */
     ABO_NOT_A_BATCH = 20,    /* writing: rows or header are no batch, whatever the sheet */
     ABO_NOT_CARRIED = 21,    /* writing: a batch, but no file of this sheet can carry it; a collection's day (C, P): at its item's bank */
+    ABO_NUMBER_USED = 22,    /* K against a register: the account file's number was used that day */
+    ABO_BAD_REGISTER = 23,   /* the register is for another date than the file's, or is not laid out as one */
+    ABO_NOT_TAKEN = 24,      /* a number given back is not marked in the register, or above 999 */
     ABO_BAD_RECORD = 50,     /* statements: a record or row is missing, cut short, of another type, or a movement before any head */
     ABO_BAD_VALUE = 51,      /* statements: a field is not its digits, sign or code, or in writing passes its digits */
     ABO_BAD_TURNOVER = 52,   /* statements: a turnover is not what the statement's movements add up to */
@@ -96,6 +100,9 @@ enum abo_size {
     ABO_NAME_BYTES = 20,      /* bytes of the header's name, always all of them */
     ABO_FINDING_BYTES = 64,   /* bytes of a finding */
     ABO_EXPLAIN_BYTES = 2048, /* room that is enough for what abo_explain says of any refused file */
+
+    ABO_REGISTER_BYTES = 136,    /* bytes of a register of a day's numbers */
+    ABO_REGISTER_NUMBERS = 1000, /* numbers that it keeps, from 0 on; as the lowest free number: none is free */
 
     ABO_RECORD_BYTES = 130,        /* bytes of a statement's record, its CR LF among them */
     ABO_STATEMENT_WORDS = 8,       /* words of a statement's row that are numbers; bytes of the record follow */
@@ -220,6 +227,54 @@ struct abo_answer {
    counts bytes, of which only whole rows are used. */
 struct abo_answer abo_read(const uint8_t *file, size_t len, uint64_t sheet,
                            uint64_t today, uint8_t *rows, size_t rows_len);
+
+/* ---- The day's numbers: on K the first three digits of an account file's number serve once a day ---- */
+
+/* A register of the numbers that were used on one creation date.  The caller keeps it, from file to file, and lends it as bytes; they are
+   laid out so if there are ABO_REGISTER_BYTES or more, the date is a real day of 2000 to 2099, and no bit stands for a number above 999. */
+struct abo_register {
+    uint64_t date;        /* creation date */
+    uint64_t numbers[16]; /* number n is marked where bit n % 64 of word n / 64 is set */
+};
+
+struct abo_register_answer {
+    uint64_t number; /* 0, 2, 16, 23 or 24 */
+    uint64_t value;  /* accepted: what was asked for; with 16: bytes needed; else 0 */
+};
+
+/* Starts a day: the first bytes lent become a register for that date with nothing marked, whatever they held.  Answers 2, 16 or 0. */
+struct abo_register_answer abo_register_start(uint64_t date, uint8_t *reg,
+                                              size_t reg_len);
+
+/* The lowest free number, ABO_REGISTER_NUMBERS if none is; how many are free.  Answer 23 or 0, and change nothing: a number is marked when a
+   file that has it is accepted. */
+struct abo_register_answer abo_register_lowest(const uint8_t *reg,
+                                               size_t reg_len);
+struct abo_register_answer abo_register_free(const uint8_t *reg,
+                                             size_t reg_len);
+
+/* Gives a number back, as the bank does with a file that it threw out: it is free again.  Answers 23, 24 or 0. */
+struct abo_register_answer abo_register_give_back(uint8_t *reg, size_t reg_len,
+                                                  uint64_t number);
+
+/* abo_read, and on K against a register: 23 at the header's date where the register is malformed or for another date, 22 at a number that is
+   marked.  An accepted file's numbers are marked; a refusal, 16 too, marks none.  On other sheets the register is neither looked at nor
+   changed, and its pointer may be NULL if its count is 0. */
+struct abo_answer abo_read_registered(const uint8_t *file, size_t len,
+                                      uint64_t sheet, uint64_t today,
+                                      uint8_t *rows, size_t rows_len,
+                                      uint8_t *reg, size_t reg_len);
+
+/* The same into an array of rows, counted in rows, against a register as C has it. */
+static inline struct abo_answer
+abo_read_rows_registered(const uint8_t *file, size_t len, uint64_t sheet,
+                         uint64_t today, union abo_row *rows, size_t count,
+                         struct abo_register *reg)
+{
+    return abo_read_registered(file, len, sheet, today, (uint8_t *)rows,
+                               count * sizeof *rows, (uint8_t *)reg,
+                               sizeof *reg);
+}
 
 /* ---- Writing ---- */
 
@@ -372,6 +427,11 @@ enum abo_cause {
     ABO_CAUSE_MANY_FILES = 150,      /* 0, most account files */
     ABO_CAUSE_MANY_FILE_ITEMS = 151, /* 0, most items of an account file */
     ABO_CAUSE_MANY_ITEMS = 152,      /* S: 0, most items of a file */
+
+    /* Of abo_read_registered's refusals, for a program's words; abo_findings takes no register and never gives these. */
+    ABO_CAUSE_NUMBER_TAKEN = 220,       /* K: the register's lowest free number (1,000: none), 999 */
+    ABO_CAUSE_REGISTER_MALFORMED = 230, /* K: 0, 0 */
+    ABO_CAUSE_REGISTER_DATE = 231,      /* K: the register's date, twice */
 
     ABO_CAUSE_WARNED_TOTAL = 1010,   /* warning: the sum of the items in haler, twice */
     ABO_CAUSE_WARNED_PAST = 1011,    /* warning: today, 0 */
@@ -610,6 +670,9 @@ ABO_HOLDS(finding_least, ABO_AT(abo_finding, least, 6));
 ABO_HOLDS(finding_most, ABO_AT(abo_finding, most, 7));
 ABO_HOLDS(header, sizeof(struct abo_header) == 56 && offsetof(struct abo_header, name) == 32);
 ABO_HOLDS(answer, sizeof(struct abo_answer) == 104 && offsetof(struct abo_answer, header) == 48);
+ABO_HOLDS(register, sizeof(struct abo_register) == ABO_REGISTER_BYTES);
+ABO_HOLDS(register_numbers, ABO_AT(abo_register, numbers, 1));
+ABO_HOLDS(register_answer, sizeof(struct abo_register_answer) == 16);
 ABO_HOLDS(written, sizeof(struct abo_written) == 32);
 ABO_HOLDS(list, sizeof(struct abo_list) == 40 && offsetof(struct abo_list, sheets) == 32);
 ABO_HOLDS(text, sizeof(struct abo_text) == 16);
