@@ -12,12 +12,12 @@
  * writes to must not overlap bytes that it reads.  Apart from that, any bytes and any numbers may be handed in.
  *
  * Refusals.  A call that returns another number than 0 has changed none of the lent bytes.  An accepted one has changed only
- * the rows, findings or bytes that it counts in its answer; what is lent beyond them stays as it was.
+ * the rows, findings or bytes that it counts in its answer, and a register only in its own bytes; what is lent beyond them stays as it was.
  *
  * Byte order.  Rows are lent as bytes: words of 64 bits, each with its lowest byte first, whatever the machine; 24 of them, in
- * statements eight and then bytes of the record, and eight in a finding.  Where the machine's own order is the same, as on x86-64, an
- * array of `union abo_row`, `union abo_statement_row` or `struct abo_finding` is lent as it lies, which abo_read_rows, abo_write_rows
- * and their kin do:
+ * statements eight and then bytes of the record, eight in a finding and 17 in a register.  Where the machine's own order is the same, as on
+ * x86-64, an array of `union abo_row`, `union abo_statement_row` or `struct abo_finding`, or a `struct abo_register`, is lent as it lies,
+ * which abo_read_rows, abo_write_rows and their kin do:
  *
  *     union abo_row rows[1000];
  *     struct abo_answer a = abo_read_rows(file, len, ABO_SHEET_K, 20180101, rows, 1000);
@@ -214,7 +214,7 @@ struct abo_header {
 };
 
 struct abo_answer {
-    uint64_t number;   /* enum abo_number, never 20 or 21 */
+    uint64_t number;   /* 0 to 16; of abo_read_registered 22 and 23 too, never 20, 21 or 24 */
     uint64_t line;     /* refused: line of the fault, from 1; 0 with 0, 1, 2 and 16 */
     uint64_t byte;     /* refused: its place in the file, from 0; 0 with 0, 1, 2 and 16 */
     uint64_t rows;     /* accepted: rows filled, else 0 */
@@ -441,7 +441,7 @@ enum abo_cause {
 };
 
 struct abo_finding {
-    uint64_t number; /* of a refusal: 3 to 15; 0 is a warning */
+    uint64_t number; /* of a refusal: 3 to 15, by abo_tell_registered also 22 and 23; 0 is a warning */
     uint64_t cause;  /* enum abo_cause */
     uint64_t line;   /* from 1, as in refusals */
     uint64_t byte;   /* its place in the file, from 0 */
@@ -495,8 +495,8 @@ struct abo_found {
 };
 
 /* Finds the line of a number, counted from 1 as in refusals; the file's end counts as one line more, which is empty.  A refusal
-   with 3 to 15 always has its line found, and its byte lies in that line or right behind the line's last byte.  It is not for
-   statements, whose records end by their length. */
+   with 3 to 15, or of abo_read_registered with 22 or 23, always has its line found, and its byte lies in that line or right behind the
+   line's last byte.  It is not for statements, whose records end by their length. */
 struct abo_found abo_line(const uint8_t *file, size_t len, uint64_t line);
 
 /* ---- Statements: GPC records 074, a statement's head, and 075, its movements ---- */

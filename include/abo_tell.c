@@ -77,8 +77,9 @@ const char *abo_tell_field_constant(uint64_t field)
 /* ---- causes ---- */
 
 /* The reason, and then what is allowed or, of a warning, what becomes of it.  In the latter stand in braces what the finding says: {least}
-   and {most} as numbers, or so many digits long ({least 3}), or as crowns ({most crowns}); {range}, both, or one if they are equal;
-   {today}; {field}; {spelled}, which goes by the field and the sheet. */
+   and {most} as numbers, or so many digits long ({least 3}), or as crowns ({most crowns}), or as a day ({least day}); {range}, both, or one
+   if they are equal; {free}, which of the day's numbers is the lowest free one; {today}; {field}; {spelled}, which goes by the field and
+   the sheet. */
 static const struct cause_words {
     uint64_t cause;
     const char *constant;
@@ -166,6 +167,12 @@ static const struct cause_words {
           "at most {most} items in an account file", "nejvýše {most} položek v účetním souboru"),
     CAUSE(ABO_CAUSE_MANY_ITEMS, "this item is one too many in the file", "tato položka je v souboru o jednu navíc",
           "at most {most} items in a file", "nejvýše {most} položek v souboru"),
+    CAUSE(ABO_CAUSE_NUMBER_TAKEN, "its first three digits were used that day", "jeho první tři číslice už byly toho dne použity",
+          "first three digits that were not used that day, {free}", "první tři číslice, které toho dne ještě nebyly použity, {free}"),
+    CAUSE(ABO_CAUSE_REGISTER_MALFORMED, "the register of the day's numbers is not laid out as one", "registr čísel dne nemá podobu registru",
+          "a register that was started for this date", "registr založený na toto datum"),
+    CAUSE(ABO_CAUSE_REGISTER_DATE, "the register of the day's numbers is for another day", "registr čísel je na jiný den",
+          "the register's date, {least day}", "datum registru, {least day}"),
     CAUSE(ABO_CAUSE_WARNED_TOTAL, "it differs from the sum of the items", "liší se od součtu položek",
           "the sum is {most}, which is {most crowns} crowns", "součet je {most}, což je {most crowns} Kč"),
     CAUSE(ABO_CAUSE_WARNED_PAST, "the day is past", "datum je v minulosti", "today is {today}", "dnes je {today}"),
@@ -432,16 +439,30 @@ static void put_range(struct pen *p, const struct abo_finding *f)
     put_number(p, f->most);
 }
 
+/* The lowest free number of a day, if there is one. */
+static void put_free(struct pen *p, uint64_t lowest)
+{
+    static const struct both one = {"the lowest free being ", "nejníže "}, none = {"but none is left", "ale žádné už nezbývají"};
+    if (lowest >= ABO_REGISTER_NUMBERS) {
+        put_words(p, &none);
+        return;
+    }
+    put_words(p, &one);
+    put_digits(p, lowest, 3);
+}
+
 static bool is_word(const char *word, size_t len, const char *wanted)
 {
     return strlen(wanted) == len && memcmp(word, wanted, len) == 0;
 }
 
-/* A number by what stands behind `least` or `most`: how many digits, or crowns, or nothing. */
+/* A number by what stands behind `least` or `most`: how many digits, or crowns, or a day, or nothing. */
 static void put_formed(struct pen *p, uint64_t number, const char *form)
 {
     if (strncmp(form, " crowns", 7) == 0)
         put_crowns(p, number);
+    else if (strncmp(form, " day", 4) == 0)
+        put_day(p, number);
     else
         put_digits(p, number, *form == ' ' ? (size_t)(form[1] - '0') : 1);
 }
@@ -453,6 +474,8 @@ static void put_meant(struct pen *p, const struct meant *m, const char *word, si
         put(p, spelling_of(p->language, m->f, m->sheet));
     else if (is_word(word, len, "range"))
         put_range(p, m->f);
+    else if (is_word(word, len, "free"))
+        put_free(p, m->f->least);
     else if (is_word(word, len, "today"))
         put_day(p, m->today);
     else if (is_word(word, len, "field"))
@@ -476,6 +499,50 @@ static void put_filled(struct pen *p, const struct meant *m, const char *text)
         put_meant(p, m, text + 1, (size_t)(end - text - 1));
         text = end;
     }
+}
+
+/* ---- what a register refuses ---- */
+
+/* How many bytes there are from a place to the next space or the line's end; no more than `most`. */
+static uint64_t bytes_found(const uint8_t *file, size_t len, uint64_t byte, uint64_t most)
+{
+    uint64_t count = 0;
+    while (count < most && byte < len && count < len - byte && memchr(" \r\n", file[byte + count], 3) == NULL)
+        count++;
+    return count;
+}
+
+/* The date of a register is its first word, with the lowest byte first. */
+static uint64_t date_of(const uint8_t *reg)
+{
+    uint64_t date = 0;
+    for (size_t i = 8; i > 0; i--)
+        date = date << 8 | reg[i - 1];
+    return date;
+}
+
+static void find_register(struct abo_finding *f, const uint8_t *reg, size_t reg_len)
+{
+    bool laid = abo_register_lowest(reg, reg_len).number == ABO_ACCEPTED;
+    f->cause = laid ? ABO_CAUSE_REGISTER_DATE : ABO_CAUSE_REGISTER_MALFORMED;
+    f->field = ABO_FOUND_DATE;
+    f->least = f->most = laid ? date_of(reg) : 0;
+}
+
+int abo_tell_registered(const struct abo_answer *a, const uint8_t *file, size_t len, const uint8_t *reg, size_t reg_len,
+                        struct abo_finding *f)
+{
+    enum { DIGITS = 6 }; /* of a number, and of a date in the first line */
+    struct abo_finding found = {a->number, ABO_CAUSE_NUMBER_TAKEN, a->line, a->byte, 0, ABO_FOUND_NUMBER, 0, ABO_REGISTER_NUMBERS - 1};
+    if (a->number != ABO_NUMBER_USED && a->number != ABO_BAD_REGISTER)
+        return 0;
+    found.length = bytes_found(file, len, a->byte, DIGITS);
+    if (a->number == ABO_BAD_REGISTER)
+        find_register(&found, reg, reg_len);
+    else
+        found.least = abo_register_lowest(reg, reg_len).value;
+    *f = found;
+    return 1;
 }
 
 /* ---- sentences ---- */

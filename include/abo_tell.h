@@ -50,6 +50,14 @@ size_t abo_tell_reason(uint64_t language, const struct abo_finding *f, const uin
 size_t abo_tell_finding(uint64_t language, const struct abo_finding *f, const uint8_t *file, size_t len,
                         uint64_t sheet, uint64_t today, char *out, size_t out_len);
 
+/* A file that abo_read_registered refused for its register has a finding too, though abo_findings, which takes no register, gives another one
+   or none.  Of an answer with 22 or 23, and the file and the register that it was given for, this fills the finding and gives 1; of any other
+   it gives 0 and leaves the finding as it was.  It is told like all others:
+       the account file's number: its first three digits were used that day; found "001001"; allowed: first three digits that were not used
+       that day, the lowest free being 003 */
+int abo_tell_registered(const struct abo_answer *a, const uint8_t *file, size_t len, const uint8_t *reg, size_t reg_len,
+                        struct abo_finding *f);
+
 /* What a sheet makes of a file, by its answer and, if it is refused, its finding: "accepted, warnings 1", or "refused (8) at line 2, the
    payer's bank".  The answer is that of abo_findings with room for one finding or more, or with 16 one for which there was too little;
    with 1 and 2 it is what the number says. */

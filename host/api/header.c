@@ -3,8 +3,8 @@
  * of each field against docs/ROWS.md, the numbers returned and their names
  * against docs/NUMBERS.md, the answers against what the library gives, and the
  * header's own functions against the calls.  statement_rows.c has the same for
- * statements.  It is C99 and C++11 alike, and host/api/header.sh builds it as
- * both.
+ * statements, register_calls.c for the register of a day's numbers.  It is C99
+ * and C++11 alike, and host/api/header.sh builds it as both.
  *
  *   header docs/ROWS.md docs/NUMBERS.md
  */
@@ -108,9 +108,10 @@ static struct numbered numbers[] = {
     RETURNED(ABO_BAD_PAYEE_BANK), RETURNED(ABO_BAD_DIGIT),
     RETURNED(ABO_BAD_TEXT),       RETURNED(ABO_TOO_MANY),
     RETURNED(ABO_NO_ROOM),        RETURNED(ABO_NOT_A_BATCH),
-    RETURNED(ABO_NOT_CARRIED),    RETURNED(ABO_BAD_RECORD),
-    RETURNED(ABO_BAD_VALUE),      RETURNED(ABO_BAD_TURNOVER),
-    RETURNED(ABO_BAD_BALANCE),
+    RETURNED(ABO_NOT_CARRIED),    RETURNED(ABO_NUMBER_USED),
+    RETURNED(ABO_BAD_REGISTER),   RETURNED(ABO_NOT_TAKEN),
+    RETURNED(ABO_BAD_RECORD),     RETURNED(ABO_BAD_VALUE),
+    RETURNED(ABO_BAD_TURNOVER),   RETURNED(ABO_BAD_BALANCE),
 };
 
 static struct numbered causes[] = {
@@ -133,7 +134,9 @@ static struct numbered causes[] = {
     RETURNED(ABO_CAUSE_TEXT_PARTS),       RETURNED(ABO_CAUSE_TEXT_LENGTH),
     RETURNED(ABO_CAUSE_TEXT_BAR),         RETURNED(ABO_CAUSE_TEXT_MARKS),
     RETURNED(ABO_CAUSE_MANY_FILES),       RETURNED(ABO_CAUSE_MANY_FILE_ITEMS),
-    RETURNED(ABO_CAUSE_MANY_ITEMS),       RETURNED(ABO_CAUSE_WARNED_TOTAL),
+    RETURNED(ABO_CAUSE_MANY_ITEMS),       RETURNED(ABO_CAUSE_NUMBER_TAKEN),
+    RETURNED(ABO_CAUSE_REGISTER_MALFORMED),
+    RETURNED(ABO_CAUSE_REGISTER_DATE),    RETURNED(ABO_CAUSE_WARNED_TOTAL),
     RETURNED(ABO_CAUSE_WARNED_PAST),      RETURNED(ABO_CAUSE_WARNED_PART),
     RETURNED(ABO_CAUSE_WARNED_NAME),      RETURNED(ABO_CAUSE_WARNED_PRIORITY),
 };

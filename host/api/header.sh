@@ -62,6 +62,7 @@ for standard in c99 c11 c++11; do
     tested header "$standard" docs/ROWS.md docs/NUMBERS.md
     tested say "$standard" include/abo.h docs/ROWS.md
     tested tell "$standard" include/abo.h
+    tested register_calls "$standard" docs/ROWS.md
     tested statement_rows "$standard" docs/ROWS.md
     tested say_statement "$standard" docs/ROWS.md docs/RULES.md
 done
@@ -77,5 +78,8 @@ wrong 'kept bytes of a head one too many' 's/rest\[14\]/rest[15]/'
 wrong "a statement's answer one word too short" 's/uint64_t needed; .*else 0 .*$//'
 wrong 'two words of a finding exchanged' 's/uint64_t least, most;/uint64_t most, least;/'
 wrong 'a finding one word too short' 's/uint64_t line;   .*from 1, as in refusals .*$//'
+wrong 'a register one word too short' 's/uint64_t numbers\[16\]/uint64_t numbers[15]/'
+wrong "a register's date behind its numbers" 's/uint64_t date;        .*$//; s/uint64_t numbers\[16\];/uint64_t numbers[16], date;/'
+wrong "a register's answer one word too long" 's/uint64_t value;  /uint64_t value, more;  /'
 wrong 'a line found with one word too few' 's/uint64_t at; //'
 last_line

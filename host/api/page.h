@@ -73,6 +73,7 @@ enum rows_table {
     HEAD_TABLE,
     MOVEMENT_TABLE,
     FINDING_TABLE,
+    REGISTER_TABLE,
     NUMBER_TABLE,
     CAUSE_TABLE,
     FOUND_TABLE
@@ -84,8 +85,8 @@ static inline enum rows_table table_of(enum rows_table table, char **cells,
 {
     static const char *const names[] = {
         NULL,          "word",            "field",          "statement word",
-        "head's byte", "movement's byte", "finding's word", "no.",
-        "cause",       "found field"};
+        "head's byte", "movement's byte", "finding's word", "register's word",
+        "no.",         "cause",           "found field"};
     if (count == 0)
         return NO_TABLE;
     for (size_t i = ROWS_TABLE; i < COUNT_OF(names); i++)

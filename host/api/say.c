@@ -16,7 +16,7 @@ enum { KINDS = ABO_ROW_ITEM + 1, SHEETS = ABO_SHEET_P, S_ITEMS = 1000 };
 enum { TODAY = 20180101, ROOM = 1024, LONG = 36 };
 
 /* What no number, row, field, kind or sheet is. */
-static const uint64_t odd[] = {22, 1000, 1505, UINT32_MAX, UINT64_MAX};
+static const uint64_t odd[] = {40, 1000, 1505, UINT32_MAX, UINT64_MAX};
 
 /* ---- numbers ---- */
 

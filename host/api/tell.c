@@ -4,9 +4,10 @@
  * nothing else has; what is said in one language is said in the other, in other
  * words and with the same numbers.  Files spoilt byte by byte on every sheet:
  * what is told of each has no gap, quotes and allows what abo_explain does, and
- * names field and cause.  Each field that abo_write refuses is told with what
- * may stand there.  C99 and C++11 alike; host/api/header.sh builds it as both,
- * over abo_say.c and abo_tell.c as C.
+ * names field and cause; so does what is told of files that are refused for a
+ * register.  Each field that abo_write refuses is told with what may stand
+ * there.  C99 and C++11 alike; host/api/header.sh builds it as both, over
+ * abo_say.c and abo_tell.c as C.
  *
  *   tell include/abo.h
  */
@@ -306,7 +307,8 @@ static int has_day(uint64_t cause)
 {
     return cause == ABO_CAUSE_DAY_EARLY || cause == ABO_CAUSE_DAY_LATE ||
            cause == ABO_CAUSE_COLLECTION_EARLY ||
-           cause == ABO_CAUSE_COLLECTION_LATE || cause == ABO_CAUSE_WARNED_PAST;
+           cause == ABO_CAUSE_COLLECTION_LATE ||
+           cause == ABO_CAUSE_WARNED_PAST || cause == ABO_CAUSE_REGISTER_DATE;
 }
 
 static void check_digits(const struct told *t)
@@ -333,7 +335,8 @@ static void check_told(const struct told *t)
     }
     if (!has_day(t->f.cause))
         check_digits(t);
-    if (t->f.number != 0)
+    /* explaining takes no register */
+    if (t->f.number != 0 && t->f.number <= ABO_TOO_MANY)
         check_explained(t);
 }
 
@@ -438,11 +441,152 @@ static void check_rare(void)
     }
 }
 
+/* ---- files that are refused for a register ---- */
+
+static const uint8_t two_files[] =
+    "UHL1020118Firma               1234567890001002000000000000\r\n"
+    "1 1501 002001 8100\r\n2 19-19 1 020118\r\n705 1 0 03000558\r\n3 +\r\n"
+    "5 +\r\n1 1501 001007 8100\r\n2 19-19 1 020118\r\n705 1 0 03000558\r\n"
+    "3 +\r\n5 +\r\n";
+enum { TWO_FILES = sizeof two_files - 1, THEIR_DAY = 20180102 };
+
+/* The finding of a register's refusal is at the answer's place, with what was
+   found there; any other answer has none, and leaves it. */
+static struct told registered(const struct abo_register *reg, size_t reg_len,
+                              struct abo_finding due)
+{
+    struct told t = {two_files, TWO_FILES, ABO_SHEET_K, {0, 0, 0, 0, 0, 0, 0, 0}};
+    struct abo_register lent = *reg;
+    const uint8_t *bytes = (const uint8_t *)reg;
+    struct abo_answer a =
+        abo_read_registered(two_files, TWO_FILES, ABO_SHEET_K, TODAY, NULL, 0,
+                            (uint8_t *)&lent, reg_len);
+    memset(&t.f, 7, sizeof t.f);
+    struct abo_finding before = t.f;
+    int given =
+        abo_tell_registered(&a, two_files, TWO_FILES, bytes, reg_len, &t.f);
+    int is_refusal = due.number != 0;
+    check(given == is_refusal, "abo_tell_registered",
+          "gives 1 exactly with 22 and 23");
+    check(memcmp(&t.f, is_refusal ? &due : &before, sizeof due) == 0,
+          "abo_tell_registered", "fills the finding, or leaves it");
+    return t;
+}
+
+static void check_registered(const struct told *t, const char *english,
+                             const char *czech)
+{
+    char text[ABO_TELL_BYTES];
+    check_told(t);
+    abo_tell_finding(ABO_ENGLISH, &t->f, t->file, t->len, t->sheet, TODAY, text,
+                     sizeof text);
+    check(strcmp(text, english) == 0, text, english);
+    abo_tell_finding(ABO_CZECH, &t->f, t->file, t->len, t->sheet, TODAY, text,
+                     sizeof text);
+    check(strcmp(text, czech) == 0, text, czech);
+}
+
+/* 002 of the first account file and 001 of the second, with other numbers
+   beside them. */
+static void check_numbers_taken(struct abo_register reg)
+{
+    struct abo_finding first = {ABO_NUMBER_USED, ABO_CAUSE_NUMBER_TAKEN, 2, 67, 6,
+                                ABO_FOUND_NUMBER, 3, 999};
+    struct abo_finding second = {ABO_NUMBER_USED, ABO_CAUSE_NUMBER_TAKEN, 7, 133, 6,
+                                 ABO_FOUND_NUMBER, 0, 999};
+    reg.numbers[0] = 2;
+    struct told t = registered(&reg, sizeof reg, second);
+    check_registered(
+        &t,
+        "Line 7, byte 133, the account file's number: its first three digits "
+        "were used that day; found \"001007\"; allowed: first three digits that "
+        "were not used that day, the lowest free being 000 (22).",
+        "Řádek 7, bajt 133, číslo účetního souboru: jeho první tři číslice už "
+        "byly toho dne použity; nalezeno: \"001007\"; dovoleno: první tři "
+        "číslice, které toho dne ještě nebyly použity, nejníže 000 (22).");
+    reg.numbers[0] = 7;
+    t = registered(&reg, sizeof reg, first);
+    check_told(&t);
+    memset(reg.numbers, 0xff, sizeof reg.numbers);
+    reg.numbers[15] = (UINT64_C(1) << 40) - 1;
+    first.least = ABO_REGISTER_NUMBERS;
+    t = registered(&reg, sizeof reg, first);
+    check_registered(
+        &t,
+        "Line 2, byte 67, the account file's number: its first three digits "
+        "were used that day; found \"002001\"; allowed: first three digits that "
+        "were not used that day, but none is left (22).",
+        "Řádek 2, bajt 67, číslo účetního souboru: jeho první tři číslice už "
+        "byly toho dne použity; nalezeno: \"002001\"; dovoleno: první tři "
+        "číslice, které toho dne ještě nebyly použity, ale žádné už nezbývají "
+        "(22).");
+}
+
+static void check_other_registers(struct abo_register reg)
+{
+    struct abo_finding malformed = {ABO_BAD_REGISTER, ABO_CAUSE_REGISTER_MALFORMED, 1, 4,
+                                    6, ABO_FOUND_DATE, 0, 0};
+    struct abo_finding other = {ABO_BAD_REGISTER, ABO_CAUSE_REGISTER_DATE, 1, 4, 6,
+                                ABO_FOUND_DATE, 20171231, 20171231};
+    struct told t = registered(&reg, sizeof reg - 1, malformed);
+    check_registered(
+        &t,
+        "Line 1, byte 4, the creation date: the register of the day's numbers "
+        "is not laid out as one; found \"020118\"; allowed: a register that was "
+        "started for this date (23).",
+        "Řádek 1, bajt 4, datum vytvoření: registr čísel dne nemá podobu "
+        "registru; nalezeno: \"020118\"; dovoleno: registr založený na toto "
+        "datum (23).");
+    t = registered(&reg, 0, malformed);
+    check_told(&t);
+    reg.date = 20171231;
+    t = registered(&reg, sizeof reg, other);
+    check_registered(
+        &t,
+        "Line 1, byte 4, the creation date: the register of the day's numbers "
+        "is for another day; found \"020118\"; allowed: the register's date, "
+        "2017-12-31 (23).",
+        "Řádek 1, bajt 4, datum vytvoření: registr čísel je na jiný den; "
+        "nalezeno: \"020118\"; dovoleno: datum registru, 31. 12. 2017 (23).");
+}
+
+/* An answer of another file has nothing to be found there, and is no harm. */
+static void check_stray_answer(const struct abo_register *reg)
+{
+    struct abo_finding f;
+    struct abo_answer a;
+    memset(&a, 0, sizeof a);
+    a.number = ABO_NUMBER_USED;
+    a.line = 1;
+    a.byte = UINT64_MAX;
+    check(abo_tell_registered(&a, two_files, TWO_FILES, (const uint8_t *)reg,
+                              sizeof *reg, &f) == 1 && f.length == 0,
+          "a place behind the file", "has no bytes");
+    a.byte = TWO_FILES - 3;
+    check(abo_tell_registered(&a, two_files, TWO_FILES, (const uint8_t *)reg,
+                              sizeof *reg, &f) == 1 && f.length == 1,
+          "the line's end", "ends what was found");
+}
+
+static void check_registers(void)
+{
+    static const struct abo_finding none = {0, 0, 0, 0, 0, 0, 0, 0};
+    struct abo_register reg;
+    check(abo_register_start(THEIR_DAY, (uint8_t *)&reg, sizeof reg).number ==
+              ABO_ACCEPTED,
+          "a day", "is started");
+    registered(&reg, sizeof reg, none);
+    check_numbers_taken(reg);
+    check_other_registers(reg);
+    check_stray_answer(&reg);
+}
+
 static void check_spoilt(void)
 {
     for (size_t i = 0; i < COUNT_OF(samples); i++)
         spoil(samples[i].text, samples[i].sheet);
     check_rare();
+    check_registers();
     for (size_t i = 0; i < causes.count; i++)
         check(seen_cause[causes.numbers[i]],
               abo_tell_cause_constant(causes.numbers[i]), "was told of a file");
@@ -497,16 +641,22 @@ static void check_unknown(void)
 
 /* ---- verdicts ---- */
 
+static void check_verdict_of(const struct abo_finding *f, uint64_t language,
+                             struct abo_list answer, const char *due)
+{
+    char text[ABO_TELL_BYTES];
+    size_t len = abo_tell_verdict(language, &answer, f, text, sizeof text);
+    check(len == strlen(due) && strcmp(text, due) == 0, text,
+          "is what the sheet makes of the file");
+}
+
 static void check_verdict(uint64_t language, struct abo_list answer,
                           const char *due)
 {
     static const struct abo_finding f = {
         ABO_BAD_PAYER_BANK, ABO_CAUSE_PAYER_BANK, 2, 74, 4,
         ABO_FOUND_PAYER_BANK, 800, 800};
-    char text[ABO_TELL_BYTES];
-    size_t len = abo_tell_verdict(language, &answer, &f, text, sizeof text);
-    check(len == strlen(due) && strcmp(text, due) == 0, text,
-          "is what the sheet makes of the file");
+    check_verdict_of(&f, language, answer, due);
 }
 
 static void check_verdicts(void)
@@ -515,6 +665,9 @@ static void check_verdicts(void)
                                  warned = {16, 0, 0, 12, 0},
                                  refused = {0, 1, 1, 0, 4},
                                  no_sheet = {1, 0, 0, 0, 0};
+    static const struct abo_finding taken = {
+        ABO_NUMBER_USED, ABO_CAUSE_NUMBER_TAKEN, 2, 67, 6, ABO_FOUND_NUMBER, 3,
+        999};
     check_verdict(ABO_ENGLISH, accepted, "accepted, warnings 1");
     check_verdict(ABO_CZECH, accepted, "přijato, varování: 1");
     check_verdict(ABO_ENGLISH, warned, "accepted, warnings 12");
@@ -525,6 +678,10 @@ static void check_verdicts(void)
     check_verdict(ABO_ENGLISH, no_sheet,
                   "the sheet is none of K, S, C, E and P (1)");
     check_verdict(ABO_CZECH, no_sheet, "list není žádný z K, S, C, E a P (1)");
+    check_verdict_of(&taken, ABO_ENGLISH, refused,
+                     "refused (22) at line 2, the account file's number");
+    check_verdict_of(&taken, ABO_CZECH, refused,
+                     "odmítnuto (22) na řádku 2, číslo účetního souboru");
 }
 
 /* ---- rows that are not written ---- */
@@ -621,7 +778,7 @@ int main(int argc, char **argv)
         return 2;
     }
     check_known(&fields, argv[1], 27);
-    check_known(&causes, argv[1], 44);
+    check_known(&causes, argv[1], 47);
     check_say_in();
     check_spoilt();
     check_longest();
