@@ -1,7 +1,9 @@
 /*
  * The boundary that no proof crosses: the order of a call's arguments and the places of an answer's fields, as C sees them.  Each call is
  * made with arguments that all differ, and each word of its answer is looked up at its offset and held against what the second program
- * answers.  That the arguments tell each other apart is tested too: the second program answers otherwise where two are exchanged.
+ * answers.  That the arguments tell each other apart is tested too: the second program answers otherwise where two are exchanged.  A file that a
+ * register does not refuse is held against the second program's reading; where a register's marks lie and what its calls answer stands here
+ * as it was worked out by hand.
  */
 #include <stdbool.h>
 #include <stdio.h>
@@ -25,9 +27,9 @@ static uint64_t word_at(const void *from, size_t offset)
 }
 
 /* Which words of each kind of answer were anything but 0. */
-enum kind { ANSWER, WRITTEN, TEXT, FOUND, STATEMENT, LIST, KINDS };
+enum kind { ANSWER, WRITTEN, TEXT, FOUND, STATEMENT, LIST, REGISTER, KINDS };
 enum { MOST_WORDS = 10 };
-static const size_t words_of[KINDS] = {10, 4, 2, 3, 5, 5};
+static const size_t words_of[KINDS] = {10, 4, 2, 3, 5, 5, 2};
 static bool seen[KINDS][MOST_WORDS];
 
 static void check_words(enum kind kind, const char *what, const void *answer, const uint64_t *due)
@@ -202,6 +204,81 @@ static void check_lines(void)
     free(l.list);
 }
 
+/* ---- The register ---- */
+
+enum { DATE = 20171231, BEHIND = 5, LENT = ABO_REGISTER_BYTES + BEHIND };
+
+/* Lent bytes that begin with a register of the accepted file's date: number 003 is marked, and 008, the file's own, if asked for. */
+static void make_register(uint8_t lent[LENT], uint64_t date, bool used)
+{
+    memset(lent, 0xa5, LENT);
+    memset(lent, 0, ABO_REGISTER_BYTES);
+    for (size_t i = 0; i < 8; i++)
+        lent[i] = (uint8_t)(date >> 8 * i);
+    lent[8] = 1 << 3;
+    lent[9] = used ? 1 : 0;
+}
+
+/* What reading against a register answers and leaves: the second program's reading, or a refusal at a place. */
+static void check_registered(const char *what, uint64_t sheet, uint64_t today, size_t room, bool used, const uint64_t refusal[3])
+{
+    static uint8_t out[ROOM], due_out[ROOM];
+    uint8_t lent[LENT], due_lent[LENT];
+    memset(out, 0xa5, sizeof out);
+    memset(due_out, 0xa5, sizeof due_out);
+    make_register(lent, DATE, used);
+    struct abo_answer a =
+        abo_read_registered((const uint8_t *)accepted, sizeof accepted - 1, sheet, today, out, room, lent, sizeof lent);
+    struct peer_answer p = {0};
+    if (refusal == NULL)
+        p = peer_read((const uint8_t *)accepted, sizeof accepted - 1, sheet, today, due_out, room);
+    const uint64_t due[] = {refusal ? refusal[0] : p.number, refusal ? refusal[1] : p.line, refusal ? refusal[2] : p.byte,
+                            p.rows,        p.warnings,    p.needed,
+                            p.header.date, p.header.client, p.header.from, p.header.to};
+    make_register(due_lent, DATE, used || (p.number == ABO_ACCEPTED && refusal == NULL));
+    check_words(ANSWER, what, &a, due);
+    check(memcmp(out, due_out, sizeof out) == 0, what, "the rows are the second program's");
+    check(memcmp(lent, due_lent, sizeof lent) == 0, what, "the register has the file's mark exactly if it is accepted");
+}
+
+static void check_reading_registered(void)
+{
+    static const uint64_t taken[] = {ABO_NUMBER_USED, 2, 59 + 7};
+    check_registered("a file against a register", ABO_SHEET_K, 20180101, ROOM, false, NULL);
+    check_registered("a file against a register, with no room", ABO_SHEET_K, 20180101, 2 * ABO_ROW_BYTES, false, NULL);
+    check_registered("a file of another sheet against a register", ABO_SHEET_S, 20180101, ROOM, true, NULL);
+    check_registered("a day in the sheet's place, with a register", 20180101, ABO_SHEET_K, ROOM, true, NULL);
+    check_registered("a file whose number is used", ABO_SHEET_K, 20180101, ROOM, true, taken);
+}
+
+static void check_register_answer(const char *what, struct abo_register_answer a, uint64_t number, uint64_t value)
+{
+    const uint64_t due[] = {number, value};
+    check_words(REGISTER, what, &a, due);
+}
+
+/* The number that is given back, the count of bytes and the date all differ, so that none is taken for another. */
+static void check_registers(void)
+{
+    uint8_t lent[LENT], due_lent[LENT];
+    make_register(lent, DATE, true);
+    check_register_answer("the lowest free number", abo_register_lowest(lent, sizeof lent), ABO_ACCEPTED, 0);
+    check_register_answer("how many are free", abo_register_free(lent, sizeof lent), ABO_ACCEPTED, 998);
+    check_register_answer("a number that is not marked", abo_register_give_back(lent, sizeof lent, sizeof lent), ABO_NOT_TAKEN, 0);
+    make_register(due_lent, DATE, false);
+    check_register_answer("a number given back", abo_register_give_back(lent, sizeof lent, 8), ABO_ACCEPTED, 0);
+    check(memcmp(lent, due_lent, sizeof lent) == 0, "a number given back", "is free again, and nothing else is changed");
+    check_register_answer("a day without room", abo_register_start(DATE, lent, BEHIND), ABO_NO_ROOM, ABO_REGISTER_BYTES);
+    check_register_answer("a day in the room's place", abo_register_start(LENT, lent, sizeof lent), ABO_BAD_TODAY, 0);
+    check(memcmp(lent, due_lent, sizeof lent) == 0, "a day that is not started", "changes nothing");
+    make_register(due_lent, 20180203, false);
+    due_lent[8] = 0;
+    check_register_answer("a day", abo_register_start(20180203, lent, sizeof lent), ABO_ACCEPTED, 0);
+    check(memcmp(lent, due_lent, sizeof lent) == 0, "a day", "is stored in the first bytes");
+    lent[8] = 0xff;
+    check_register_answer("the lowest free number behind eight", abo_register_lowest(lent, sizeof lent), ABO_ACCEPTED, 8);
+}
+
 /* ---- Statements ---- */
 
 static uint8_t statement[SMALL_FILE]; /* as the second program writes it */
@@ -273,6 +350,8 @@ int main(void)
     check_findings("findings on another day", ABO_SHEET_K, 20180103, 4 * ABO_FINDING_BYTES);
     check_findings("a day in the sheet's place of findings", 20180101, ABO_SHEET_K, 4 * ABO_FINDING_BYTES);
     check_lines();
+    check_reading_registered();
+    check_registers();
     check_statements();
     check_all_seen();
     return last_line();
