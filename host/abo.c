@@ -1,5 +1,6 @@
 /*
- * The command-line tool over the library: checks, rewrites, shows and explains ABO (.kpc) payment files, and shows statements.
+ * The command-line tool over the library: checks, rewrites, shows and explains ABO (.kpc) payment files, keeps the register of a day's numbers,
+ * and shows statements.
  * `abo help` prints how it is used (host/abo/help.c).
  */
 #include <inttypes.h>
@@ -11,6 +12,8 @@
 #include "abo/arguments.h"
 #include "abo/help.h"
 #include "abo/json.h"
+#include "abo/register_command.h"
+#include "abo/registered.h"
 #include "abo/rewriting.h"
 #include "abo/sheets_table.h"
 #include "abo/statement_command.h"
@@ -29,18 +32,27 @@ static enum status trouble(const char *sentence)
     return TROUBLE;
 }
 
-/* With no room lent, the library says 16 and how many rows a file that it accepts has. */
+static struct abo_answer read_into(const struct job *j, union abo_row *rows, size_t count)
+{
+    const struct arguments *a = j->ask;
+    if (j->reg == NULL)
+        return abo_read_rows(j->file.bytes, j->file.len, a->sheet, a->today, rows, count);
+    return abo_read_registered(j->file.bytes, j->file.len, a->sheet, a->today, (uint8_t *)rows, count * sizeof *rows,
+                               j->reg->lent.bytes, j->reg->lent.len);
+}
+
+/* With no room lent, the library says 16 and how many rows a file that it accepts has; nothing is marked by that. */
 static bool judge(struct job *j)
 {
     say_progress(&j->file, "abo", "judging");
-    j->answer = abo_read_rows(j->file.bytes, j->file.len, j->ask->sheet, j->ask->today, NULL, 0);
+    j->answer = read_into(j, NULL, 0);
     if (j->answer.number == ABO_NO_ROOM) {
         bool fits = j->answer.needed <= SIZE_MAX / sizeof *j->rows;
         size_t count = (size_t)j->answer.needed;
         j->rows = fits ? malloc(count * sizeof *j->rows) : NULL;
         if (j->rows == NULL)
-            return false;
-        j->answer = abo_read_rows(j->file.bytes, j->file.len, j->ask->sheet, j->ask->today, j->rows, count);
+            return trouble("There is not enough memory for the file's rows."), false;
+        j->answer = read_into(j, j->rows, count);
     }
     end_progress();
     return true;
@@ -58,7 +70,8 @@ static const char *name_of(const struct job *j)
 
 static enum status refused(const struct job *j, FILE *to)
 {
-    print_refusal(to, j->ask->language, name_of(j), &j->file, j->ask->sheet, j->ask->today, &j->answer);
+    const struct input *reg = j->reg != NULL ? &j->reg->lent : NULL;
+    print_refusal(to, j->ask->language, name_of(j), &j->file, j->ask->sheet, j->ask->today, &j->answer, reg);
     return REFUSED;
 }
 
@@ -88,16 +101,27 @@ static enum status print_accepted(const struct job *j)
     return strictly(j);
 }
 
-/* Lists what is found: one refusal, or as many warnings as reading counted. */
-static bool list_findings(struct job *j)
+static bool list_so_many(struct job *j, uint64_t count)
 {
-    uint64_t count = j->answer.number != ABO_ACCEPTED ? 1 : j->answer.warnings;
     bool fits = count < SIZE_MAX / sizeof *j->findings;
+    free(j->findings);
     j->findings = fits ? malloc((size_t)(count + 1) * sizeof *j->findings) : NULL; /* never room of no bytes */
     if (j->findings == NULL)
         return false;
     j->list = abo_findings_of(j->file.bytes, j->file.len, j->ask->sheet, j->ask->today, j->findings, (size_t)count);
-    return j->list.number == ABO_ACCEPTED;
+    return true;
+}
+
+/* Lists what is found: one refusal, or as many warnings as reading counted; or those of a file that the register alone refuses. */
+static bool list_findings(struct job *j)
+{
+    bool listed = list_so_many(j, j->answer.number != ABO_ACCEPTED ? 1 : j->answer.warnings);
+    if (listed && j->list.number == ABO_NO_ROOM)
+        listed = list_so_many(j, j->list.needed);
+    if (!listed || j->list.number != ABO_ACCEPTED)
+        return false;
+    list_registered(j);
+    return true;
 }
 
 static enum status no_list(void)
@@ -144,6 +168,8 @@ static enum status check(struct job *j)
     if (j->ask->sheet == 0)
         return check_by_all(j);
     enum status status = j->answer.number == ABO_ACCEPTED ? check_accepted(j) : refused(j, stdout);
+    if (status != TROUBLE)
+        print_registered(stdout, j);
     if (j->ask->all_sheets && status != TROUBLE)
         print_sheets_table(stdout, j);
     return status;
@@ -181,11 +207,28 @@ static enum status rewrite(struct job *j)
     return j->answer.number == ABO_ACCEPTED ? rewrite_accepted(j) : refused(j, stderr);
 }
 
-/* A statement is judged by no sheet, so that command has no job. */
+/* A statement and a register are judged by no sheet, so these commands have no job. */
 static const struct command {
     const char *name;
     enum status (*run)(struct job *);
-} commands[] = {{"check", check}, {"rewrite", rewrite}, {"show", show}, {"explain", explain}, {"statement", NULL}};
+    enum status (*alone)(const struct arguments *);
+} commands[] = {{"check", check, NULL},     {"rewrite", rewrite, NULL},         {"show", show, NULL},
+                {"explain", explain, NULL}, {"statement", NULL, run_statement}, {"register", NULL, run_register}};
+
+static bool fits_register(const struct command *c, const struct arguments *a)
+{
+    if (a->date_word != NULL || a->again)
+        return misused("Only register start takes ", a->again ? "--again" : "--date", ".");
+    if (a->register_name == NULL)
+        return true;
+    if (c->run != check)
+        return misused("Only check takes ", "--register", ".");
+    if (a->all_sheets)
+        return misused("A register is looked at by sheet K alone, so --register does not go with ", "--all-sheets", ".");
+    if (strcmp(a->register_name, "-") == 0)
+        return misused("A register is replaced where it stands, so it cannot be standard input, ", "-", ".");
+    return true;
+}
 
 /* What only some commands take. */
 static bool fits(const struct command *c, const struct arguments *a)
@@ -222,10 +265,11 @@ static bool complete(const struct arguments *a)
 
 static enum status run_on(const struct command *c, const struct arguments *a, const char *name)
 {
-    struct job j = {.ask = a, .name = name};
+    struct register_file reg;
+    struct job j = {.ask = a, .name = name, .reg = looks_at_register(a) ? &reg : NULL};
     enum status status = TROUBLE;
-    if (read_whole(&j.file, "abo", name))
-        status = judge(&j) ? c->run(&j) : trouble("There is not enough memory for the file's rows.");
+    if (read_whole(&j.file, "abo", name) && (j.reg != NULL ? judge_against_register(&j, judge) : judge(&j)))
+        status = c->run(&j);
     free(j.findings);
     free(j.rows);
     free(j.file.bytes);
@@ -243,9 +287,9 @@ static enum status run(const struct command *c, char **arguments)
         print_help();
         return ACCEPTED;
     }
-    if (c->run == NULL)
-        return run_statement(&a);
-    if (!fits(c, &a) || !complete(&a))
+    if (c->alone != NULL)
+        return c->alone(&a);
+    if (!fits(c, &a) || !fits_register(c, &a) || !complete(&a))
         return TROUBLE;
     for (size_t i = 0; i < a.count; i++) {
         enum status status = run_on(c, &a, a.files[i]);

@@ -93,7 +93,7 @@ static enum status read_file(const struct arguments *a, const char *name,
     enum status status = answer.number == ABO_ACCEPTED ? DONE : REFUSED;
     if (status != DONE)
         print_refusal(stderr, ABO_ENGLISH, name, file, a->sheet, a->day,
-                      &answer);
+                      &answer, NULL);
     else if (a->paid != NULL)
         status = show_left(a, out, rows, (size_t)answer.rows);
     else

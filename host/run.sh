@@ -18,7 +18,7 @@ if [ -z "$run" ]; then files=150000 step=1 times=1; else files=4000 step=5 times
 files=${FILES:-$files}
 seed=${SEED:-1}
 step=${STEP:-$step}
-all='header boundary statement_samples api installed first_run demo_test letters_test output_test abo_test tell_test orderbook_test corpus stack attack compare_read compare_write compare_explain compare_line compare_statement compare_many'
+all='header boundary statement_samples api installed first_run demo_test letters_test output_test abo_test tell_test register_test orderbook_test corpus stack attack compare_read compare_write compare_explain compare_line compare_statement compare_many'
 
 program() { # NAME ARG ..: builds a test that is a program, and runs it
     build_test "$1" || return
@@ -34,7 +34,7 @@ run_test() { # NAME
     demo_test) sh host/demo_test.sh ;;
     letters_test) build_test native/letters_test && "$build/native/letters_test" ;;
     output_test) sh host/common/output_test.sh ;;
-    abo_test | tell_test) sh "host/abo/$1.sh" ;;
+    abo_test | tell_test | register_test) sh "host/abo/$1.sh" ;;
     orderbook_test) sh host/orderbook/orderbook_test.sh ;;
     compare_many) sh host/compare/compare_many_test.sh "$((files * times))" "$seed" ;;
     boundary) program boundary ;;

@@ -719,7 +719,7 @@ for word in help --help -h 'check --help'; do
     # shellcheck disable=SC2086
     tell $word
     check "abo $word: the status is 0" [ "$status" -eq 0 ]
-    for told in 'exit status is 0' 'abo check' 'abo rewrite' 'abo show' 'abo explain' 'abo statement' '--sheet SHEET' '--day DAY'; do
+    for told in 'exit status is 0' 'abo check' 'abo rewrite' 'abo show' 'abo explain' 'abo statement' 'abo register' '--sheet SHEET' '--day DAY' '--register REG'; do
         check "abo $word tells '$told'" grep -q -e "$told" "$work/out"
     done
 done
@@ -738,7 +738,9 @@ check "the page's version" grep -q "^\.TH ABO 1 [0-9-]* \"$(cat "$work/out")\"" 
 for option in $(grep -oE -e '(^| |\[)--?[a-z][a-z-]*' "$work/help" | tr -d ' [' | sort -u); do
     check "the page has $option" grep -qE -e "(^| )$option( |\$)" "$work/man"
 done
-for command in check show explain rewrite statement; do check "the page has $command" grep -qx "\.B abo $command" "$work/man"; done
+for command in check show explain rewrite statement 'register start' 'register lowest' 'register free' 'register give-back'; do
+    check "the page has $command" grep -qx "\.B abo $command" "$work/man"
+done
 grep -oE ' [KSCEP]  [0-9]{4}  .*' "$work/help" | sed 's/^ \(.\)  [0-9]*/\1/' | while read -r letter bank; do
     grep -qE "^$letter  [1-5]  [0-9]{4}  $bank\$" "$work/man" || echo "$letter $bank"
 done >"$work/lacking"

@@ -41,6 +41,8 @@ static bool take_option(struct arguments *a, char ***at)
     const struct option options[] = {
         {"--sheet", NULL, &a->sheet_word},
         {"--day", NULL, &a->day_word},
+        {"--date", NULL, &a->date_word},
+        {"--register", NULL, &a->register_name},
         {"--lang", NULL, &a->lang_word},
         {"-o", NULL, &a->out},
         {"--strict", &a->strict, NULL},
@@ -49,6 +51,7 @@ static bool take_option(struct arguments *a, char ***at)
         {"--csv", &a->csv, NULL},
         {"--all-sheets", &a->all_sheets, NULL},
         {"--json", &a->json, NULL},
+        {"--again", &a->again, NULL},
     };
     const char *word = **at;
     for (size_t i = 0; i < sizeof options / sizeof *options; i++) {
@@ -71,11 +74,20 @@ static bool take_option(struct arguments *a, char ***at)
 }
 
 /* Whether a day is real is for the library to say. */
+static bool take_day(uint64_t *day, const char *word)
+{
+    char behind[160];
+    *day = word != NULL ? day_named(word) : 0;
+    if (word == NULL || *day != 0)
+        return true;
+    snprintf(behind, sizeof behind, " is not spelled as in %s.", days_are);
+    return misused("The day ", word, behind);
+}
+
 static bool take_words(struct arguments *a)
 {
     char behind[160];
     a->sheet = a->sheet_word != NULL ? sheet_named(a->sheet_word) : 0;
-    a->today = a->day_word != NULL ? day_named(a->day_word) : 0;
     if (a->lang_word == NULL)
         a->language = language_of_locale();
     else if (!language_named(&a->language, a->lang_word))
@@ -84,11 +96,7 @@ static bool take_words(struct arguments *a)
         snprintf(behind, sizeof behind, " is none of %s.", sheets_are);
         return misused("The sheet ", a->sheet_word, behind);
     }
-    if (a->day_word != NULL && a->today == 0) {
-        snprintf(behind, sizeof behind, " is not spelled as in %s.", days_are);
-        return misused("The day ", a->day_word, behind);
-    }
-    return true;
+    return take_day(&a->today, a->day_word) && take_day(&a->date, a->date_word);
 }
 
 bool take_arguments(struct arguments *a, char **at)

@@ -7,12 +7,13 @@
 #include <stdint.h>
 
 struct arguments {
-    bool help, strict, accept_warnings, check, csv, all_sheets, json;
+    bool help, strict, accept_warnings, check, csv, all_sheets, json, again;
     char **files; /* `-` is standard input */
     size_t count;
-    const char *out;                    /* NULL: standard output */
-    const char *sheet_word, *day_word, *lang_word; /* as they were given; NULL: not given */
-    uint64_t sheet, today;                         /* YYYYMMDD, of any digits */
+    const char *out;           /* NULL: standard output */
+    const char *register_name; /* NULL: none */
+    const char *sheet_word, *day_word, *date_word, *lang_word; /* as they were given; NULL: not given */
+    uint64_t sheet, today, date;                               /* days as YYYYMMDD, of any digits */
     uint64_t language;                             /* enum abo_language: as given, or by the locale */
 };
 

@@ -103,6 +103,11 @@ void print_json(FILE *to, const struct job *j)
     put_name_of(to, "number_name", abo_say_constant(j->answer.number));
     put_number(to, "rows", j->answer.rows);
     put_number(to, "warnings", j->answer.warnings);
+    if (j->ask->register_name != NULL) {
+        fputs(",\"register\":", to);
+        put_text(to, j->ask->register_name);
+        put_number(to, "marked", j->marks);
+    }
     fputs(",\"findings\":[", to);
     for (uint64_t i = 0; i < j->list.count; i++) {
         if (i > 0)

@@ -6,8 +6,8 @@
 
 #include "rewriting.h"
 
-/* The file's name, sheet, day and number, its findings as numbers and as a sentence, and for each sheet whether it accepts it.  The
-   findings must have been listed. */
+/* The file's name, sheet, day and number, with --register how many of its numbers were marked there, its findings as numbers and as a
+   sentence, and for each sheet whether it accepts it.  The findings must have been listed. */
 void print_json(FILE *to, const struct job *j);
 
 #endif

@@ -4,6 +4,7 @@
 
 #include <abo.h>
 #include "../common/input.h"
+#include "../common/register_file.h"
 #include "arguments.h"
 
 /* The gravest comes last. */
@@ -18,6 +19,8 @@ struct job {
     union abo_row *rows;
     struct abo_list list;         /* of what was found, where it was asked for */
     struct abo_finding *findings; /* as many as the list counts */
+    struct register_file *reg;    /* that it is judged against; NULL if there is none */
+    uint64_t marks;               /* numbers that were marked in it for this file */
 };
 
 /* Writes the canonical spelling of a file that was accepted, without warnings or with --accept-warnings, and says on standard error

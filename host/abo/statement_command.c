@@ -19,6 +19,10 @@ static bool fits(const struct arguments *a)
         return misused("A statement is the same for every bank and day, so statement does not take ", no_sheet, ".");
     if (a->all_sheets || a->json)
         return misused("Only check takes ", a->all_sheets ? "--all-sheets" : "--json", ".");
+    if (a->register_name != NULL)
+        return misused("Only check takes ", "--register", ".");
+    if (a->date_word != NULL || a->again)
+        return misused("Only register start takes ", a->again ? "--again" : "--date", ".");
     if (a->lang_word != NULL)
         return misused("Statements are told in English alone, so statement does not take ", "--lang", ".");
     if (no_warning != NULL)

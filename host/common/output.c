@@ -76,11 +76,11 @@ bool same_file(const char *one, const char *other)
     return stat(one, &a) == 0 && stat(other, &b) == 0 && a.st_dev == b.st_dev && a.st_ino == b.st_ino;
 }
 
-/* Follows links by hand to a name that is none, which need not be there yet.  False with errno where there are too many. */
-static bool follow(const char *name, char target[NAME_ROOM])
+/* By hand, because the name need not be there yet. */
+bool follow_links(const char *name, char *target, size_t room)
 {
     char seen[NAME_ROOM];
-    if (snprintf(target, NAME_ROOM, "%s", name) >= PATH_MAX) {
+    if (snprintf(target, room, "%s", name) >= (int)room) {
         errno = ENAMETOOLONG;
         return false;
     }
@@ -91,7 +91,7 @@ static bool follow(const char *name, char target[NAME_ROOM])
         seen[len] = '\0';
         char *slash = strrchr(target, '/');
         size_t folder = seen[0] == '/' || slash == NULL ? 0 : (size_t)(slash - target) + 1;
-        if (folder + (size_t)len >= PATH_MAX) {
+        if (folder + (size_t)len >= room) {
             errno = ENAMETOOLONG;
             return false;
         }
@@ -256,7 +256,7 @@ static const char *write_named(const char *name, const uint8_t *bytes, size_t le
         return strerror(EISDIR);
     if (is_there && !S_ISREG(there.st_mode))
         return write_through(name, bytes, len);
-    if (!follow(name, m.target) || !may_write(m.target))
+    if (!follow_links(name, m.target, PATH_MAX) || !may_write(m.target))
         return strerror(errno);
     return replace(&m, bytes, len);
 }

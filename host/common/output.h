@@ -21,6 +21,10 @@ void guard_output(void);
 bool write_whole(const char *program, const char *name, const uint8_t *bytes,
                  size_t len);
 
+/* Where a file of this name is written: the name that its links lead to, which need not be there yet.  False with errno where there are too many
+   links, or the name has no room with its zero byte. */
+bool follow_links(const char *name, char *target, size_t room);
+
 /* Do both names lead to one file, by whatever way? */
 bool same_file(const char *one, const char *other);
 

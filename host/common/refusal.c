@@ -166,13 +166,22 @@ static void begin_sentence(FILE *to, uint64_t language, const char *name, const 
             f->line, column, f->byte);
 }
 
+/* What a register refuses is found by it, all else by the library's list. */
+static bool find(struct abo_finding *f, const struct input *file, uint64_t sheet, uint64_t today, const struct abo_answer *a,
+                 const struct input *reg)
+{
+    if (reg != NULL && abo_tell_registered(a, file->bytes, file->len, reg->bytes, reg->len, f))
+        return true;
+    struct abo_list list = abo_findings_of(file->bytes, file->len, sheet, today, f, 1);
+    return list.number == ABO_ACCEPTED && list.refused != 0;
+}
+
 /* What is found where a file is refused, and its clause.  The library always finds it; without, the number's own words do. */
 static struct abo_finding find_reason(char text[ABO_TELL_BYTES], uint64_t language, const struct input *file,
-                                      uint64_t sheet, uint64_t today, const struct abo_answer *a)
+                                      uint64_t sheet, uint64_t today, const struct abo_answer *a, const struct input *reg)
 {
     struct abo_finding f;
-    struct abo_list list = abo_findings_of(file->bytes, file->len, sheet, today, &f, 1);
-    if (list.number == ABO_ACCEPTED && list.refused != 0) {
+    if (find(&f, file, sheet, today, a, reg)) {
         abo_tell_reason(language, &f, file->bytes, file->len, sheet, today, text, ABO_TELL_BYTES);
         return f;
     }
@@ -189,7 +198,7 @@ static void show_line(FILE *to, uint64_t language, const struct input *file, con
 }
 
 void print_refusal(FILE *to, uint64_t language, const char *name, const struct input *file,
-                   uint64_t sheet, uint64_t today, const struct abo_answer *a)
+                   uint64_t sheet, uint64_t today, const struct abo_answer *a, const struct input *reg)
 {
     struct line l = line_of(file, a->line);
     char text[ABO_TELL_BYTES];
@@ -198,7 +207,7 @@ void print_refusal(FILE *to, uint64_t language, const char *name, const struct i
                 abo_say_number_in(language, a->number), a->number);
         return;
     }
-    struct abo_finding f = find_reason(text, language, file, sheet, today, a);
+    struct abo_finding f = find_reason(text, language, file, sheet, today, a, reg);
     begin_sentence(to, language, name, &f, (size_t)a->byte - l.at + 1);
     fprintf(to, "%s (%" PRIu64 ").\n", text, a->number);
     show_line(to, language, file, &l, a);

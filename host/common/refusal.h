@@ -11,9 +11,10 @@
 
 /* Tells an answer of abo_read that is neither 0 nor 16, as
        refused at line 2, column 15, byte 74: the payer's bank: this bank is not the sheet's; found "8100"; allowed: 0800 (8).
-   With `name` not NULL, the sentence begins with it as NAME:LINE:COLUMN.  `today` is the day that the file was judged on. */
+   With `name` not NULL, the sentence begins with it as NAME:LINE:COLUMN.  `today` is the day that the file was judged on, and `reg` the register
+   that it was read against by abo_read_registered; NULL if there was none. */
 void print_refusal(FILE *to, uint64_t language, const char *name, const struct input *file,
-                   uint64_t sheet, uint64_t today, const struct abo_answer *answer);
+                   uint64_t sheet, uint64_t today, const struct abo_answer *answer, const struct input *reg);
 
 /* Tells a warning of an accepted file in the same way, in a line: warning at line 3, column 8, byte 31: ... */
 void print_warning(FILE *to, uint64_t language, const char *name, const struct input *file,
