@@ -12,11 +12,22 @@
 #include "../common/output.h"
 
 /* Options with a value, and the ledger, which has no name. */
-enum option { SHEET, DAY, READ, PAID, ENCODING, OUT, LEDGER, OPTIONS };
+enum option {
+    SHEET,
+    DAY,
+    READ,
+    PAID,
+    ENCODING,
+    REGISTER,
+    OUT,
+    LEDGER,
+    OPTIONS
+};
 
 static const char *const names[] = {
     [SHEET] = "--sheet", [DAY] = "--day", [READ] = "--read",
-    [PAID] = "--paid", [ENCODING] = "--encoding", [OUT] = "-o",
+    [PAID] = "--paid", [ENCODING] = "--encoding", [REGISTER] = "--register",
+    [OUT] = "-o",
 };
 
 /* Words as they were given; NULL where none was. */
@@ -125,6 +136,7 @@ static bool understand(struct arguments *a, const struct given *g)
     a->from = g->word[g->word[READ] != NULL ? READ : LEDGER];
     a->out = g->word[OUT];
     a->paid = g->word[PAID];
+    a->reg = g->word[REGISTER];
     a->sheet = sheet_named(g->word[SHEET]);
     a->day = day_named(g->word[DAY]);
     a->encoding = IN_UTF_8;
@@ -138,6 +150,9 @@ static bool understand(struct arguments *a, const struct given *g)
     if (encoding != NULL && !encoding_named(encoding, &a->encoding))
         return mistake(encoding, "is no encoding of a ledger: it is utf-8 or "
                                  "cp1250", "");
+    if (a->reg != NULL && strcmp(a->reg, "-") == 0)
+        return mistake("--register -", "is no register: that is replaced where "
+                                       "it stands, and has a name", "");
     return true;
 }
 
@@ -150,15 +165,22 @@ static bool are_one(const char *from, const char *out)
            same_file(from, out);
 }
 
-/* By device and inode: a ledger has many names. */
-static bool spares_ledger(const struct arguments *a)
+/* By device and inode: a file has many names. */
+static bool spares(const struct arguments *a, const char *file,
+                   const char *why)
 {
-    static const char why[] =
-        "leads to the file that is read, which would be lost";
-    const char *from = strcmp(a->from, "-") == 0 ? "/dev/stdin" : a->from;
     if (a->out != NULL && strcmp(a->out, "-") != 0)
-        return !are_one(from, a->out) || mistake(a->out, why, "");
-    return !are_one(from, "/dev/stdout") || mistake("Standard output", why, "");
+        return !are_one(file, a->out) || mistake(a->out, why, "");
+    return !are_one(file, "/dev/stdout") || mistake("Standard output", why, "");
+}
+
+static bool spares_inputs(const struct arguments *a)
+{
+    const char *from = strcmp(a->from, "-") == 0 ? "/dev/stdin" : a->from;
+    return spares(a, from, "leads to the file that is read, which would be "
+                           "lost") &&
+           (a->reg == NULL ||
+            spares(a, a->reg, "leads to the register, which would be lost"));
 }
 
 bool to_standard(const struct arguments *a)
@@ -172,7 +194,7 @@ enum wish take_arguments(struct arguments *a, char **words)
     struct given g = {{NULL}};
     enum wish wish = take_words(&g, words);
     if ((wish == MAKE_FILE || wish == READ_FILE) &&
-        !(is_complete(&g) && understand(a, &g) && spares_ledger(a)))
+        !(is_complete(&g) && understand(a, &g) && spares_inputs(a)))
         return MISTAKE;
     return wish;
 }

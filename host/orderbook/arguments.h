@@ -13,6 +13,7 @@ struct arguments {
     const char *from; /* the ledger, or the file that is read */
     const char *out;  /* NULL for standard output */
     const char *paid; /* a statement; NULL if none is given */
+    const char *reg;  /* the register of the day's numbers, so too */
     uint64_t sheet, day;
     enum encoding encoding;
 };

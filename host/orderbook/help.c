@@ -7,7 +7,7 @@
 static const char usage[] =
     "orderbook " ABO_VERSION ": a ledger of wages and invoices becomes an ABO (.kpc) file for a bank\n"
     "\n"
-    "  orderbook LEDGER --sheet SHEET --day DAY [-o FILE] [--encoding ENCODING]\n"
+    "  orderbook LEDGER --sheet SHEET --day DAY [-o FILE] [--encoding ENCODING] [--register REGISTER]\n"
     "  orderbook --read FILE --sheet SHEET --day DAY [--paid STATEMENT]\n"
     "  orderbook --help, orderbook --version\n"
     "\n"
@@ -20,6 +20,9 @@ static const char usage[] =
     "DAY        the day on which the file is made and handed to the bank, as in 2026-11-15, 15.11.2026, 20261115 or today\n"
     "STATEMENT  what the bank sent back, GPC records 074 and 075: a payment has left if a debit has its payer, payee, amount and\n"
     "           variable symbol, and came back if a reversed debit has them too\n"
+    "REGISTER   on sheet K, the numbers that the day's files have used, as `abo register start` starts it: each account file takes\n"
+    "           the lowest free number of the ledger's interval as its first three digits, in the place of those that the ledger\n"
+    "           gives, and when FILE is written these numbers are marked. Other sheets do not look at it\n"
     "ENCODING   of the ledger: utf-8, which is taken if none is given, or cp1250 (also windows-1250). Banks read Windows-1250,\n"
     "           and that is what is written\n"
     "SHEET      the bank's rules, by letter in either case, by number 1 to 5, or by the bank's code, 0300 being C:\n"

@@ -1,7 +1,7 @@
 #!/bin/sh
 # The order book on the ledgers and bank files of host/ledger. What it says in a case and its exit status are those of CASE.expected,
 # and the file that it writes is CASE.kpc, byte by byte; where it refuses, it leaves no file. lines.expected has a ledger of a few lines in
-# each case, commands.expected a command line. The last line is 'N passed, M failed', and the exit status is 0 only if nothing failed.
+# each case, commands.expected a command line. Numbers are taken from registers of a day and marked there. The last line is 'N passed, M failed', and the exit status is 0 only if nothing failed.
 # host/target.sh names the variables.
 set -u
 # what the system says of faults is in English
@@ -10,7 +10,9 @@ export LC_ALL
 cd "$(dirname "$0")/../.." || exit 2
 . host/target.sh
 . host/tally.sh
-build_test orderbook references_test || exit 2
+packages="$packages python3"
+have python3
+build_test abo orderbook references_test || exit 2
 work=$build/ledger
 rm -rf "$work"
 mkdir -p "$work" || exit 2
@@ -235,7 +237,7 @@ for help in --help -h; do
     check "$help: nothing on standard error" [ ! -s "$work/err" ]
 done
 cp "$work/out" "$work/help"
-for word in --sheet --day --read --paid --encoding -o vs ks ss priority firm client interval payer file due wage invoice 8100 0800 0300 6100 \
+for word in --sheet --day --read --paid --encoding --register -o vs ks ss priority firm client interval payer file due wage invoice 8100 0800 0300 6100 \
     15.11.2026 20261115 today 20.11.2026; do
     check "the help names $word" grep -qw -e "$word" "$work/help"
 done
@@ -317,6 +319,121 @@ for wait in 0.00 0.02 0.04 0.08 0.16; do
     check "killed after $wait seconds: the output is the old file or the new one" whole
 done
 
+# ---- numbers of the day, by a register ----
+
+fresh
+reg=$folder/day.reg
+wide=$work/wide.txt
+sed 's/^interval .*/interval 000 999/' $cases/pond.txt >"$wide"
+numbered() { # INTERVAL ONE OTHER: the file of the pond's ledger with this interval and these first three digits
+    sed "1s/001002/$1/; s/^1 1501 001/1 1501 $2/; s/^1 1501 002/1 1501 $3/" $cases/pond_K.kpc >"$work/numbered.kpc"
+}
+marks() { # NUMBER ..: the register is of the day, with just these marks
+    said=$(python3 -c 'import sys
+b = open(sys.argv[1], "rb").read()
+print(int.from_bytes(b[:8], "little"), len(b), *("%03d" % n for n in range(1024) if b[8 + n // 8] >> n % 8 & 1))' "$reg")
+    [ "$said" = "20261115 136${1:+ $*}" ] || { echo "$said"; false; }
+}
+ordered() { # LEDGER ARG ..: the order book on the register, to new.kpc
+    ledger=$1
+    shift
+    rm -f "$folder/new.kpc"
+    cp "$reg" "$work/before.reg"
+    tell "$ledger" --sheet K --day "$day" -o "$folder/new.kpc" --register "$reg" "$@"
+}
+left_alone() { # WHAT STATUS SENTENCE: it ends so, says this first, makes no file and marks nothing
+    check "$1: the status is $2" [ "$status" -eq "$2" ]
+    check "$1: it says so" [ "$(head -n 1 "$work/err")" = "orderbook: $3" ]
+    check "$1: there is no file" [ ! -e "$folder/new.kpc" ]
+    check "$1: nothing is marked" cmp "$reg" "$work/before.reg"
+}
+"$build/abo" register start "$reg" --date "$day" >"$work/started"
+ordered $cases/pond.txt
+check 'a register: the status is 0' [ "$status" -eq 0 ]
+check 'a new register: the file is the one without' cmp $cases/pond_K.kpc "$folder/new.kpc"
+check 'a new register: what is said is the same, and what was marked' \
+    [ "$(cat "$work/out")" = "$(sed '$d' $cases/pond_K.expected)
+Marked in $reg: 2; 998 numbers are free on $day, the lowest is 000." ]
+check 'a new register: the file'"'"'s numbers are marked' marks 001 002
+"$build/abo" check "$folder/new.kpc" --sheet K --day "$day" --register "$reg" >"$work/out"
+check 'the tool finds them used' grep -q 'found "001001"; .* (22)\.$' "$work/out"
+ordered $cases/pond.txt
+left_alone 'no number is left in the interval' 1 \
+    "no number is left for this account file: $reg has no free one of 001 to 002, the ledger's interval, on $day."
+check 'no number is left: the ledger'"'"'s line is shown' [ "$(tail -n 3 "$work/err")" = "$cases/pond.txt, line 8:
+  file 1501 001001
+            ^~~~~~" ]
+"$build/abo" register give-back "$reg" 2 >"$work/started"
+ordered $cases/pond.txt
+left_alone 'one number for two account files' 1 \
+    "no number is left for this account file: $reg has no free one of 001 to 002, the ledger's interval, on $day."
+check 'one number for two account files: the second one'"'"'s line is shown' grep -qx "$cases/pond.txt, line 14:" "$work/err"
+ordered "$wide"
+numbered 000999 000 002
+check 'the lowest free numbers are taken' cmp "$work/numbered.kpc" "$folder/new.kpc"
+check 'the lowest free numbers are marked' marks 000 001 002
+check 'the table has them' grep -qx 'account file 1501 number 000001, payments' "$work/out"
+book "$wide" --sheet K --day "$day" --register "$reg" >"$work/out" 2>"$work/err"
+numbered 000999 003 004
+check 'to standard output' cmp "$work/numbered.kpc" "$work/out"
+check 'what was marked goes to standard error then' \
+    [ "$(tail -n 1 "$work/err")" = "Marked in $reg: 2; 995 numbers are free on $day, the lowest is 005." ]
+
+# the same as before where another sheet is asked for: the register is not opened
+chmod 000 "$reg"
+for sheet in S C E P; do
+    tell $cases/pond.txt --sheet $sheet --day "$day" -o "$folder/new.kpc" --register "$reg"
+    check "a register on $sheet: the file is the one without" cmp $cases/pond_$sheet.kpc "$folder/new.kpc"
+    check "a register on $sheet: it says so" [ "$status $(tail -n 1 "$work/out")" = "0 note: sheet $sheet has no register of numbers, so $reg was not looked at." ]
+done
+chmod 644 "$reg"
+check 'a register on other sheets: it is as it was' marks 000 001 002 003 004
+
+# what is refused marks nothing
+sed 's/^interval .*/interval 000 999/' $cases/bad_account.txt >"$work/account.txt"
+ordered "$work/account.txt"
+left_alone 'a ledger that is refused' 1 "$(sed -n '1s/^orderbook: //p' $cases/bad_account_K.expected)"
+sed 's/^interval .*/interval 009 005/' $cases/pond.txt >"$work/turned.txt"
+ordered "$work/turned.txt"
+left_alone 'an interval that is turned round' 1 "the interval's end 005 is not allowed on sheet K (8100 Komerční banka): it must be not below the interval's start, which is 009 (21, row 0, field 5)."
+sed 's/^interval .*/interval 009 1000/' $cases/pond.txt >"$work/turned.txt"
+ordered "$work/turned.txt"
+left_alone 'an interval that is too wide' 1 "the interval's end 1000 is not allowed: it must be 0 to 999 (20, row 0, field 5)."
+sed 's/^due 2026-11-20/dew 2026-11-20/' $cases/pond.txt >"$work/misread.txt"
+ordered "$work/misread.txt"
+check 'a line that is not known' [ "$status $(cmp "$reg" "$work/before.reg")" = '2 ' ]
+tell "$wide" --sheet K --day 2026-11-16 -o "$folder/new.kpc" --register "$reg"
+left_alone 'the register of another day' 1 \
+    "$reg is the register of 2026-11-15, and the file is made on 2026-11-16 (23). \`abo register start\` starts a day."
+head -c 135 "$reg" >"$folder/short"
+tell "$wide" --sheet K --day "$day" -o "$folder/new.kpc" --register "$folder/short"
+left_alone 'what is no register' 1 "$folder/short is not laid out as a register: it has 135 bytes, and a register has 136 (23)."
+check 'what is no register stays' [ "$(wc -c <"$folder/short") $(ls -A "$folder" | grep -c 'short')" = '135 1' ]
+for name in day.reg ../folder/day.reg; do
+    cp "$reg" "$work/before.reg"
+    tell "$wide" --sheet K --day "$day" -o "$folder/$name" --register "$reg"
+    check "-o $name is the register" [ "$status $(cat "$work/err")" = \
+        "2 orderbook: $folder/$name leads to the register, which would be lost. \`orderbook --help\` says how it is used." ]
+    check "-o $name: the register stands" cmp "$reg" "$work/before.reg"
+done
+book "$wide" --sheet K --day "$day" --register "$reg" >>"$reg" 2>"$work/err"
+check 'the end of the register is no output either' [ "$? $(cmp "$reg" "$work/before.reg")" = '2 ' ]
+tell "$wide" --sheet K --day "$day" -o "$folder" --register "$reg"
+check 'a file that cannot be written: nothing is marked' [ "$status $(cmp "$reg" "$work/before.reg")" = '2 ' ]
+
+# at once: each file has numbers of its own
+"$build/abo" register start "$reg" --date "$day" --again >"$work/started"
+count=0
+while [ $count -lt 10 ]; do
+    "$build/orderbook" "$wide" --sheet K --day "$day" -o "$work/at_once$count.kpc" --register "$reg" >"$work/said$count" 2>&1 &
+    count=$((count + 1))
+done
+wait
+check 'ten order books at once: each has two numbers of its own' \
+    [ "$(cat "$work"/at_once?.kpc | tr -d '\r' | sed -n 's/^1 1501 \(...\)001 8100$/\1/p' | sort -u | wc -l)" -eq 20 ]
+# shellcheck disable=SC2046
+check 'ten order books at once: all are marked' marks $(seq -f %03g 0 19)
+
 # a file that may not be written to; root may, so another user tries
 mine=$(mktemp -d) || exit 2
 trap 'chmod -R u+w "$mine" && rm -rf "$mine"' EXIT
@@ -335,5 +452,33 @@ check 'a file that is not to be written to: the status' [ $? -eq 2 ]
 check 'a file that is not to be written to: it says so' \
     [ "$(cat "$work/err")" = "orderbook: $mine/theirs/old.kpc could not be written whole: Permission denied." ]
 check 'a file that is not to be written to: it stands' [ "$(cat "$mine/theirs/old.kpc") $(ls -A "$mine/theirs")" = 'old old.kpc' ]
+
+# the file is written and the register is not: that is said, and how to mark the numbers; no byte is lost
+mkdir "$mine/registers"
+reg=$mine/registers/day.reg
+"$build/abo" register start "$reg" --date "$day" >"$work/started"
+chmod 666 "$reg"
+chmod 555 "$mine/registers"
+cp "$reg" "$work/before.reg"
+# shellcheck disable=SC2086
+as_other $run "$mine/orderbook" "$mine/led.txt" --sheet K --day "$day" -o "$mine/theirs/new.kpc" --register "$reg" >"$work/out" 2>"$work/err"
+check 'numbers that cannot be marked: the status' [ $? -eq 2 ]
+check 'numbers that cannot be marked: the file is whole' cmp $cases/pond_K.kpc "$mine/theirs/new.kpc"
+check 'numbers that cannot be marked: the register is as it was' cmp "$reg" "$work/before.reg"
+check 'numbers that cannot be marked: it says so' diff - "$work/err" <<END
+orderbook: $reg could not be written whole: no file can be made beside it (Permission denied).
+orderbook: the file is written, but its numbers are not marked in $reg. Before another file is made that day, \`abo check FILE --sheet K --day $day --register REGISTER\` has to mark them.
+END
+chmod 755 "$mine/registers"
+"$build/abo" check "$mine/theirs/new.kpc" --sheet K --day "$day" --register "$reg" >"$work/out"
+check 'numbers that cannot be marked: so they are' marks 001 002
+chmod 444 "$reg"
+rm "$mine/theirs/new.kpc"
+# shellcheck disable=SC2086
+as_other $run "$mine/orderbook" "$mine/led.txt" --sheet K --day "$day" -o "$mine/theirs/new.kpc" --register "$reg" >"$work/out" 2>"$work/err"
+check 'a register that is not to be written to: the status' [ $? -eq 2 ]
+check 'a register that is not to be written to: no file is made' [ ! -e "$mine/theirs/new.kpc" ]
+check 'a register that is not to be written to: it says so' \
+    [ "$(cat "$work/err")" = "orderbook: $reg cannot be read and written: Permission denied." ]
 
 last_line

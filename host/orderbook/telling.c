@@ -357,3 +357,15 @@ void tell_unwritten(const struct order *o, const struct ledger *l,
             w.number, w.row, w.field);
     show_in_ledger(o, l, shown_of(l, w, at));
 }
+
+void tell_no_number(const struct order *o, const struct ledger *l,
+                    uint64_t row, const char *reg)
+{
+    fputs("orderbook: no number is left for this account file: ", stderr);
+    put_name(stderr, reg);
+    fprintf(stderr, " has no free one of %03" PRIu64 " to %03" PRIu64 ", the "
+                    "ledger's interval, on ", l->header.from, l->header.to);
+    put_day(stderr, o->today);
+    fputs(".\n", stderr);
+    show_in_ledger(o, l, shown_at(l, ledger_span(l, row, ABO_FILE_NUMBER)));
+}

@@ -18,4 +18,9 @@ void tell_misread(const struct order *o, const struct ledger *l);
 void tell_unwritten(const struct order *o, const struct ledger *l,
                     struct abo_written w);
 
+/* An account file, by its row from 1, for which the register of this name has
+ * no free number. */
+void tell_no_number(const struct order *o, const struct ledger *l,
+                    uint64_t row, const char *reg);
+
 #endif
