@@ -1,6 +1,6 @@
 #!/bin/sh
-# The page docs/C-API.md against what it speaks of: its programs are host/api/example.c and host/api/example_statement.c word by word, which
-# compile and print what the page says, also of a batch or statement that is refused; its commands work as they stand; its names are in the headers, and their functions
+# The page docs/C-API.md against what it speaks of: its programs are host/api/example.c, example_register.c and example_statement.c beside it, word by
+# word, which compile and print what the page says, also of a batch or statement that is refused; its commands work as they stand; its names are in the headers, and their functions
 # in the page; the archive has no state. The last line is 'N passed, M failed', and the exit status is 0 only if nothing failed.
 # host/target.sh names the variables.
 set -u
@@ -48,12 +48,21 @@ by_the_page() { # the page's commands, in a folder of their own that has its pro
     (cd "$work/by_hand" && sh -eu link.sh) >"$work/printed" && tr -d '\r' <"$work/printed" | diff "$work/said" -
 }
 
-of_statements() { # the page's second program, of a statement that is accepted and of one that is refused
+of_statements() { # the page's program of statements, of one that is accepted and of one that is refused
     # shellcheck disable=SC2086
     $cc -std=c99 -O2 $strict -pedantic -Iinclude $static -o "$work/of_statements" host/api/example_statement.c include/abo_say.c "$lib" &&
         $run "$work/of_statements" <host/statements/pond.gpc | diff "$work/said_statement" - &&
         ! $run "$work/of_statements" <host/statements/document_003.gpc 2>"$work/told" >"$work/printed" &&
         diff "$work/said_statement_refused" "$work/told" && [ ! -s "$work/printed" ]
+}
+
+of_a_day() { # the page's program of a register, of a file that is accepted, and of one that is refused for another reason
+    # shellcheck disable=SC2086
+    $cc -std=c99 -O2 $strict -pedantic -Iinclude $static -o "$work/of_a_day" host/api/example_register.c include/abo_tell.c \
+        include/abo_say.c "$lib" &&
+        $run "$work/of_a_day" <host/ledger/pond_K.kpc | diff "$work/said_register" - &&
+        ! $run "$work/of_a_day" <host/ledger/bad_total.kpc >"$work/printed" &&
+        [ "$(cut -d : -f 1 "$work/printed")" = 'Refused at line 10' ]
 }
 
 symbols() { # TYPES: names of this archive that nm gives one of these types
@@ -73,6 +82,8 @@ block printed >"$work/said"
 block refused >"$work/said_refused"
 block example_statement.c >"$work/shown_statement.c"
 block 'statement printed' >"$work/said_statement"
+block example_register.c >"$work/shown_register.c"
+block 'register printed' >"$work/said_register"
 block 'statement refused' >"$work/said_statement_refused"
 sed 's/}, 800, /}, 0, /' host/api/example.c >"$work/spoilt.c"
 check "the page's program is host/api/example.c" diff host/api/example.c "$work/shown.c"
@@ -83,8 +94,10 @@ done
 check "the example without a payee's bank" compile c99 "$work/spoilt.c"
 check "the example without a payee's bank says what the page says" refused
 check "the page's commands work" by_the_page
-check "the page's second program is host/api/example_statement.c" diff host/api/example_statement.c "$work/shown_statement.c"
-check "the page's second program prints what the page says" of_statements
+check "the page's program of a register is host/api/example_register.c" diff host/api/example_register.c "$work/shown_register.c"
+check "the page's program of a register prints what the page says" of_a_day
+check "the page's program of statements is host/api/example_statement.c" diff host/api/example_statement.c "$work/shown_statement.c"
+check "the page's program of statements prints what the page says" of_statements
 check "the archive has no state and calls nothing but memcpy and memset" no_state
 # names of files apart
 for name in $(sed 's/[a-z_]*\.[ch]//g' "$page" | grep -oE '\b(ABO|abo)_[A-Za-z0-9_]+' | sort -u); do
