@@ -64,7 +64,7 @@ enum abo_sheet {
 enum abo_number {
     ABO_ACCEPTED = 0,        /* the file was read, or written, whole */
     ABO_BAD_SHEET = 1,       /* the sheet is none of 1 to 5 */
-    ABO_BAD_TODAY = 2,       /* today is no real day of 2000 to 2099 */
+    ABO_BAD_TODAY = 2,       /* today, or the date that a register is started for, is no real day of 2000 to 2099 */
     ABO_BAD_ORDER = 3,       /* another kind of line is due, the file ends early, or lines follow its end */
     ABO_BAD_FIELD = 4,       /* wrong bytes or length of a field, or a wrong divider */
     ABO_BAD_ACCOUNT = 5,     /* an account breaks the account rule */

@@ -75,7 +75,8 @@ against='--sheet K --day 2018-01-03 --register day.reg'
 
 says 'no register yet' 2 '' 'abo: day.reg cannot be read: No such file or directory.
 abo: `abo register start` starts the register of a day.' register lowest day.reg
-check 'a question leaves nothing beside it' [ "$(ls day.reg* 2>&1 | grep -c '^day')" -eq 0 ]
+check 'a question makes no register' [ ! -e day.reg ]
+check 'a question makes no lock' [ ! -e day.reg.lock ]
 says 'a day is started' 0 'started day.reg; 1000 numbers are free on 2018-01-02, the lowest is 000' '' \
     register start day.reg --date 2018-01-02
 check 'a started register' holds day.reg 20180102
@@ -430,6 +431,10 @@ sleep 0.3
 kill -9 $killed
 wait $killed 2>err
 check 'one that is killed while it waits says nothing and marks nothing' [ "$(cat killed; cmp day.reg empty.reg)" = '' ]
+if command -v script >/dev/null; then
+    timeout 2 script -qec "$build/abo check two.kpc $against" /dev/null </dev/null >terminal 2>&1
+    check 'on a terminal one is told what it waits for' grep -q '^abo: waiting for another program that uses the register\.' terminal
+fi
 echo >go
 wait $holder
 wait $waiter

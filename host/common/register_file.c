@@ -85,7 +85,7 @@ void let_go_register(struct register_file *r)
 
 /* ---- reading and replacing ---- */
 
-/* A register that was never started is no fault of the clerk's who is told how. */
+/* Who has none yet is told how a day is started. */
 static bool not_there(const struct register_file *r)
 {
     fails(r, "cannot be read", strerror(ENOENT));
@@ -95,27 +95,25 @@ static bool not_there(const struct register_file *r)
     return false;
 }
 
-/* All of a register's bytes; what is shorter or longer is none, and none of it is lent. */
+/* A file of a register's length is read; what is shorter or longer is none, and none of it is lent. */
 static bool take_bytes(struct register_file *r, int from)
 {
     struct stat there;
     size_t count = 0;
-    ssize_t got = 1;
+    ssize_t got = 0;
     if (fstat(from, &there) != 0)
         return fails(r, "cannot be read", strerror(errno));
     if (!S_ISREG(there.st_mode))
         return fails(r, "cannot be read", "it is no ordinary file");
     r->found = (uint64_t)there.st_size;
-    while (r->found == sizeof r->bytes && got > 0 && count < sizeof r->bytes) {
-        got = read(from, r->bytes + count, sizeof r->bytes - count);
-        count += got > 0 ? (size_t)got : 0;
-    }
+    if (r->found != sizeof r->bytes)
+        return true;
+    while (count < sizeof r->bytes && (got = read(from, r->bytes + count, sizeof r->bytes - count)) > 0)
+        count += (size_t)got;
     if (got < 0)
         return fails(r, "cannot be read", strerror(errno));
-    if (r->found == sizeof r->bytes)
-        r->found = r->lent.len = count;
-    if (r->found != sizeof r->bytes)
-        r->lent.len = 0;
+    r->found = count; /* another program may have cut it meanwhile */
+    r->lent.len = count == sizeof r->bytes ? count : 0;
     return true;
 }
 
