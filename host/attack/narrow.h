@@ -5,7 +5,7 @@
 
 #include <stddef.h>
 
-enum { NARROW_STACK = 64 * 1024, NARROW_STACKS = 7 };
+enum { NARROW_STACK = 64 * 1024, NARROW_STACKS = 12 };
 
 /* Runs the work on one of the stacks and comes back.  It takes no argument,
    since a context takes no pointers; what it wants lies elsewhere. */

@@ -33,6 +33,12 @@ static inline struct abo_list list_of_peer(struct peer_list l)
     return (struct abo_list){l.number, l.refused, l.count, l.needed, l.sheets};
 }
 
+static inline struct abo_register_answer
+register_of_peer(struct peer_register_answer a)
+{
+    return (struct abo_register_answer){a.number, a.value};
+}
+
 static inline struct abo_statement_answer
 statement_of_peer(struct peer_statement_answer a)
 {

@@ -6,7 +6,8 @@
 
 const char *const call_names[CALLS] = {
     "read", "write", "explain", "line", "statement_read", "statement_write",
-    "findings",
+    "findings", "read_registered", "register_start", "register_lowest",
+    "register_free", "register_give_back",
 };
 
 struct outcome outcome_of_answer(const struct abo_answer *a)
@@ -68,6 +69,20 @@ struct outcome outcome_of_list(const struct abo_list *l)
     };
 }
 
+struct outcome outcome_of_register(const struct abo_register_answer *a)
+{
+    return (struct outcome){.number = a->number, .words = {a->value}};
+}
+
+/* Of the sheets K alone looks at it. */
+size_t register_written(const struct call *c, const struct outcome *o)
+{
+    bool changes =
+        c->which == STARTS || c->which == GIVES_BACK ||
+        (c->which == READS_REGISTERED && c->sheet == ABO_SHEET_K);
+    return changes && o->number == ABO_ACCEPTED ? ABO_REGISTER_BYTES : 0;
+}
+
 bool same_outcome(const struct outcome *a, const struct outcome *b)
 {
     return a->number == b->number &&
@@ -89,6 +104,13 @@ void give_header(struct call *c, const struct outcome *read)
     c->to = read->words[HEADER_WORDS + 3];
 }
 
+static void show_register(const struct call *c)
+{
+    printf("  date %llu given %llu\n", (unsigned long long)c->date,
+           (unsigned long long)c->given);
+    show_bytes("register", c->reg.bytes, c->reg.len);
+}
+
 void show_call(const struct call *c, size_t room, bool at_null)
 {
     printf("  abo_%s: sheet %llu today %llu room %zu%s line %llu\n",
@@ -104,6 +126,8 @@ void show_call(const struct call *c, size_t room, bool at_null)
         show_bytes("texts", c->texts.bytes, c->texts.len);
         show_bytes("name", c->name.bytes, c->name.len);
     }
+    if (takes_register(c->which))
+        show_register(c);
 }
 
 void show_outcome(const char *who, const struct outcome *o)

@@ -1,4 +1,4 @@
-/* Any of the seven calls and its answer as values, whoever is asked. */
+/* Any of the twelve calls and its answer as values, whoever is asked. */
 #ifndef HOST_CALL_H
 #define HOST_CALL_H
 
@@ -7,6 +7,7 @@
 
 enum which {
     READS, WRITES, EXPLAINS, FINDS, READS_STATEMENT, WRITES_STATEMENT, LISTS,
+    READS_REGISTERED, STARTS, ASKS_LOWEST, ASKS_FREE, GIVES_BACK,
     CALLS
 };
 extern const char *const call_names[CALLS];
@@ -16,16 +17,26 @@ struct slice {
     size_t len;
 };
 
+/* Bytes that hold something and that a call may change. */
+struct held {
+    uint8_t *bytes;
+    size_t len;
+};
+
 /* The arguments but for the room.  Texts, name and the four numbers are
    writing's, and its rows lie where the others have the file, as those of
    writing a statement do.  The line is that to be found, which takes no sheet,
-   day or room; statements take no sheet and day. */
+   day or room; statements take no sheet and day.  The register is lent to be
+   read against, and alone to the calls behind that: a day's start takes the
+   date, and a number is given back. */
 struct call {
     enum which which;
     struct slice file, texts, name;
     uint64_t date, client, from, to;
     uint64_t sheet, today;
     uint64_t line;
+    struct held reg;
+    uint64_t given;
 };
 
 /* The header's words are the last four. */
@@ -35,7 +46,8 @@ enum { HEADER_WORDS = 5, OUTCOME_WORDS = 9, NUMBERS = ABO_BAD_BALANCE + 1 };
    header's four numbers; writing's row, field and bytes, of statements too;
    explaining's bytes; of a line its place and length, and as the number 1 if it
    was found, else 0; of reading a statement line, byte, rows and needed; of a
-   list of findings refused, count, needed and sheets. */
+   list of findings refused, count, needed and sheets; of a register the
+   value. */
 struct outcome {
     uint64_t number, words[OUTCOME_WORDS];
     uint8_t name[ABO_NAME_BYTES];
@@ -51,6 +63,7 @@ struct outcome outcome_of_text(const struct abo_text *t);
 struct outcome outcome_of_found(const struct abo_found *f);
 struct outcome outcome_of_statement(const struct abo_statement_answer *a);
 struct outcome outcome_of_list(const struct abo_list *l);
+struct outcome outcome_of_register(const struct abo_register_answer *a);
 
 /* Does the call take rows in the place of a file; is it about a statement? */
 static inline bool takes_rows(enum which which)
@@ -62,6 +75,27 @@ static inline bool of_statement(enum which which)
 {
     return which == READS_STATEMENT || which == WRITES_STATEMENT;
 }
+
+/* Is a register lent; and nothing but a register, so that there is no room? */
+static inline bool takes_register(enum which which)
+{
+    return which >= READS_REGISTERED;
+}
+
+static inline bool of_register(enum which which)
+{
+    return which > READS_REGISTERED;
+}
+
+/* Is the register lent to be read only? */
+static inline bool asks_register(enum which which)
+{
+    return which == ASKS_LOWEST || which == ASKS_FREE;
+}
+
+/* How many of the register's bytes the call may have written: all of the
+   register, or none. */
+size_t register_written(const struct call *c, const struct outcome *o);
 
 bool same_outcome(const struct outcome *a, const struct outcome *b);
 bool same_header(const struct abo_header *a, const struct abo_header *b);

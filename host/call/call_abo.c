@@ -13,6 +13,21 @@ static struct outcome call_statement(const struct call *c, uint8_t *out,
     return outcome_of_written(&w);
 }
 
+static struct outcome call_register(const struct call *c)
+{
+    const struct held *r = &c->reg;
+    struct abo_register_answer a;
+    if (c->which == STARTS)
+        a = abo_register_start(c->date, r->bytes, r->len);
+    else if (c->which == ASKS_LOWEST)
+        a = abo_register_lowest(r->bytes, r->len);
+    else if (c->which == ASKS_FREE)
+        a = abo_register_free(r->bytes, r->len);
+    else
+        a = abo_register_give_back(r->bytes, r->len, c->given);
+    return outcome_of_register(&a);
+}
+
 struct outcome call_abo(const struct call *c, uint8_t *out, size_t room)
 {
     if (c->which == READS) {
@@ -33,6 +48,14 @@ struct outcome call_abo(const struct call *c, uint8_t *out, size_t room)
     }
     if (of_statement(c->which))
         return call_statement(c, out, room);
+    if (of_register(c->which))
+        return call_register(c);
+    if (c->which == READS_REGISTERED) {
+        struct abo_answer a =
+            abo_read_registered(c->file.bytes, c->file.len, c->sheet, c->today,
+                                out, room, c->reg.bytes, c->reg.len);
+        return outcome_of_answer(&a);
+    }
     if (c->which == LISTS) {
         struct abo_list l = abo_findings(c->file.bytes, c->file.len, c->sheet,
                                          c->today, out, room);

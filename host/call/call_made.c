@@ -10,6 +10,18 @@ struct call call_of_made(enum which which, const struct made *made)
     };
 }
 
+struct call call_of_registered(const struct made *made, const struct text *reg)
+{
+    struct call c = call_of_made(READS_REGISTERED, made);
+    c.reg = (struct held){reg->data, reg->len};
+    return c;
+}
+
+struct call call_of_register(enum which which, const struct text *reg)
+{
+    return (struct call){.which = which, .reg = {reg->data, reg->len}};
+}
+
 struct call call_of_draft(const struct draft *draft)
 {
     return (struct call){

@@ -10,6 +10,10 @@
    in. */
 struct call call_of_made(enum which which, const struct made *made);
 
+/* A file to be read against a register; nothing but a register. */
+struct call call_of_registered(const struct made *made, const struct text *reg);
+struct call call_of_register(enum which which, const struct text *reg);
+
 /* A statement to be read, or its rows to be written. */
 struct call call_of_statement(enum which which, const struct text *bytes);
 
