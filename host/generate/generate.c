@@ -116,11 +116,11 @@ static void draw_faults(struct plan *p)
     }
 }
 
-void generate(struct made *made, uint64_t seed)
+/* The dice have been rolled for the sheet, or not at all. */
+static void make_file(struct made *made, struct dice dice, unsigned sheet)
 {
-    struct plan p = {.dice = {seed}, .out = &made->file};
+    struct plan p = {.dice = dice, .out = &made->file, .sheet = sheet};
     struct dice *d = &p.dice;
-    p.sheet = (unsigned)between(d, K, LAST_SHEET);
     p.today = draw_today(d);
     p.ends = (enum line_ends)below(d, 4);
     draw_faults(&p);
@@ -137,4 +137,16 @@ void generate(struct made *made, uint64_t seed)
     if (one_in(d, 5))
         damage(&made->file, d);
     draw_arguments(d, p.sheet, p.today, &made->sheet, &made->today);
+}
+
+void generate(struct made *made, uint64_t seed)
+{
+    struct dice d = {seed};
+    unsigned sheet = (unsigned)between(&d, K, LAST_SHEET);
+    make_file(made, d, sheet);
+}
+
+void generate_on(struct made *made, uint64_t seed, unsigned sheet)
+{
+    make_file(made, (struct dice){seed}, sheet);
 }

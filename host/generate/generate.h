@@ -12,7 +12,8 @@ struct made {
     uint64_t sheet, today;
 };
 
-/* Makes a file of its own for each seed. */
+/* Makes a file of its own for each seed; of any sheet, or of this one. */
 void generate(struct made *made, uint64_t seed);
+void generate_on(struct made *made, uint64_t seed, unsigned sheet);
 
 #endif
