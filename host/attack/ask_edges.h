@@ -1,4 +1,4 @@
-/* Any of the seven calls, made by the library and by the second program, which
+/* Any of the twelve calls, made by the library and by the second program, which
    for the line of a number is lines.h: every slice at the edge of a page, the
    library on a stack of 64 KiB. */
 #ifndef HOST_ASK_EDGES_H
@@ -7,11 +7,14 @@
 #include "../call/call.h"
 #include "edge.h"
 
-/* What the call reads lies in these, and where it may not write. */
+/* What the call reads lies in these, and where it may not write.  Each program
+   is lent a copy of the call's register, at this edge. */
 struct scene {
     struct edge parts[3];
     size_t parts_used;
     struct edge ours, theirs;
+    struct edge our_register, their_register;
+    enum edge_at register_at;
 };
 
 /* Makes the call twice, with room for so many bytes.  Gives back NULL, or what

@@ -1,10 +1,10 @@
 /*
- * An attack on the seven calls.  Every slice is lent at the edge of a page that
- * nobody may touch, of no length at times, or at NULL; slices to be read lie
- * over one another; numbers come from all 64 bits; files and rows are valid,
- * next to valid, or without sense.  Each call is made on a stack of 64 KiB and
- * compared with the second program, and all bytes that it may not write are
- * looked at behind it.
+ * An attack on the twelve calls.  Every slice is lent at the edge of a page
+ * that nobody may touch, of no length at times, or at NULL; slices to be read
+ * lie over one another; numbers come from all 64 bits; files, rows and registers
+ * are valid, next to valid, or without sense.  Each call is made on a stack of
+ * 64 KiB and compared with the second program, and all bytes that it may not
+ * write are looked at behind it.
  *
  *   attack [ROUNDS [SEED]]     as seeds.h says
  */
@@ -19,7 +19,9 @@
 #include "../generate/draw_draft.h"
 #include "../generate/generate.h"
 #include "../generate/large.h"
+#include "../generate/numbered.h"
 #include "../generate/plan.h"
+#include "../generate/registers.h"
 #include "../generate/seeds.h"
 #include "../generate/spoil_statement.h"
 #include "../generate/statements.h"
@@ -43,6 +45,8 @@ static struct outcome ask(const char *what, const struct call *c, size_t room)
 {
     enum edge_at at = any_edge();
     uint8_t fill = (uint8_t)roll(&dice);
+    if (takes_register(c->which))
+        scene.register_at = any_edge();
     return check_edges(&scene, what, round_seed, c, room, at, fill);
 }
 
@@ -251,8 +255,60 @@ static void find_lines(const char *what, struct call c, uint64_t refused)
     ask(what, &c, 0);
 }
 
+/* Bytes of any value, which seldom are a register, or one that is drawn for a
+   file. */
+static void any_register(struct text *reg, const struct text *file)
+{
+    if (one_in(&dice, 16))
+        wild_bytes(reg, &dice);
+    else
+        draw_register(reg, &dice, file);
+}
+
+static void read_against(const char *what, struct call c,
+                         const struct text *reg)
+{
+    c.which = READS_REGISTERED;
+    c.reg = (struct held){reg->data, reg->len};
+    ask_rooms(what, &c);
+}
+
+/* The file that was lent is read against a register as well. */
+static void read_registered(const char *what, const struct call *c,
+                            const struct made *made)
+{
+    static struct text reg;
+    any_register(&reg, &made->file);
+    read_against(what, *c, &reg);
+}
+
+/* A day's start, both questions, and a number given back. */
+static void attack_register(void)
+{
+    static struct text reg;
+    any_register(&reg, NULL);
+    scene.parts_used = 0;
+    for (enum which which = STARTS; which <= GIVES_BACK; which++) {
+        struct call c = call_of_register(which, &reg);
+        c.date = draw_date(&dice);
+        c.given = draw_given(&dice, &reg);
+        ask("a register", &c, 0);
+    }
+}
+
+/* A file of K's numbers, read against a register alone. */
+static void attack_numbers(void)
+{
+    static struct made made;
+    generate_numbered(&made, roll(&dice));
+    struct call c = call_of_made(READS_REGISTERED, &made);
+    scene.parts_used = 0;
+    c.file = lend_part(0, made.file.data, made.file.len);
+    read_registered("a file of numbers", &c, &made);
+}
+
 /* Explained, what is found in it listed, read and, if it says a batch, written;
-   and lines of it found. */
+   read against a register; and lines of it found. */
 static void attack_made(const char *what, const struct made *made, bool wild)
 {
     struct call c = call_of_made(EXPLAINS, made);
@@ -267,6 +323,8 @@ static void attack_made(const char *what, const struct made *made, bool wild)
     struct outcome read = ask_rooms(what, &c);
     if (read.number == 0)
         write_what_was_read(c, &read);
+    if (c.sheet == K || one_in(&dice, 4)) /* the others do not look at it */
+        read_registered(what, &c, made);
     find_lines(what, c, read.words[0]);
 }
 
@@ -356,6 +414,17 @@ static void attack_statement_rows(void)
     ask_rooms(what, &c);
 }
 
+/* Against a register of its day in which nothing is marked. */
+static void attack_started(const char *what, const struct made *made)
+{
+    static struct text reg;
+    struct call c = call_of_made(READS_REGISTERED, made);
+    scene.parts_used = 0;
+    c.file = lend_part(0, made->file.data, made->file.len);
+    put_register(&reg, 20180101);
+    read_against(what, c, &reg);
+}
+
 /* At the limits on counts, and one past them: no generated file is as long. */
 static void attack_bulks(void)
 {
@@ -370,6 +439,7 @@ static void attack_bulks(void)
         for (unsigned i = 0; i < COUNT_OF(bulks); i++) {
             make_bulk(&made, sheet, &bulks[i]);
             attack_made("a file of many lines", &made, false);
+            attack_started("a file of many numbers", &made);
         }
     text_free(&made.file);
 }
@@ -396,8 +466,9 @@ static void attack_collections(void)
 static void report(struct seeds seeds)
 {
     static const uint64_t statements = UINT64_C(0xf) << 50 | 0x10001;
-    const uint64_t can_come[CALLS] = {0x1ffff,    0x310007,   0x10007, 3,
-                                      statements, statements, 0x10007};
+    const uint64_t can_come[CALLS] = {
+        0x1ffff, 0x310007, 0x10007, 3, statements, statements, 0x10007,
+        0xc1ffff, 0x10005, 0x800001, 0x800001, 0x1800001};
     bool tested = are_enough(seeds, ENOUGH);
     report_edges();
     for (unsigned which = 0; which < CALLS; which++)
@@ -428,6 +499,10 @@ int main(int argc, char **argv)
             attack_statement_file();
         else if (round_seed % 4 == 2)
             attack_statement_rows();
+        else if (round_seed % 4 == 1)
+            attack_register();
+        else
+            attack_numbers();
     }
     report(seeds);
     return last_line();

@@ -1,9 +1,11 @@
 /*
- * The seven calls on stacks of 64 KiB, on the files with the most lines of each
+ * The twelve calls on stacks of 64 KiB, on the files with the most lines of each
  * kind and on the corner files: each is explained, what is found in it is
- * listed, it is read and, if it says a batch, written again, and its lines are walked to the last; on statements of many
- * records and on many statements, which are read and written.  Code that calls itself
- * once a line, or keeps a line on the stack, does not come back from these.
+ * listed, it is read and, if it says a batch, written again, it is read against a
+ * register, and its lines are walked to the last; on statements of many records
+ * and on many statements, which are read and written; and on registers with none
+ * and with all numbers marked.  Code that calls itself once a line, or keeps a
+ * line on the stack, does not come back from these.
  *
  *   stack [0 [SEED [STEP]]]     as seeds.h says; nothing is generated
  */
@@ -20,6 +22,7 @@
 #include "../generate/dice.h"
 #include "../generate/large.h"
 #include "../generate/limits.h"
+#include "../generate/registers.h"
 #include "../generate/seeds.h"
 #include "../generate/statements.h"
 #include "ask_edges.h"
@@ -61,6 +64,27 @@ static void write_again(const char *what, unsigned place, struct call c,
     check(w.number == ABO_ACCEPTED, "what was read is not written again");
 }
 
+/* Against a register of its date with nothing marked: what is accepted still is,
+   but on K not twice, since its numbers are used then. */
+static void read_registered(const char *what, unsigned place, struct call c,
+                            uint64_t due)
+{
+    static struct text reg;
+    put_register(&reg, 20180101);
+    c.which = READS_REGISTERED;
+    c.reg = (struct held){reg.data, reg.len};
+    uint64_t first = ask_exact(what, place, &c).number, second = due;
+    if (c.sheet == K) {
+        text_clear(&reg);
+        text_bytes(&reg, scene.our_register.lent, scene.our_register.len);
+        second = ask_exact(what, place, &c).number;
+    }
+    if (due == ABO_ACCEPTED)
+        check(first == due &&
+                  second == (c.sheet == K ? (uint64_t)ABO_NUMBER_USED : due),
+              "a file is not read once against a register");
+}
+
 /* The refused line, and one that no file has, for which all are walked. */
 static void find_lines(const char *what, unsigned place, struct call c,
                        uint64_t refused)
@@ -85,6 +109,7 @@ static uint64_t test_file(const char *what, unsigned place,
     struct outcome read = ask_exact(what, place, &c);
     if (read.number == ABO_ACCEPTED)
         write_again(what, place, c, &read);
+    read_registered(what, place, c, read.number);
     find_lines(what, place, c, read.words[0]);
     return read.number;
 }
@@ -136,6 +161,27 @@ static void test_statements(void)
     text_free(&file);
 }
 
+/* None is marked, then all; the last one is given back. */
+static void test_registers(void)
+{
+    struct text reg = {0};
+    put_register(&reg, 20180101);
+    scene.parts_used = 0;
+    for (unsigned full = 0; full < 2; full++) {
+        for (enum which which = STARTS; which <= GIVES_BACK; which++) {
+            struct call c = call_of_register(which, &reg);
+            c.date = 20180102;
+            c.given = ABO_REGISTER_NUMBERS - 1;
+            struct outcome o = ask("register", full, &c, 0);
+            check(o.number ==
+                      (which == GIVES_BACK && !full ? ABO_NOT_TAKEN : 0),
+                  "a register is answered otherwise than it was made for");
+        }
+        memset(reg.data + 8, 0xff, ABO_REGISTER_NUMBERS / 8);
+    }
+    text_free(&reg);
+}
+
 /* Work that takes a little more than there is must not come back, or nothing
    above would say anything. */
 static void too_deep(void)
@@ -173,6 +219,7 @@ int main(int argc, char **argv)
     }
     text_free(&made.file);
     test_statements();
+    test_registers();
     report_edges();
     test_guard();
     return last_line();
