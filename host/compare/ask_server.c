@@ -54,6 +54,10 @@ static void lend_call(struct kept *k, const struct lent_call *a)
         r.texts = lend(k, c->texts, a);
         r.name = lend(k, c->name, a);
     }
+    if (takes_register(c->which))
+        r.reg = lend(k, (struct slice){c->reg.bytes, c->reg.len}, a);
+    if (r.reg.len == 0 && a->no_pointer)
+        r.reg.place = NOWHERE;
     r.out = lend(k, (struct slice){NULL, a->room}, a);
     if (a->room == 0 && a->no_pointer)
         r.out.place = NOWHERE;
@@ -64,17 +68,48 @@ static void lend_call(struct kept *k, const struct lent_call *a)
     k->ends[place] = k->used;
 }
 
-/* Is all that the call was lent as it was, but for the bytes written? */
-static bool rest_kept(const struct kept *k, size_t place,
-                      const uint8_t *theirs, size_t used)
+static bool same_from(const struct kept *k, const uint8_t *theirs, size_t from,
+                      size_t to)
 {
-    const uint8_t *mine = k->slot.bytes;
-    const struct lent *out = &k->slot.requests[place].out;
+    return memcmp(k->slot.bytes + from, theirs + from, to - from) == 0;
+}
+
+/* Is all that the call was lent as it was, but for the bytes written, of the
+   register so many and of the room, which is lent behind it, so many? */
+static bool rest_kept(const struct kept *k, size_t place,
+                      const uint8_t *theirs, size_t of_register, size_t used)
+{
+    const struct request *r = &k->slot.requests[place];
     size_t begin = place == 0 ? 0 : k->ends[place - 1], end = k->ends[place];
-    size_t first = out->place == NOWHERE ? end : (size_t)out->place;
-    size_t behind = first + used;
-    return memcmp(mine + begin, theirs + begin, first - begin) == 0 &&
-           memcmp(mine + behind, theirs + behind, end - behind) == 0;
+    size_t first = r->out.place == NOWHERE ? end : (size_t)r->out.place;
+    size_t reg = of_register == 0 ? first : (size_t)r->reg.place;
+    return same_from(k, theirs, begin, reg) &&
+           same_from(k, theirs, reg + of_register, first) &&
+           same_from(k, theirs, first + used, end);
+}
+
+/* The second program is lent a register of its own. */
+static struct room their_register;
+
+static struct call with_register(const struct lent_call *a)
+{
+    struct call c = a->call;
+    if (c.reg.len == 0)
+        return c;
+    lend_room(&their_register, c.reg.len, a->skew, a->fill);
+    memcpy(their_register.bytes, c.reg.bytes, c.reg.len);
+    c.reg.bytes = their_register.bytes;
+    return c;
+}
+
+/* Has it written no more than so many bytes of that? */
+static bool register_kept(const struct call *c, size_t written)
+{
+    size_t len = c->reg.len;
+    return len == 0 ||
+           (written <= len && room_untouched(&their_register, len) &&
+            same_bytes(their_register.bytes + written, c->reg.bytes + written,
+                       len - written));
 }
 
 /* What is wrong, or NULL. */
@@ -83,15 +118,19 @@ static const char *fault_of(const struct kept *k, size_t place,
                             const struct room *theirs)
 {
     const struct request *r = &k->slot.requests[place];
-    size_t used = (size_t)p->written;
-    if (!room_untouched(theirs, used))
+    const struct call *c = &k->calls[place].call;
+    size_t used = (size_t)p->written, of_register = register_written(c, p);
+    if (!room_untouched(theirs, used) || !register_kept(c, of_register))
         return "the second program wrote elsewhere";
     if (!same_outcome(&s->requests[place].answer, p))
         return "the answers differ";
-    if (!rest_kept(k, place, s->bytes, used))
+    if (!rest_kept(k, place, s->bytes, of_register, used))
         return "bytes that were not to be written have changed";
     if (used > 0 && memcmp(s->bytes + r->out.place, theirs->bytes, used) != 0)
         return "the bytes written differ";
+    if (of_register > 0 && memcmp(s->bytes + r->reg.place,
+                                  their_register.bytes, of_register) != 0)
+        return "the registers differ";
     return NULL;
 }
 
@@ -115,8 +154,9 @@ static void compare_call(const struct kept *k, size_t place,
     lend_room(&theirs, a->room, a->skew, a->fill);
     in_hand(call_names[a->call.which], a->seed, a->call.file.bytes,
             a->call.file.len);
+    struct call c = with_register(a);
     struct outcome p =
-        call_peer(&a->call, a->no_pointer && a->room == 0 ? NULL : theirs.bytes,
+        call_peer(&c, a->no_pointer && a->room == 0 ? NULL : theirs.bytes,
                   a->room);
     const char *fault = fault_of(k, place, s, &p, &theirs);
     if (count_check(fault == NULL))

@@ -1,5 +1,5 @@
 #!/bin/sh
-# Compares six of the calls with the second program's on many files, the library being in a process of its own
+# Compares eleven of the calls with the second program's on many files, the library being in a process of its own
 # (host/compare/compare_many.c); then sees that wrong answers and a server that ends are found. The last line is 'N passed, M failed'.
 #
 #   host/compare/compare_many_test.sh FILES SEED     so many files for each call, from this seed on
@@ -12,7 +12,7 @@ cd "$(dirname "$0")/../.." || exit 2
 [ $# -eq 2 ] || { sed -n '2,7s/^# \{0,1\}//p' "$0" >&2; exit 2; }
 files=$1
 seed=$2
-calls='read write explain findings statement_read statement_write'
+calls='read write explain findings statement_read statement_write read_registered register_start register_lowest register_free register_give_back'
 build_test library_server wrong_server native/compare_many || exit 2
 
 compare() { # CALL FILES SERVER
@@ -20,10 +20,10 @@ compare() { # CALL FILES SERVER
     "$build/native/compare_many" "$1" "$2" "$seed" $run "$3"
 }
 
-finds_wrong() { # CALL: host/compare/wrong_server.c spoils every hundredth call, in each of its seven ways twice
-    last=$(compare "$1" 1400 "$build/wrong_server" | tail -n 1)
+finds_wrong() { # CALL: host/compare/wrong_server.c spoils every hundredth call, in each of its ten ways twice
+    last=$(compare "$1" 2000 "$build/wrong_server" | tail -n 1)
     echo "$last"
-    [ "$last" = "1387 passed, 14 failed" ]
+    [ "$last" = "1981 passed, 20 failed" ]
 }
 
 for call in $calls; do

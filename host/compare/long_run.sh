@@ -1,25 +1,26 @@
 #!/bin/sh
-# The long comparison of the library with the second program (host/compare/compare_many.c): each of six calls on so many files, from this
+# The long comparison of the library with the second program (host/compare/compare_many.c): each of seven calls on so many files, from this
 # seed on, one call after another, its files in equal parts on all cores. Prints for each the first seed, the files asked for, the calls
 # compared, the differences found and the seconds; below it how often each number came. What was said of differences is kept in
 # build/long_run. The exit status is 0 only if there is none.
 #
 #   host/compare/long_run.sh FILES SEED [FILES SEED ..]
-#   CALLS=read host/compare/long_run.sh 10000000 1000001      some of read, write, explain, findings, line, statement_read and statement_write
+#   CALLS=read host/compare/long_run.sh 10000000 1000001      some of read, write, explain, findings, line, statement_read, statement_write, read_registered
+#                                                             and those of a register: register_start and its kin
 #   CORES=1 host/compare/long_run.sh 1000000 1                on so many cores (default: all)
 #
 # host/target.sh names the other variables.
 set -u
 cd "$(dirname "$0")/../.." || exit 2
 . host/target.sh
-[ $# -ge 2 ] && [ $(($# % 2)) -eq 0 ] || { sed -n '2,11s/^# \{0,1\}//p' "$0" >&2; exit 2; }
+[ $# -ge 2 ] && [ $(($# % 2)) -eq 0 ] || { sed -n '2,12s/^# \{0,1\}//p' "$0" >&2; exit 2; }
 cores=${CORES:-$(nproc)}
 build_test library_server native/compare_many || exit 2
 kept=$build/long_run
 mkdir -p "$kept" || exit 2
 wrong=0
 
-row() { printf '%-15s %12s %12s %12s %12s %9s\n' "$@"; }
+row() { printf '%-18s %12s %12s %12s %12s %9s\n' "$@"; }
 
 compare() { # CALL FILES SEED: leaves a log for each core; the status is 0 if each of them passed
     rm -f "$kept/$1.$3".*.log
@@ -56,7 +57,7 @@ told() { # CALL FILES SEED SECONDS: adds up what the logs say
 
 row call seed files calls differences seconds
 while [ $# -gt 0 ]; do
-    for call in ${CALLS:-read write explain findings statement_read statement_write}; do
+    for call in ${CALLS:-read write explain findings statement_read statement_write read_registered}; do
         began=$(date +%s)
         compare "$call" "$1" "$2" || wrong=1
         told "$call" "$1" "$2" $(($(date +%s) - began)) || wrong=1

@@ -11,16 +11,23 @@ struct request request_of_call(const struct call *c)
         .from = c->from,
         .to = c->to,
         .line = c->line,
+        .given = c->given,
     };
 }
 
-static struct slice slice_of(struct lent l, const uint8_t *bytes)
+static struct held held_of(struct lent l, uint8_t *bytes)
 {
-    const uint8_t *at = l.place == NOWHERE ? NULL : bytes + l.place;
-    return (struct slice){at, (size_t)l.len};
+    uint8_t *at = l.place == NOWHERE ? NULL : bytes + l.place;
+    return (struct held){at, (size_t)l.len};
 }
 
-struct call call_of_request(const struct request *r, const uint8_t *bytes)
+static struct slice slice_of(struct lent l, uint8_t *bytes)
+{
+    struct held h = held_of(l, bytes);
+    return (struct slice){h.bytes, h.len};
+}
+
+struct call call_of_request(const struct request *r, uint8_t *bytes)
 {
     return (struct call){
         .which = (enum which)r->which,
@@ -34,5 +41,7 @@ struct call call_of_request(const struct request *r, const uint8_t *bytes)
         .sheet = r->sheet,
         .today = r->today,
         .line = r->line,
+        .reg = held_of(r->reg, bytes),
+        .given = r->given,
     };
 }

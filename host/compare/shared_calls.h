@@ -22,8 +22,8 @@ struct lent {
 };
 
 struct request {
-    uint64_t which, sheet, today, date, client, from, to, line;
-    struct lent file, texts, name, out;
+    uint64_t which, sheet, today, date, client, from, to, line, given;
+    struct lent file, texts, name, reg, out;
     struct outcome answer; /* the server's */
 };
 
@@ -34,13 +34,13 @@ struct slot {
     uint8_t bytes[SLOT_BYTES];
 };
 
-_Static_assert(sizeof(struct outcome) == 120 && sizeof(struct request) == 248,
+_Static_assert(sizeof(struct outcome) == 120 && sizeof(struct request) == 272,
                "the layout is another one here");
 
 /* What the call asks, with nothing lent yet. */
 struct request request_of_call(const struct call *c);
 
 /* The call, its slices lying in these bytes of a slot. */
-struct call call_of_request(const struct request *r, const uint8_t *bytes);
+struct call call_of_request(const struct request *r, uint8_t *bytes);
 
 #endif

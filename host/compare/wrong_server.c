@@ -5,7 +5,7 @@
 #include "../call/call_abo.h"
 #include "server.h"
 
-enum { EVERY = 100 };
+enum { EVERY = 100, WAYS = 10 };
 
 static uint8_t *writable(const uint8_t *bytes)
 {
@@ -28,6 +28,12 @@ static struct outcome spoilt(unsigned way, const struct call *c, uint8_t *out,
         out[o.written] ^= 1;
     else if (way == 5)
         o.name[ABO_NAME_BYTES - 1] ^= 1;
+    else if (way == 6 && c->reg.len > 0)
+        c->reg.bytes[0] ^= 1;
+    else if (way == 7 && c->reg.len > 0)
+        c->reg.bytes[c->reg.len - 1] ^= 1;
+    else if (way == 8 && c->reg.bytes != NULL)
+        c->reg.bytes[c->reg.len] ^= 1;
     else
         o.words[0]++;
     return o;
@@ -39,7 +45,7 @@ static struct outcome call_wrong(const struct call *c, uint8_t *out,
     static unsigned turn;
     struct outcome o = call_abo(c, out, room);
     turn++;
-    return turn % EVERY == 0 ? spoilt(turn / EVERY % 7, c, out, room, o) : o;
+    return turn % EVERY == 0 ? spoilt(turn / EVERY % WAYS, c, out, room, o) : o;
 }
 
 int main(void)
