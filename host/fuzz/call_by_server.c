@@ -46,6 +46,12 @@ static struct lent lend(const uint8_t *bytes, size_t len)
     return (struct lent){bytes == NULL ? NOWHERE : at, len};
 }
 
+/* Has the server left these bytes as they were lent? */
+static bool same_from(size_t from, size_t to)
+{
+    return memcmp(slots[0].bytes + from, kept.bytes + from, to - from) == 0;
+}
+
 struct outcome call_abo(const struct call *c, uint8_t *out, size_t room)
 {
     if (slots == NULL)
@@ -55,6 +61,9 @@ struct outcome call_abo(const struct call *c, uint8_t *out, size_t room)
     r.file = lend(c->file.bytes, c->file.len);
     r.texts = lend(c->texts.bytes, c->texts.len);
     r.name = lend(c->name.bytes, c->name.len);
+    r.reg = lend(c->reg.bytes, c->reg.len);
+    size_t reg = used - GUARD - c->reg.len;
+    size_t may_change = asks_register(c->which) ? 0 : c->reg.len;
     r.out = lend(out, room);
     size_t first = used - GUARD - room;
     slots[0].count = 1;
@@ -63,10 +72,11 @@ struct outcome call_abo(const struct call *c, uint8_t *out, size_t room)
     hand_slot(0);
     if (!take_slot(0))
         stop("the server ended in the call");
-    if (memcmp(slots[0].bytes, kept.bytes, first) != 0 ||
-        memcmp(slots[0].bytes + first + room, kept.bytes + first + room,
-               GUARD) != 0)
-        stop("bytes around the room or lent to be read have changed");
+    if (!same_from(0, reg) || !same_from(reg + may_change, first) ||
+        !same_from(first + room, used))
+        stop("bytes around what may change, or lent to be read, have changed");
+    if (may_change > 0)
+        memcpy(c->reg.bytes, slots[0].bytes + reg, may_change);
     if (out != NULL)
         memcpy(out, slots[0].bytes + first, room);
     return slots[0].requests[0].answer;

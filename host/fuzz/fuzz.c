@@ -7,13 +7,16 @@
  *
  *   fuzz FILE ..                    runs inputs and counts
  *   fuzz -make FOLDER COUNT [SEED]  writes inputs: generated files, batches,
- *                                   statements
+ *                                   statements, registers
  */
 #include <stdio.h>
 #include <stdlib.h>
 #include <string.h>
 
+#include "../call/call_made.h"
 #include "../call/show.h"
+#include "../generate/numbered.h"
+#include "../generate/registers.h"
 #include "../generate/statements.h"
 #include "fuzz_input.h"
 
@@ -65,6 +68,7 @@ static const char *fault_of_input(const uint8_t *data, size_t len,
         return NULL;
     enum edge_at at = in.at_back ? AT_BACK : AT_FRONT;
     lend_input(&in);
+    scene.register_at = in.call.reg.len == 0 ? AT_NULL : at;
     *which = in.call.which;
     const char *fault = ask_edges(&scene, &in.call, 0, AT_NULL, 0x5a, o);
     if (fault != NULL || in.room == 0)
@@ -123,7 +127,28 @@ static void save(const struct text *t, const char *folder, uint64_t seed)
         give_up(path);
 }
 
-/* A file or a batch, or in every fourth input a statement. */
+/* A register, and in one of two a file to be read against it, of K for the most
+   part. */
+static void make_register_input(struct text *input, uint64_t seed,
+                                struct dice *d)
+{
+    static struct made made;
+    static struct text reg;
+    if (one_in(d, 4))
+        generate(&made, seed);
+    else
+        generate_numbered(&made, seed);
+    draw_register(&reg, d, &made.file);
+    struct call c = call_of_registered(&made, &reg);
+    if (one_in(d, 2))
+        c = call_of_register((enum which)between(d, STARTS, GIVES_BACK), &reg);
+    c.date = draw_date(d);
+    c.given = draw_given(d, &reg);
+    put_register_input(input, &c, d);
+}
+
+/* A file or a batch, or in every fourth input a statement, and in every eighth
+   a register. */
 static void make_input(struct text *input, uint64_t seed)
 {
     static struct made made;
@@ -133,7 +158,9 @@ static void make_input(struct text *input, uint64_t seed)
     static const enum which asked[] = {READS, READS, READS, EXPLAINS, LISTS};
     enum which which = PICK(&d, asked);
     bool rows = one_in(&d, 2);
-    if (seed % 4 == 3 && rows) {
+    if (seed % 8 == 5) {
+        make_register_input(input, seed, &d);
+    } else if (seed % 4 == 3 && rows) {
         draw_statement(&statement, seed);
         put_statement_input(input, WRITES_STATEMENT, &statement, &d);
     } else if (seed % 4 == 3) {

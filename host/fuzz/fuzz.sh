@@ -1,6 +1,6 @@
 #!/bin/sh
 # Looks for a difference between the library and the second program with clang's libFuzzer, which follows the branches that the second
-# program takes. It begins with generated files, batches and statements. A difference stops it, and the input stays in the folder it names.
+# program takes. It begins with generated files, batches, statements and registers. A difference stops it, and the input stays in the folder it names.
 #
 #   host/fuzz/fuzz.sh [SECONDS]          default 300
 #   FILL=1 host/fuzz/fuzz.sh [SECONDS]   then fills host/fuzz/corpus anew: an input for each call and number, and those that add the most
@@ -47,7 +47,7 @@ one_of_each() { # FOLDER: the shortest input for each call and number; what choo
     for name in $(ls -S -r "$1"); do
         # shellcheck disable=SC2086
         if $run "$build/fuzz" "$1/$name" >"$work/one.log"; then
-            echo "$(sed -n 2p "$work/one.log") $1/$name"
+            echo "$(sed -n 1p "$work/one.log") $1/$name"
         else
             rm "$1/$name"
         fi

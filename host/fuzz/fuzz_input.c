@@ -3,12 +3,29 @@
 #include "../generate/limits.h"
 #include "../generate/words.h"
 
-enum { HEAD = 5, WRITE_HEAD = 17, NAME = ABO_NAME_BYTES, ENOUGH_ROOM = 128, NO_SHEET = LAST_SHEET + 1 };
+#include <string.h>
+
+enum {
+    HEAD = 5,
+    WRITE_HEAD = 17,
+    REGISTER_HEAD = 6,
+    NAME = ABO_NAME_BYTES,
+    ENOUGH_ROOM = 128,
+    NO_SHEET = LAST_SHEET + 1,
+    MOST_OF_REGISTER = 255
+};
 
 /* The first byte's modulus, the bit of its quotient that makes an explanation
    the finding of a line, and the one that makes a batch a statement, or an
-   explanation a list. */
-enum { CHOICES = 3, LINE_BIT = 32, STATEMENT_BIT = 64 };
+   explanation a list; the bit that lends a register, and the one that chooses
+   the second of two calls then. */
+enum {
+    CHOICES = 3,
+    SECOND_BIT = 8,
+    REGISTER_BIT = 16,
+    LINE_BIT = 32,
+    STATEMENT_BIT = 64
+};
 
 static uint64_t take_day(const uint8_t *data)
 {
@@ -52,6 +69,37 @@ static void take_line(struct fuzz_input *in, const uint8_t *data)
     in->room = 0;
 }
 
+static enum which registered(enum which which, bool second)
+{
+    if (which == READS)
+        return READS_REGISTERED;
+    if (which == WRITES)
+        return second ? GIVES_BACK : STARTS;
+    return second ? ASKS_FREE : ASKS_LOWEST;
+}
+
+/* A call may change the register, so it lies in a copy. */
+static bool take_register(struct fuzz_input *in, const uint8_t *data,
+                          size_t len, bool second)
+{
+    static uint8_t copy[MOST_OF_REGISTER];
+    struct call *c = &in->call;
+    if (len < REGISTER_HEAD)
+        return false;
+    size_t left = len - REGISTER_HEAD, bytes = data[5] < left ? data[5] : left;
+    memcpy(copy, data + REGISTER_HEAD, bytes);
+    c->which = registered(c->which, second);
+    c->reg = (struct held){copy, bytes};
+    c->file = (struct slice){data + REGISTER_HEAD + bytes, left - bytes};
+    c->date = c->today;
+    c->given = number_at(data + 2, 2);
+    if (of_register(c->which)) {
+        c->file.len = 0;
+        in->room = 0;
+    }
+    return true;
+}
+
 bool decode_input(struct fuzz_input *in, const uint8_t *data, size_t len)
 {
     if (len < HEAD)
@@ -66,6 +114,8 @@ bool decode_input(struct fuzz_input *in, const uint8_t *data, size_t len)
         .runs_on = bits & 2,
         .room = data[4],
     };
+    if (bits & REGISTER_BIT && !(bits & STATEMENT_BIT))
+        return take_register(in, data, len, bits & SECOND_BIT);
     if (in->call.which == EXPLAINS && bits & STATEMENT_BIT)
         in->call.which = LISTS;
     else if (in->call.which == EXPLAINS && bits & LINE_BIT)
@@ -129,6 +179,31 @@ void put_draft_input(struct text *out, const struct draft *draft,
     text_bytes(out, draft->name, NAME);
     text_bytes(out, draft->texts.data, texts);
     text_bytes(out, draft->rows.data, draft->rows.len);
+}
+
+/* The call that stands for it among the first three. */
+static enum which stand_in(enum which which)
+{
+    return which == READS_REGISTERED ? READS
+           : asks_register(which)    ? EXPLAINS
+                                     : WRITES;
+}
+
+void put_register_input(struct text *out, const struct call *c, struct dice *d)
+{
+    bool second = c->which == ASKS_FREE || c->which == GIVES_BACK;
+    size_t bytes =
+        c->reg.len < MOST_OF_REGISTER ? c->reg.len : MOST_OF_REGISTER;
+    put_head(out, stand_in(c->which), c->sheet,
+             c->which == STARTS ? c->date : c->today, d);
+    out->data[0] = (uint8_t)(out->data[0] +
+                             CHOICES * (REGISTER_BIT + second * SECOND_BIT));
+    if (c->which == GIVES_BACK)
+        for (size_t i = 0; i < 2; i++)
+            out->data[2 + i] = (uint8_t)(c->given >> 8 * i);
+    text_byte(out, (uint8_t)bytes);
+    text_bytes(out, c->reg.bytes, bytes);
+    text_bytes(out, c->file.bytes, c->file.len);
 }
 
 void put_statement_input(struct text *out, enum which which,
