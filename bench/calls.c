@@ -79,8 +79,11 @@ bool lend_for(struct lent *l, enum which which, unsigned sheet,
                             .file = {file->data, file->len}};
     if (which == WRITES)
         lend_batch(l, rows_len);
+    if (which == READS_REGISTERED)
+        l->call.reg = (struct held){(uint8_t *)&l->reg, sizeof l->reg};
     /* no line is spelled longer than it was read */
-    l->out_len = which == READS ? rows_len : file->len;
+    l->out_len = which == READS || which == READS_REGISTERED ? rows_len
+                                                             : file->len;
     if (tells(which))
         l->out_len = (size_t)call_peer(&l->call, NULL, 0).needed;
     l->out = resized(NULL, l->out_len > 0 ? l->out_len : 1);
@@ -103,6 +106,7 @@ static bool is_right(const struct lent *l, const struct outcome *o)
 
 size_t call_once(struct lent *l, enum who who)
 {
+    l->reg = (struct abo_register){.date = PLAIN_TODAY};
     if (who == NONE)
         return l->file.bytes.len;
     struct outcome o = who == ABO ? call_abo(&l->call, l->out, l->out_len)

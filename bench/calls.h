@@ -9,13 +9,14 @@ enum who { NONE, ABO, PEER };
 
 /* What a call is given, and the room that is lent to it: in reading for as many
    rows as the file has, in explaining and listing what they need, else for as
-   many bytes.  The items of a statement are
-   its records. */
+   many bytes.  The items of a statement are its records.  A register is that of
+   the file's day, started anew before each call. */
 struct lent {
     struct sized_file file;
     uint8_t *rows;       /* of the file, if they are to be written .. */
     struct outcome read; /* .. and what the second program read with them */
     struct call call;
+    struct abo_register reg;
     uint8_t *out;
     size_t out_len, left; /* the bytes of it that the last call has written */
 };

@@ -5,7 +5,8 @@
  *   measure CALL none|abo|peer SHEET KIND BYTES
  *   measure CALL TIMES SHEET KIND BYTES
  *
- * CALL is read, write, explain, findings, statement_read or statement_write.
+ * CALL is read, write, explain, findings, read_registered, statement_read or
+ * statement_write.
  * The first form is for a counter of instructions.  What a call executes is the
  * difference of two counts, with it and with `none`, so nothing has to be told
  * apart by names.  The second form runs the library and the second program
@@ -104,7 +105,7 @@ int main(int argc, char **argv)
     int call = place_of(argv[1], call_names, CALLS);
     int who = place_of(argv[2], whos, 3);
     int times = atoi(argv[2]), sheet = place_of(argv[3], sheets, 6);
-    if (call < 0 || call == FINDS || sheet < 0 ||
+    if (call < 0 || call == FINDS || of_register((enum which)call) || sheet < 0 ||
         of_statement((enum which)call) != (sheet == 0) || (who < 0 && (times < 1 || times > MOST_TIMES)))
         return usage();
     if (!lend_for(&l, (enum which)call, (unsigned)sheet, argv[4],

@@ -5,6 +5,7 @@
 #
 #   bench/run.sh                                 reading and writing, files of 10 MB
 #   CALLS='read write explain findings' bench/run.sh   these calls; a byte is one of the file read, or written
+#   CALLS=read_registered SHEETS=K bench/run.sh  reading against a register of the day's numbers
 #   SHEETS='K C' KINDS=wages bench/run.sh        some of them; host/generate/sized.h names the kinds
 #   BYTES=100000 bench/run.sh                    another size
 #   TIMES=0 bench/run.sh                         how often each is timed (9 on x86-64, elsewhere 0: an emulator's time says nothing)
