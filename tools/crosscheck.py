@@ -2,8 +2,10 @@
 """tools/crosscheck.py LIBPEER FOLDER SEED FILES BATCHES
 
 Writes what the second program (LIBPEER) answers as equations: FOLDER/Cases.antt for random files and batches, over the definitions of
-crates/paper; FOLDER/FoundCases.antt for what is found in such files, over those of crates/why; and FOLDER/StatementCases.antt for statements and
-their rows (statement_inputs.py), over those of crates/gpc. Prints how many equations there are. tools/crosscheck.sh has them checked."""
+crates/paper; FOLDER/FoundCases.antt for what is found in such files, over those of crates/why; FOLDER/StatementCases.antt for statements and
+their rows (statement_inputs.py), over those of crates/gpc; FOLDER/RegisterCases.antt for registers of a day's numbers, over those of
+crates/register; and FOLDER/RegisteredCases.antt for files that are read against one, over those of crates/against. Prints how many equations
+there are. tools/crosscheck.sh has them checked."""
 import ctypes
 import random
 import re
@@ -36,6 +38,10 @@ class StatementAnswer(ctypes.Structure):
     _fields_ = [(n, U64) for n in ("number", "line", "byte", "rows", "needed")]
 
 
+class RegisterAnswer(ctypes.Structure):
+    _fields_ = [("number", U64), ("value", U64)]
+
+
 class Written(ctypes.Structure):
     _fields_ = [(n, U64) for n in ("number", "row", "field", "bytes")]
 
@@ -48,6 +54,11 @@ def load(path):
     lib.peer_write.argtypes = [BYTES, SIZE, BYTES, SIZE, U64, BYTES, SIZE, U64, U64, U64, U64, U64, BYTES, SIZE]
     lib.peer_findings.restype = List
     lib.peer_findings.argtypes = lib.peer_read.argtypes
+    lib.peer_read_registered.restype = Answer
+    lib.peer_read_registered.argtypes = [*lib.peer_read.argtypes, BYTES, SIZE]
+    for call, given in (("start", [U64, BYTES, SIZE]), ("lowest", [BYTES, SIZE]), ("free", [BYTES, SIZE]), ("give_back", [BYTES, SIZE, U64])):
+        function = getattr(lib, "peer_register_" + call)
+        function.restype, function.argtypes = RegisterAnswer, given
     lib.peer_statement_read.restype = StatementAnswer
     lib.peer_statement_write.restype = Written
     lib.peer_statement_read.argtypes = lib.peer_statement_write.argtypes = [BYTES, SIZE, BYTES, SIZE]
@@ -237,6 +248,12 @@ def header_of(date, name, client, start, end):
     return "record { date = %d; name = %s; client = %d; from = %d; to = %d }" % (date, listed(name), client, start, end)
 
 
+def answer_of(a):
+    h = a.header
+    return ("record { number = %d; line = %d; byte = %d; rows = %d; warnings = %d; needed = %d; header = %s }"
+            % (a.number, a.line, a.byte, a.rows, a.warnings, a.needed, header_of(h.date, bytes(h.name), h.client, h.start, h.end)))
+
+
 def file_cases(lib, rnd, count):
     make = Files(rnd)
     for _ in range(count):
@@ -248,10 +265,7 @@ def file_cases(lib, rnd, count):
         lent = ctypes.create_string_buffer(ROW * room)
         a = lib.peer_read(text, len(text), sheet, today, lent, ROW * room)
         asked = "%d %d (%s)" % (sheet, today, quoted(text))
-        h = a.header
-        yield ("readAnswer %s (blanks %d) ≡ record { number = %d; line = %d; byte = %d; rows = %d; warnings = %d; needed = %d; header = %s }"
-               % (asked, ROW * room, a.number, a.line, a.byte, a.rows, a.warnings, a.needed,
-                  header_of(h.date, bytes(h.name), h.client, h.start, h.end)))
+        yield "readAnswer %s (blanks %d) ≡ %s" % (asked, ROW * room, answer_of(a))
         if a.number == 0:
             kept = min(ROW * a.rows + 3, ROW * room)
             yield "rowsAfter %s (blanks %d) ≡ (%s)" % (asked, kept, listed(lent.raw[:kept]))
@@ -373,10 +387,69 @@ def statement_cases(lib, rnd):
     yield writing(lib, statement_inputs.rows_of(credit), 0)[2]
 
 
+# ---- equations of registers
+
+def register(date, marked, behind=b""):
+    """17 words: the date, and a bit for each number"""
+    return struct.pack("<17Q", date, *(sum(1 << n % 64 for n in marked if n // 64 == i) for i in range(16))) + behind
+
+
+def draw_register(rnd):
+    """mostly for the files' date, with none, one or all of the numbers marked; at times no register"""
+    marked = set(rnd.choice([[], [], [1], [2], [950], range(1000), range(1000)])) ^ set(rnd.sample(range(1000), rnd.choice([0, 0, 3])))
+    lent = register(rnd.choice([20180101] * 8 + [20180102]), marked, rnd.choice([b"", b"", OLD * 3]))
+    spoilt = [lent[:rnd.choice([0, 8, 135])], register(20180101, marked | {rnd.choice([1000, 1023])}),
+              register(rnd.choice([0, 20180230, 2 ** 63 + 20180101]), marked)]
+    return lent if rnd.random() < 0.75 else rnd.choice(spoilt)
+
+
+def changed(call, lent, *arguments):
+    """the answer of a call that changes a register, and what it left"""
+    copy = ctypes.create_string_buffer(lent, len(lent))
+    return call(copy, *arguments), copy.raw
+
+
+def register_cases(lib, rnd, count):
+    for _ in range(count):
+        lent = draw_register(rnd)
+        size, said = len(lent), "(%s)" % listed(lent)
+        yield "lowestAnswer %s ≡ %s" % (said, numbers(lib.peer_register_lowest(lent, size)))
+        yield "freeAnswer %s ≡ %s" % (said, numbers(lib.peer_register_free(lent, size)))
+        given = rnd.choice([1, 2, 5, 950, 999, 1000, 1023, 2 ** 63])
+        a, left = changed(lambda r: lib.peer_register_give_back(r, size, given), lent)
+        yield "giveAnswer %s %d ≡ %s" % (said, given, numbers(a))
+        yield "giveAfter %s %d ≡ (%s)" % (said, given, listed(left))
+        date = rnd.choice([20180102, 20240229, 20991231, 20180229, 0, 2 ** 63])
+        a, left = changed(lambda r: lib.peer_register_start(date, r, size), lent)
+        yield "startAnswer %d %s ≡ %s" % (date, said, numbers(a))
+        yield "startAfter %d %s ≡ (%s)" % (date, said, listed(left))
+
+
+def registered_cases(lib, rnd, count):
+    """files of K for the most part, since no other sheet looks at the register"""
+    make = Files(rnd)
+    for _ in range(count):
+        sheet = 1 if rnd.random() < 0.8 else rnd.randrange(0, LAST_SHEET + 2)
+        text = make.file(sheet if sheet in BANK else 1, [])
+        today = 20180101 if rnd.random() < 0.97 else 20180230
+        room = rnd.choice([40, 40, 40, 3])
+        rows, before = ctypes.create_string_buffer(ROW * room), draw_register(rnd)
+        a, left = changed(lambda r: lib.peer_read_registered(text, len(text), sheet, today, rows, ROW * room, r, len(before)), before)
+        asked, said = "%d %d (%s)" % (sheet, today, quoted(text)), "(%s)" % listed(before)
+        yield "registeredAnswer %s (blanks %d) %s ≡ %s" % (asked, ROW * room, said, answer_of(a))
+        yield "registerAfter %s (blanks %d) %s ≡ (%s)" % (asked, ROW * room, said, listed(left))
+        if a.number == 0:
+            kept = min(ROW * a.rows + 3, ROW * room)
+            yield "registeredRows %s (blanks %d) %s ≡ (%s)" % (asked, kept, said, listed(rows.raw[:kept]))
+
+
 # ---- modules
 
 BASE = [("Rattle.base.specs." + m, "crates/base/specs/%s.antt" % m) for m in ("Pick", "Seek", "Put")]
 SHEET = [("Rattle.sheet.specs.Sheets", "crates/sheet/specs/Sheets.antt")]
+REGISTER = [("Rattle.fileline.specs.seen.Bits", "crates/fileline/specs/seen/Bits.antt")]
+REGISTER += [("Rattle.register.specs." + m, "crates/register/specs/%s.antt" % m) for m in ("Marks", "Register")]
+AGAINST = [("Rattle.against.specs." + m, "crates/against/specs/%s.antt" % m) for m in ("Against", "Registered")]
 
 
 def specs(crate):
@@ -390,19 +463,23 @@ def below(crate, paths):
     return [(module, path) for module, path in paths if "use %s." % module in said]
 
 
-def definitions(paths):
-    """the modules to import, and every definition that the prover has to see through; of two with one name, the first is brought in"""
+def definitions(paths, both):
+    """the modules to import, and every definition that the prover has to see through; of two with one name, the first is brought in, or both, the
+    second by its module's name too"""
     uses, names = [], []
     for module, path in paths:
-        found = [n for n in re.findall(r"^\s*unfoldable pub (\S+) :", open(path).read(), re.M) if n not in names]
-        if found:
-            uses.append("use %s.{%s}" % (module, ", ".join(found)))
-        names += found
+        found = re.findall(r"^\s*unfoldable pub (\S+) :", open(path).read(), re.M)
+        again = [n for n in found if n in names and both]
+        found = [n for n in found if n not in names]
+        brought = found + ["%s as %s-%s" % (n, n, module.split(".")[-1]) for n in again]
+        if brought:
+            uses.append("use %s.{%s}" % (module, ", ".join(brought)))
+        names += found + [b.split()[-1] for b in brought[len(found):]]
     return uses, names
 
 
-def write_module(path, paths, also, cases):
-    uses, names = definitions(paths)
+def write_module(path, paths, also, cases, both=False):
+    uses, names = definitions(paths, both)
     with open(path, "w") as f:
         f.write("use Prim.Native.Nat.{ℕ, suc}\nuse mathlib.Core.List.{List, [], _∷_}\nuse mathlib.Core.Path.{_≡_, refl}\n")
         f.write("use Rattle.paper.specs.Bytes.{bytes}\n" + also + "\n".join(uses) + "\n")
@@ -416,13 +493,16 @@ def main():
     cases = list(file_cases(lib, rnd, int(sys.argv[4]))) + list(batch_cases(lib, rnd, int(sys.argv[5])))
     of_statements = list(statement_cases(lib, rnd))
     found = list(found_cases(lib, rnd, int(sys.argv[4]) // 2))
+    registers, registered = list(register_cases(lib, rnd, 16)), list(registered_cases(lib, rnd, int(sys.argv[4]) // 4))
     with open(folder + "/Lib.antt", "w") as f:
-        f.write("pub mod Cases\npub mod FoundCases\npub mod StatementCases\n")
+        f.write("pub mod Cases\npub mod FoundCases\npub mod StatementCases\npub mod RegisterCases\npub mod RegisteredCases\n")
     write_module(folder + "/Cases.antt", BASE + SHEET + specs("paper"), "use Rattle.paper.specs.Writing.{drafted}\n", cases)
     write_module(folder + "/FoundCases.antt", BASE + SHEET + specs("paper") + specs("why"),
                  "use Rattle.sheet.specs.Sheets.{%s}\n" % ", ".join("sheet" + c for c in LETTERS.values()), found)
     write_module(folder + "/StatementCases.antt", BASE + specs("gpc") + below("gpc", specs("paper")), "", of_statements)
-    print(len(cases) + len(found) + len(of_statements))
+    write_module(folder + "/RegisterCases.antt", BASE + below("register", specs("paper")) + REGISTER, "", registers, both=True)
+    write_module(folder + "/RegisteredCases.antt", BASE + SHEET + specs("paper") + REGISTER + AGAINST, "", registered, both=True)
+    print(len(cases) + len(found) + len(of_statements) + len(registers) + len(registered))
 
 
 main()
