@@ -265,10 +265,10 @@ def file_cases(lib, rnd, count):
         lent = ctypes.create_string_buffer(ROW * room)
         a = lib.peer_read(text, len(text), sheet, today, lent, ROW * room)
         asked = "%d %d (%s)" % (sheet, today, quoted(text))
-        yield "readAnswer %s (blanks %d) ≡ %s" % (asked, ROW * room, answer_of(a))
+        yield "read_answer %s (blanks %d) ≡ %s" % (asked, ROW * room, answer_of(a))
         if a.number == 0:
             kept = min(ROW * a.rows + 3, ROW * room)
-            yield "rowsAfter %s (blanks %d) ≡ (%s)" % (asked, kept, listed(lent.raw[:kept]))
+            yield "rows_after %s (blanks %d) ≡ (%s)" % (asked, kept, listed(lent.raw[:kept]))
 
 
 MOST_FOUND = 64
@@ -289,9 +289,9 @@ def found_cases(lib, rnd, count):
         found = [numbers(Finding.from_buffer(lent, ctypes.sizeof(Finding) * k)) for k in range(a.count)]
         asked = "sheet%s %d (%s)" % (LETTERS[sheet], today, quoted(text))
         if a.refused == 1:
-            yield "foundIn %s ≡ %s" % (asked, found[0])
+            yield "found_in %s ≡ %s" % (asked, found[0])
         else:
-            yield "warnedIn %s ≡ %s" % (asked, "".join("(%s) ∷ " % x for x in found) + "[]")
+            yield "warned_in %s ≡ %s" % (asked, "".join("(%s) ∷ " % x for x in found) + "[]")
 
 
 def batch_cases(lib, rnd, count):
@@ -306,7 +306,7 @@ def batch_cases(lib, rnd, count):
         out = ctypes.create_string_buffer(room)
         a = lib.peer_write(rows, len(rows), TEXTS, len(TEXTS), h[0], h[1], len(h[1]), h[2], h[3], h[4], sheet, today, out, room)
         asked = "(draft %d %d (%s) (%s) (%s))" % (sheet, today, header_of(*h), listed(rows), listed(TEXTS))
-        yield "writtenIn %d %s ≡ record { number = %d; row = %d; field = %d; bytes = %d }" % (
+        yield "written_in %d %s ≡ record { number = %d; row = %d; field = %d; bytes = %d }" % (
             room, asked, a.number, a.row, a.field, a.bytes)
         if a.number == 0:
             yield "%s ≡ drafted (%s)" % (asked, quoted(out.raw[:a.bytes]))
@@ -335,12 +335,12 @@ def numbers(answer):
 def reading(lib, text, room):
     """the answer, what is left of the lent bytes, and the equation of the answer"""
     a, lent = lend(lib.peer_statement_read, text, room)
-    return a, lent, "statementAnswer (%s) %s ≡ %s" % (quoted(text), lent_bytes(room), numbers(a))
+    return a, lent, "statement_answer (%s) %s ≡ %s" % (quoted(text), lent_bytes(room), numbers(a))
 
 
 def writing(lib, rows, room):
     a, lent = lend(lib.peer_statement_write, rows, room)
-    return a, lent, "writtenIn %d (statementDraft (%s)) ≡ %s" % (room, quoted(rows), numbers(a))
+    return a, lent, "written_in %d (statement_draft (%s)) ≡ %s" % (room, quoted(rows), numbers(a))
 
 
 def rooms(lib, rnd, case, data, plenty):
@@ -357,7 +357,7 @@ def statement_file_cases(lib, rnd, text):
         a, lent, equation = reading(lib, text, room)
         yield equation
         if a.number == 0 or rnd.random() < 0.1:
-            yield "statementRows (%s) %s ≡ (%s)" % (quoted(text), lent_bytes(room), quoted(lent))
+            yield "statement_rows (%s) %s ≡ (%s)" % (quoted(text), lent_bytes(room), quoted(lent))
         if a.number == 0 and rnd.random() < 0.4:
             rows = [lent[i:i + statement_inputs.ROW] for i in range(0, plenty, statement_inputs.ROW)]
             yield "plain (%s) ≡ (%s)" % (quoted(text), quoted(writing(lib, lent[:plenty], len(text))[1]))
@@ -371,7 +371,7 @@ def statement_rows_cases(lib, rnd, rows):
         a, lent, equation = writing(lib, rows, room)
         yield equation
         if a.number == 0 or rnd.random() < 0.1:
-            yield "outputAfter %s (statementDraft (%s)) ≡ (%s)" % (lent_bytes(room), quoted(rows), quoted(lent))
+            yield "output_after %s (statement_draft (%s)) ≡ (%s)" % (lent_bytes(room), quoted(rows), quoted(lent))
 
 
 def statement_cases(lib, rnd):
@@ -413,16 +413,16 @@ def register_cases(lib, rnd, count):
     for _ in range(count):
         lent = draw_register(rnd)
         size, said = len(lent), "(%s)" % listed(lent)
-        yield "lowestAnswer %s ≡ %s" % (said, numbers(lib.peer_register_lowest(lent, size)))
-        yield "freeAnswer %s ≡ %s" % (said, numbers(lib.peer_register_free(lent, size)))
+        yield "lowest_answer %s ≡ %s" % (said, numbers(lib.peer_register_lowest(lent, size)))
+        yield "free_answer %s ≡ %s" % (said, numbers(lib.peer_register_free(lent, size)))
         given = rnd.choice([1, 2, 5, 950, 999, 1000, 1023, 2 ** 63])
         a, left = changed(lambda r: lib.peer_register_give_back(r, size, given), lent)
-        yield "giveAnswer %s %d ≡ %s" % (said, given, numbers(a))
-        yield "giveAfter %s %d ≡ (%s)" % (said, given, listed(left))
+        yield "give_answer %s %d ≡ %s" % (said, given, numbers(a))
+        yield "give_after %s %d ≡ (%s)" % (said, given, listed(left))
         date = rnd.choice([20180102, 20240229, 20991231, 20180229, 0, 2 ** 63])
         a, left = changed(lambda r: lib.peer_register_start(date, r, size), lent)
-        yield "startAnswer %d %s ≡ %s" % (date, said, numbers(a))
-        yield "startAfter %d %s ≡ (%s)" % (date, said, listed(left))
+        yield "start_answer %d %s ≡ %s" % (date, said, numbers(a))
+        yield "start_after %d %s ≡ (%s)" % (date, said, listed(left))
 
 
 def registered_cases(lib, rnd, count):
@@ -436,11 +436,11 @@ def registered_cases(lib, rnd, count):
         rows, before = ctypes.create_string_buffer(ROW * room), draw_register(rnd)
         a, left = changed(lambda r: lib.peer_read_registered(text, len(text), sheet, today, rows, ROW * room, r, len(before)), before)
         asked, said = "%d %d (%s)" % (sheet, today, quoted(text)), "(%s)" % listed(before)
-        yield "registeredAnswer %s (blanks %d) %s ≡ %s" % (asked, ROW * room, said, answer_of(a))
-        yield "registerAfter %s (blanks %d) %s ≡ (%s)" % (asked, ROW * room, said, listed(left))
+        yield "registered_answer %s (blanks %d) %s ≡ %s" % (asked, ROW * room, said, answer_of(a))
+        yield "register_after %s (blanks %d) %s ≡ (%s)" % (asked, ROW * room, said, listed(left))
         if a.number == 0:
             kept = min(ROW * a.rows + 3, ROW * room)
-            yield "registeredRows %s (blanks %d) %s ≡ (%s)" % (asked, kept, said, listed(rows.raw[:kept]))
+            yield "registered_rows %s (blanks %d) %s ≡ (%s)" % (asked, kept, said, listed(rows.raw[:kept]))
 
 
 # ---- modules

@@ -1,13 +1,13 @@
 // The calls for a C program, on numbers and byte slices; each slice is a pointer and a count of bytes. Each is the call of the same contract in a
 // crate of its own. Those that say what is found in a file are in `tell`.
 ghost use Rattle.std.specs.Prelude.{◌≡◌, length};
-ghost use Rattle.paper.specs.Reading.{readAnswer, rowsAfter};
-ghost use Rattle.paper.specs.Writing.{draft, writtenIn, outputAfter};
-ghost use Rattle.gpc.specs.Answers.{statementAnswer, statementRows, statementDraft};
-ghost use Rattle.read.specs.Told.{told as toldRead};
-ghost use Rattle.write.specs.Told.{told as toldWritten, headerOf};
-ghost use Rattle.reader.specs.Named.{told as toldLine, lineAnswer};
-ghost use Rattle.statement.specs.reading.Told.{told as toldStatement};
+ghost use Rattle.paper.specs.Reading.{read_answer, rows_after};
+ghost use Rattle.paper.specs.Writing.{draft, written_in, output_after};
+ghost use Rattle.gpc.specs.Answers.{statement_answer, statement_rows, statement_draft};
+ghost use Rattle.read.specs.Told.{told as told_read};
+ghost use Rattle.write.specs.Told.{told as told_written, header_of};
+ghost use Rattle.reader.specs.Named.{told as told_line, line_answer};
+ghost use Rattle.statement.specs.reading.Told.{told as told_statement};
 
 use read::AboAnswer;
 use reader::AboLine;
@@ -17,8 +17,8 @@ use write::AboWritten;
 // Reads a file on a sheet (1 K, 2 S, 3 C, 4 E, 5 P) with today's date, YYYYMMDD, into lent rows. A refusal leaves the rows as they were.
 #[unsafe(no_mangle)]
 pub extern "C" fn abo_read(file: &[u8], sheet: u64, today: u64, rows: &mut [u8]) -> AboAnswer
-    ensures result_value { toldRead result ≡ readAnswer sheet today file.now rows.old }
-    ensures rows_after { rows.new ≡ rowsAfter sheet today file.now rows.old }
+    ensures result_value { told_read result ≡ read_answer sheet today file.now rows.old }
+    ensures rows_after { rows.new ≡ rows_after sheet today file.now rows.old }
 {
     read::read_file(file, sheet, today, rows)
 }
@@ -37,8 +37,8 @@ pub extern "C" fn abo_write(
     today: u64,
     out: &mut [u8],
 ) -> AboWritten
-    ensures result_value { toldWritten result ≡ writtenIn (length out.old) (draft sheet today (headerOf date name.now client from to) rows.now texts.now) }
-    ensures out_after { out.new ≡ outputAfter out.old (draft sheet today (headerOf date name.now client from to) rows.now texts.now) }
+    ensures result_value { told_written result ≡ written_in (length out.old) (draft sheet today (header_of date name.now client from to) rows.now texts.now) }
+    ensures out_after { out.new ≡ output_after out.old (draft sheet today (header_of date name.now client from to) rows.now texts.now) }
 {
     write::write_file(rows, texts, date, name, client, from, to, sheet, today, out)
 }
@@ -46,7 +46,7 @@ pub extern "C" fn abo_write(
 // Finds the line of a number, as refusals count lines: from 1, and the file's end is one more, empty.
 #[unsafe(no_mangle)]
 pub extern "C" fn abo_line(file: &[u8], line: u64) -> AboLine
-    ensures { toldLine result ≡ lineAnswer line file.now }
+    ensures { told_line result ≡ line_answer line file.now }
 {
     reader::line_of(file, line)
 }
@@ -54,8 +54,8 @@ pub extern "C" fn abo_line(file: &[u8], line: u64) -> AboLine
 // Reads a file of statements (GPC records 074 and 075) into lent rows. A refusal leaves the rows as they were.
 #[unsafe(no_mangle)]
 pub extern "C" fn abo_statement_read(file: &[u8], rows: &mut [u8]) -> AboStatement
-    ensures result_value { toldStatement result ≡ statementAnswer file.now rows.old }
-    ensures rows_after { rows.new ≡ statementRows file.now rows.old }
+    ensures result_value { told_statement result ≡ statement_answer file.now rows.old }
+    ensures rows_after { rows.new ≡ statement_rows file.now rows.old }
 {
     statement::reading::read_statements(file, rows)
 }
@@ -63,8 +63,8 @@ pub extern "C" fn abo_statement_read(file: &[u8], rows: &mut [u8]) -> AboStateme
 // Writes the statements that lent rows hold into a lent output. A refusal leaves the output as it was.
 #[unsafe(no_mangle)]
 pub extern "C" fn abo_statement_write(rows: &[u8], out: &mut [u8]) -> AboWritten
-    ensures result_value { toldWritten result ≡ writtenIn (length out.old) (statementDraft rows.now) }
-    ensures out_after { out.new ≡ outputAfter out.old (statementDraft rows.now) }
+    ensures result_value { told_written result ≡ written_in (length out.old) (statement_draft rows.now) }
+    ensures out_after { out.new ≡ output_after out.old (statement_draft rows.now) }
 {
     statement::writing::write_statements(rows, out)
 }

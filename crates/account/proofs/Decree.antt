@@ -3,7 +3,7 @@ use mathlib.Core.Path.{◌≡◌, refl, sym, ap, ◌∙◌}
 use Prim.Native.Nat.{ℕ, zero, suc, ◌+◌, ◌*◌, ◌/◌, ◌%◌, ◌^◌}
 use native.Mathlib.Nat.{add-mul, mul-add, mul_assoc, mul_left_comm, pow-succ', div-add-mod}
 use native.Mathlib.Omega.{arith}
-use Rattle.paper.specs.Accounts.{rest, accountOk}
+use Rattle.paper.specs.Accounts.{rest, account_ok}
 use Rattle.account.specs.Doubled.{doubled}
 use Rattle.account.specs.Decree.{decree, weighted, decreed, powers}
 use Rattle.account.proofs.Doubled.{rest-is}
@@ -33,6 +33,6 @@ pub decree-rest : (n : ℕ) → rest 10 n ≡ weighted decree n % 11
 decree-rest n = rest-is 10 n ∙ sym (ap (λ ws. weighted ws n % 11) decree-powers ∙ by-powers 10 0 n ∙ omega arith)
 
 -- and the decree's rule is that of `Accounts`
-pub decree-same : (p b : ℕ) → accountOk p b ≡ decreed p b
-unfolding accountOk decreed
+pub decree-same : (p b : ℕ) → account_ok p b ≡ decreed p b
+unfolding account_ok decreed
 decree-same p b = rw (decree-rest p, decree-rest b)

@@ -10,37 +10,37 @@ use Rattle.base.proofs.Put.{◌then◌}
 use Rattle.base.proofs.Cases.{pick_true, pick-false}
 use Rattle.out.proofs.put.Room.{wrote-length}
 use Rattle.paper.specs.Numerals.{decimal}
-use Rattle.paper.specs.Accounts.{account, spellAccount}
+use Rattle.paper.specs.Accounts.{account, spell_account}
 
 module _ (p b : ℕ) where
-  pub spelled-alone : p ≡ 0 → spellAccount (account p b) ≡ decimal b
-  unfolding spellAccount
+  pub spelled-alone : p ≡ 0 → spell_account (account p b) ≡ decimal b
+  unfolding spell_account
   spelled-alone e = pick_true _ _ (eq-eqb p 0 e)
 
-  pub spelled-both : (p ≡ 0 → ⊥) → spellAccount (account p b) ≡ decimal p ++ (45 ∷ decimal b)
-  unfolding spellAccount
+  pub spelled-both : (p ≡ 0 → ⊥) → spell_account (account p b) ≡ decimal p ++ (45 ∷ decimal b)
+  unfolding spell_account
   spelled-both n = pick-false _ _ (ne_eqb p 0 n)
 
   -- `account_len`
   module _ (w : ℕ) (g : w ≡ length (decimal b)) where
-    pub long-alone : p ≡ 0 → w ≡ length (spellAccount (account p b))
+    pub long-alone : p ≡ 0 → w ≡ length (spell_account (account p b))
     long-alone e = g ∙ ap length (sym (spelled-alone e))
 
-    pub long-both : (p ≡ 0 → ⊥) → (v : ℕ) → v ≡ length (decimal p) → v + 1 + w ≡ length (spellAccount (account p b))
+    pub long-both : (p ≡ 0 → ⊥) → (v : ℕ) → v ≡ length (decimal p) → v + 1 + w ≡ length (spell_account (account p b))
     long-both n v h = rw (spelled-both n) (omega (arith, length-append (decimal p) (45 ∷ decimal b)))
 
   -- `put_account`
   module _ (o : List ℕ) (at : ℕ) where
     module _ (e : p ≡ 0) where
-      pub room-alone : at + length (spellAccount (account p b)) ≤ length o → at + length (decimal b) ≤ length o
+      pub room-alone : at + length (spell_account (account p b)) ≤ length o → at + length (decimal b) ≤ length o
       room-alone h = omega (arith, long-alone (length (decimal b)) refl e)
 
-      pub wrote-alone : (o1 : List ℕ) (q : ℕ) → Wrote o at (decimal b) o1 q → Wrote o at (spellAccount (account p b)) o1 q
+      pub wrote-alone : (o1 : List ℕ) (q : ℕ) → Wrote o at (decimal b) o1 q → Wrote o at (spell_account (account p b)) o1 q
       wrote-alone o1 q w = rw (spelled-alone e) w
 
     module _ (n : p ≡ 0 → ⊥) where
-      module _ (h : at + length (spellAccount (account p b)) ≤ length o) where
-        long : length (spellAccount (account p b)) ≡ length (decimal p) + 1 + length (decimal b)
+      module _ (h : at + length (spell_account (account p b)) ≤ length o) where
+        long : length (spell_account (account p b)) ≡ length (decimal p) + 1 + length (decimal b)
         long = sym (long-both (length (decimal b)) refl n (length (decimal p)) refl)
 
         pub room-prefix : at + length (decimal p) ≤ length o
@@ -54,7 +54,7 @@ module _ (p b : ℕ) where
           room-base x o2 r w = omega (arith, long, v.next, w.next, wrote-length v, wrote-length w)
 
       pub wrote-both : (o1 o2 o3 : List ℕ) (q r t : ℕ) → Wrote o at (decimal p) o1 q → Wrote o1 q (45 ∷ []) o2 r → Wrote o2 r (decimal b) o3 t
-          → Wrote o at (spellAccount (account p b)) o3 t
+          → Wrote o at (spell_account (account p b)) o3 t
       wrote-both o1 o2 o3 q r t u v w = rw (spelled-both n) (u then v then w)
 
 pub ruleset spelled = (long-alone, long-both, room-alone, wrote-alone, room-prefix, room-dash, room-base, wrote-both)

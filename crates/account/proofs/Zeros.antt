@@ -12,15 +12,15 @@ use Rattle.base.proofs.Cases.{by-test, either, pick-both, pick-false}
 use Rattle.base.proofs.Seek.{never, all_head, all_tail, all_take, all_drop}
 use Rattle.numeral.proofs.given.Given.{value-fault, value_same, given-value}
 use Rattle.paper.specs.Read.{value, fault}
-use Rattle.paper.specs.Bytes.{isDigit, dash, null}
-use Rattle.paper.specs.Numerals.{digitsOn, digits}
-use Rattle.paper.specs.Accounts.{Account, rest, nonZero, accountOk, ruled, twoParts, onePart, readAccount, zeros, onlyZeros, readPayer}
+use Rattle.paper.specs.Bytes.{is_digit, dash, null}
+use Rattle.paper.specs.Numerals.{digits_on, digits}
+use Rattle.paper.specs.Accounts.{Account, rest, non_zero, account_ok, ruled, two_parts, one_part, read_account, zeros, only_zeros, read_payer}
 use Rattle.numeral.specs.Zero.{is_zero}
-use Rattle.account.specs.Parts.{withBase}
+use Rattle.account.specs.Parts.{with_base}
 
 -- zeros read as 0
-zeros-on : (s : List ℕ) → all is_zero s ≡ true → digitsOn 0 s ≡ value 0
-unfolding digitsOn isDigit pick
+zeros-on : (s : List ℕ) → all is_zero s ≡ true → digits_on 0 s ≡ value 0
+unfolding digits_on is_digit pick
 zeros-on [] h = refl
 zeros-on (x ∷ s) h = let e : x ≡ 48 = eqb-true x 48 (all_head is_zero x s h) in rw e (zeros-on s (all_tail is_zero x s h))
 
@@ -36,20 +36,20 @@ zeros-say least most s h =
 
 -- and prefix 0, base 0 breaks the rule
 broken : ruled 0 0 ≡ fault 5
-unfolding ruled accountOk rest nonZero pick
+unfolding ruled account_ok rest non_zero pick
 broken = refl
 
-no-base : (least : ℕ) (b : List ℕ) (a : Account) → all is_zero b ≡ true → withBase least 0 b ≡ value a → ⊥
-unfolding withBase
+no-base : (least : ℕ) (b : List ℕ) (a : Account) → all is_zero b ≡ true → with_base least 0 b ≡ value a → ⊥
+unfolding with_base
 no-base least b a h e =
     let g = given-value (λ base. ruled 0 base) (digits least 10 b) a e in
     let z : g.0 ≡ 0 = zeros-say least 10 b h g.0 g.1 in
     value-fault a 5 (sym (rw z at g.2) ∙ broken)
 
-no-parts : (least : ℕ) (p b : List ℕ) (a : Account) → all is_zero p ≡ true → all is_zero b ≡ true → twoParts least p b ≡ value a → ⊥
-unfolding twoParts withBase
+no-parts : (least : ℕ) (p b : List ℕ) (a : Account) → all is_zero p ≡ true → all is_zero b ≡ true → two_parts least p b ≡ value a → ⊥
+unfolding two_parts with_base
 no-parts least p b a h k e =
-    let g = given-value (λ prefix. withBase least prefix b) (digits 1 6 p) a e in
+    let g = given-value (λ prefix. with_base least prefix b) (digits 1 6 p) a e in
     let z : g.0 ≡ 0 = zeros-say 1 6 p h g.0 g.1 in
     no-base least b a k (rw z at g.2)
 
@@ -60,8 +60,8 @@ zeros-all most s =
     (λ e f. never (sym f))
     (λ e. either (λ x. x ≡ true → all is_zero s ≡ true) (ltb most (length s)) (λ g f. never (sym f)) (λ g f. f))
 
-zeros-none : (joined : Bool) (least : ℕ) (s : List ℕ) (a : Account) → onlyZeros s ≡ true → readAccount joined least s ≡ value a → ⊥
-unfolding onlyZeros readAccount onePart pick withBase
+zeros-none : (joined : Bool) (least : ℕ) (s : List ℕ) (a : Account) → only_zeros s ≡ true → read_account joined least s ≡ value a → ⊥
+unfolding only_zeros read_account one_part pick with_base
 zeros-none joined least s a h e =
     by-test (ltb (seek dash s) (length s))
     (λ t. let b = pick-both (zeros 6 (before dash s)) (zeros 10 (drop (seek dash s + 1) s)) (simp t at h) in
@@ -71,16 +71,16 @@ zeros-none joined least s a h e =
     (λ u. no-parts 10 (take (length s - 10) s) (drop (length s - 10) s) a (all_take is_zero (length s - 10) s z) (all_drop is_zero (length s - 10) s z) (simp (t, u) at e))
     (λ u. no-base least s a z (simp (t, u) at e)))
 
-empty-none : (joined : Bool) (least : ℕ) (s : List ℕ) (a : Account) → null s ≡ true → readAccount joined least s ≡ value a → ⊥
-unfolding readAccount onePart null seek all pick withBase
+empty-none : (joined : Bool) (least : ℕ) (s : List ℕ) (a : Account) → null s ≡ true → read_account joined least s ≡ value a → ⊥
+unfolding read_account one_part null seek all pick with_base
 empty-none true least [] a h e = no-base least [] a refl e
 empty-none false least [] a h e = no-base least [] a refl e
 empty-none joined least (x ∷ s) a h e = never (sym h)
 
-module _ (joined : Bool) (least : ℕ) (s : List ℕ) (a : Account) (e : readAccount joined least s ≡ value a) where
-  pub account-payer : (empty allzero : Bool) → readPayer empty allzero joined least s ≡ value a
-  unfolding readPayer
+module _ (joined : Bool) (least : ℕ) (s : List ℕ) (a : Account) (e : read_account joined least s ≡ value a) where
+  pub account-payer : (empty allzero : Bool) → read_payer empty allzero joined least s ≡ value a
+  unfolding read_payer
   account-payer empty allzero =
       pick-false _ _ (either (λ x. x ≡ false) empty (λ w. by-test (null s) (λ o. absurd (empty-none joined least s a o e)) (λ o. o)) (λ w. refl))
-      ∙ pick-false _ _ (either (λ x. x ≡ false) allzero (λ w. by-test (onlyZeros s) (λ o. absurd (zeros-none joined least s a o e)) (λ o. o)) (λ w. refl))
+      ∙ pick-false _ _ (either (λ x. x ≡ false) allzero (λ w. by-test (only_zeros s) (λ o. absurd (zeros-none joined least s a o e)) (λ o. o)) (λ w. refl))
       ∙ e

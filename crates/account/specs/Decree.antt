@@ -2,7 +2,7 @@
 -- what stands here: that it is the rule of `Accounts` is a theorem. Document 01, "Accounts"; document 02, W-203. Assumes nothing.
 use Rattle.std.specs.Prelude.{ℕ, zero, suc, ◌+◌, ◌*◌, ◌/◌, ◌%◌, ◌^◌, Bool, false, List, [], ◌∷◌, eqb, leb}
 use Rattle.base.specs.Pick.{pick}
-use Rattle.paper.specs.Accounts.{nonZero}
+use Rattle.paper.specs.Accounts.{non_zero}
 
 -- the decree's weights, from the right digit on
 abbrev pub decree : List ℕ
@@ -17,7 +17,7 @@ weighted (w ∷ ws) n = w * (n % 10) + weighted ws (n / 10)
 unfoldable pub decreed : ℕ → ℕ → Bool
 decreed prefix base =
     pick (eqb (weighted decree prefix % 11) 0)
-    (pick (eqb (weighted decree base % 11) 0) (leb 2 (nonZero 10 base)) false)
+    (pick (eqb (weighted decree base % 11) 0) (leb 2 (non_zero 10 base)) false)
     false
 
 -- the rests by 11 of k powers of 2, the first of which is 2 ^ j

@@ -9,5 +9,5 @@ doubled zero n = 0
 doubled (suc k) n = 2 * doubled k (n / 10) + n % 10
 
 -- such sums of a prefix and a base leave no rest, and the base has some digit
-unfoldable pub sumsOk : ℕ → ℕ → Bool
-sumsOk p b = pick (eqb (p % 11) 0) (pick (eqb (b % 11) 0) (ltb 0 b) false) false
+unfoldable pub sums_ok : ℕ → ℕ → Bool
+sums_ok p b = pick (eqb (p % 11) 0) (pick (eqb (b % 11) 0) (ltb 0 b) false) false

@@ -4,6 +4,6 @@ use Rattle.paper.specs.Read.{Field, given}
 use Rattle.paper.specs.Numerals.{digits}
 use Rattle.paper.specs.Accounts.{Account, ruled}
 
--- an account whose prefix is known, and whose base has `least` to 10 digits: the last step of `twoParts`, and with prefix 0 `onePart`
-unfoldable pub withBase : ℕ → ℕ → List ℕ → Field Account
-withBase least prefix b = given (digits least 10 b) λ base. ruled prefix base
+-- an account whose prefix is known, and whose base has `least` to 10 digits: the last step of `two_parts`, and with prefix 0 `one_part`
+unfoldable pub with_base : ℕ → ℕ → List ℕ → Field Account
+with_base least prefix b = given (digits least 10 b) λ base. ruled prefix base

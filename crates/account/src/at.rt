@@ -4,16 +4,16 @@ ghost use Rattle.base.specs.Pick.{pick};
 ghost use Rattle.paper.specs.Read.{value};
 ghost use Rattle.paper.specs.Bytes.{field_of, null};
 ghost use Rattle.paper.specs.Numerals.{digits};
-ghost use Rattle.paper.specs.Accounts.{ruled, readAccount, isNobody, readPayer};
+ghost use Rattle.paper.specs.Accounts.{ruled, read_account, is_nobody, read_payer};
 ghost use Rattle.account.specs.Doubled.{doubled};
 ghost use Rattle.numeral.specs.field.At.{ending, field_at};
 ghost use Rattle.numeral.specs.field.Digits.{run};
 ghost use Rattle.numeral.specs.field.Kept.{keeping, nothing};
 ghost use Rattle.numeral.specs.field.Told.{passed};
-ghost use Rattle.account.specs.at.Parts.{undashed, dashed, zerosAt};
-ghost use Rattle.account.specs.Parts.{withBase};
-ghost use Rattle.account.specs.at.Told.{toldPayer, toldAccount};
-ghost use Rattle.account.specs.at.Numbers.{prefixAndBase};
+ghost use Rattle.account.specs.at.Parts.{undashed, dashed, zeros_at};
+ghost use Rattle.account.specs.Parts.{with_base};
+ghost use Rattle.account.specs.at.Told.{told_payer, told_account};
+ghost use Rattle.account.specs.at.Numbers.{prefix_and_base};
 ghost use Rattle.numeral.specs.placed.Known.{There};
 
 use numeral::field::Passed;
@@ -83,7 +83,7 @@ fn judge_sums(p: u64, b: u64, end: usize) -> Passed
 // The base behind the dash at `at`, and behind a prefix, whose sum is p.
 fn judge_base(s: &[u8], at: usize, p: u64, least: usize) -> Passed
     requires { at < length s.now }
-    ensures { (x : ℕ) → x < 10000000000 → p ≡ doubled 19 x → passed result ≡ keeping nothing (field_at (withBase least x) s.now (at + 1)) }
+    ensures { (x : ℕ) → x < 10000000000 → p ≡ doubled 19 x → passed result ≡ keeping nothing (field_at (with_base least x) s.now (at + 1)) }
 {
     let from = at + 1;
     let got = sum_run(s, from, 10);
@@ -117,7 +117,7 @@ fn judge_long(s: &[u8], at: usize, joined: bool, end: usize) -> Passed
 // The account at `at`. The sums of its digits decide, so no number is made of them.
 pub fn judge_account(s: &[u8], at: usize, joined: bool, least: usize) -> Passed
     requires { at ≤ length s.now }
-    ensures { passed result ≡ keeping nothing (field_at (readAccount joined least) s.now at) }
+    ensures { passed result ≡ keeping nothing (field_at (read_account joined least) s.now at) }
 {
     let got = sum_run(s, at, 16);
     let end = got.end;
@@ -158,7 +158,7 @@ fn left_empty(s: &[u8], at: usize, empty: bool) -> bool
 // A group's payer at `at` whose field is no account, which n refuses: nobody where it has only zeros (`allzero`).
 fn zeros_at(s: &[u8], at: usize, allzero: bool, n: u64) -> PayerAt
     requires { at ≤ length s.now }
-    ensures { toldPayer result ≡ keeping isNobody (zerosAt allzero n s.now at) }
+    ensures { told_payer result ≡ keeping is_nobody (zeros_at allzero n s.now at) }
 {
     let end = scan::line::field_end(s, at);
     if crate::only_zeros(&s[at..end], allzero) {
@@ -178,7 +178,7 @@ pub fn judge_payer(
     least: usize,
 ) -> PayerAt
     requires { at ≤ length s.now }
-    ensures { toldPayer result ≡ keeping isNobody (field_at (readPayer empty allzero joined least) s.now at) }
+    ensures { told_payer result ≡ keeping is_nobody (field_at (read_payer empty allzero joined least) s.now at) }
 {
     if left_empty(s, at, empty) {
         return PayerAt::At(true, at);
@@ -201,8 +201,8 @@ pub struct Account {
 
 // The prefix and base at `at`, whatever rule they break. Eleven digits or more with no dash can only be a prefix and its base.
 fn take_numbers(s: &[u8], at: usize) -> Account
-    requires { There prefixAndBase s.now at }
-    ensures { toldAccount result ≡ field_at prefixAndBase s.now at }
+    requires { There prefix_and_base s.now at }
+    ensures { told_account result ≡ field_at prefix_and_base s.now at }
 {
     let first = numeral::placed::take_run(s, at);
     let end = first.end;
@@ -231,8 +231,8 @@ fn take_numbers(s: &[u8], at: usize) -> Account
 
 // The account at `at`. What the sheet allows, `joined` and `least`, was judged.
 pub fn take_account(s: &[u8], at: usize, joined: bool, least: usize) -> Account
-    requires { There (readAccount joined least) s.now at }
-    ensures { toldAccount result ≡ field_at (readAccount joined least) s.now at }
+    requires { There (read_account joined least) s.now at }
+    ensures { told_account result ≡ field_at (read_account joined least) s.now at }
 {
     take_numbers(s, at)
 }
@@ -246,8 +246,8 @@ pub fn take_payer(
     joined: bool,
     least: usize,
 ) -> Account
-    requires { There (readPayer empty allzero joined least) s.now at }
-    ensures { toldAccount result ≡ field_at (readPayer empty allzero joined least) s.now at }
+    requires { There (read_payer empty allzero joined least) s.now at }
+    ensures { told_account result ≡ field_at (read_payer empty allzero joined least) s.now at }
 {
     take_numbers(s, at)
 }

@@ -5,9 +5,9 @@ ghost use Rattle.std.specs.Prelude.{◌≡◌, false, ◌+◌, ◌*◌, ◌≤�
 ghost use Rattle.base.specs.Pick.{pick};
 ghost use Rattle.base.specs.Put.{Wrote};
 ghost use Rattle.base.specs.Seek.{all};
-ghost use Rattle.paper.specs.Accounts.{account, accountOk, accountProper, isNobody, spellAccount, zeros, onlyZeros};
+ghost use Rattle.paper.specs.Accounts.{account, account_ok, account_proper, is_nobody, spell_account, zeros, only_zeros};
 ghost use Rattle.numeral.specs.Zero.{is_zero};
-ghost use Rattle.account.specs.Doubled.{doubled, sumsOk};
+ghost use Rattle.account.specs.Doubled.{doubled, sums_ok};
 
 // The rule's first two steps, at each digit from the left: twice what there is, plus the digit. The third, the rest by 11, is taken once,
 // at the end (`sums_ok`), which comes to the same.
@@ -66,7 +66,7 @@ pub fn doubled_sum(n: u64) -> u64
 // Is the rest by 11 of both sums, of a prefix and of a base, 0, and has the base two digits or more that are not zero? One digit, however
 // often it is doubled, does not divide by 11. So where a base's sum does, and is not 0, there are two: they need not be counted.
 pub fn sums_ok(p: u64, b: u64) -> bool
-    ensures { result ≡ sumsOk p b }
+    ensures { result ≡ sums_ok p b }
 {
     if p % 11 != 0 {
         return false;
@@ -79,7 +79,7 @@ pub fn sums_ok(p: u64, b: u64) -> bool
 
 // Do prefix and base keep the rule?
 pub fn account_ok(prefix: u64, base: u64) -> bool
-    ensures { result ≡ accountOk prefix base }
+    ensures { result ≡ account_ok prefix base }
 {
     let b = doubled_sum(base);
     // most prefixes are 0
@@ -92,7 +92,7 @@ pub fn account_ok(prefix: u64, base: u64) -> bool
 
 // Is it an account that a batch may hold?
 pub fn account_proper(prefix: u64, base: u64) -> bool
-    ensures { result ≡ accountProper (account prefix base) }
+    ensures { result ≡ account_proper (account prefix base) }
 {
     if 1000000 <= prefix {
         return false;
@@ -105,7 +105,7 @@ pub fn account_proper(prefix: u64, base: u64) -> bool
 
 // Does it stand for no account?
 pub fn is_nobody(prefix: u64, base: u64) -> bool
-    ensures { result ≡ isNobody (account prefix base) }
+    ensures { result ≡ is_nobody (account prefix base) }
 {
     if prefix != 0 {
         return false;
@@ -142,7 +142,7 @@ fn some_zeros(f: &[u8], most: usize) -> bool
 
 // Is a field spelled with only zeros, where that is looked for?
 pub fn only_zeros(f: &[u8], allzero: bool) -> bool
-    ensures { result ≡ pick allzero (onlyZeros f.now) false }
+    ensures { result ≡ pick allzero (only_zeros f.now) false }
 {
     if !allzero {
         return false;
@@ -161,7 +161,7 @@ pub fn only_zeros(f: &[u8], allzero: bool) -> bool
 
 // How many bytes the account's spelling has.
 pub fn account_len(prefix: u64, base: u64) -> usize
-    ensures { result ≡ length (spellAccount (account prefix base)) }
+    ensures { result ≡ length (spell_account (account prefix base)) }
 {
     let w = numeral::width(base);
     if prefix == 0 {
@@ -172,8 +172,8 @@ pub fn account_len(prefix: u64, base: u64) -> usize
 
 // Writes the account at `at`, the prefix and its dash only where the prefix is not 0. Returns the next place.
 pub fn put_account(out: &mut [u8], at: usize, prefix: u64, base: u64) -> usize
-    requires { at + length (spellAccount (account prefix base)) ≤ length out.old }
-    ensures { Wrote out.old at (spellAccount (account prefix base)) out.new result }
+    requires { at + length (spell_account (account prefix base)) ≤ length out.old }
+    ensures { Wrote out.old at (spell_account (account prefix base)) out.new result }
 {
     if prefix == 0 {
         return numeral::put_number(out, at, base);

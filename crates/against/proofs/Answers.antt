@@ -14,14 +14,14 @@ use Rattle.sheet.specs.declared.Sheet.{Sheet}
 use Rattle.paper.specs.Bytes.{null}
 use Rattle.paper.specs.Batch.{Batch, Header, things}
 use Rattle.paper.specs.Lines.{Line, first, behind, lines_of}
-use Rattle.paper.specs.Entries.{counted, Kind, headLine, fileLine, groupLine, itemLine, groupEnd, fileEnd, kind_of}
+use Rattle.paper.specs.Entries.{counted, Kind, head_line, file_line, group_line, item_line, group_end, file_end, kind_of}
 use Rattle.paper.specs.FileLine.{member}
-use Rattle.paper.specs.Spells.{readAs}
-use Rattle.paper.specs.Judge.{Answer, Refused, Accepted, State, atFirst, atFile, atGroup, atItem, stop, seen, revOn, is}
+use Rattle.paper.specs.Spells.{read_as}
+use Rattle.paper.specs.Judge.{Answer, Refused, Accepted, State, at_first, at_file, at_group, at_item, stop, seen, rev_on, is}
 use Rattle.paper.specs.Judge as judge
 use Rattle.fileline.specs.seen.Bits.{bit, Holds}
 use Rattle.tally.specs.Short.{Brief, No, Yes, brief, short, tally}
-use Rattle.tally.specs.Tally.{Tally, tFirst, tFile, tGroup, tItem, tStop, seed, seededRun, seeded}
+use Rattle.tally.specs.Tally.{Tally, t_first, t_file, t_group, t_item, t_stop, seed, seeded_run, seeded}
 use Rattle.tally.specs.Tally as numbers
 use Rattle.tally.specs.Abs.{abs}
 use Rattle.tally.proofs.Abs.{map-pick}
@@ -29,15 +29,15 @@ use Rattle.tally.proofs.Same.{steps, endings, accepted-is}
 use Rattle.tally.proofs.Short.{both, tally-is}
 use Rattle.register.specs.Marks.{Marks}
 use Rattle.register.specs.Register.{Register, used}
-use Rattle.against.specs.Against.{dayOf, isOther, readFirstOn, read_on, lineOn, stepOn, runOn, judgeOn}
-use Rattle.against.specs.Turned.{struck, isNine, turned}
+use Rattle.against.specs.Against.{day_of, is_other, read_first_on, read_on, line_on, step_on, run_on, judge_on}
+use Rattle.against.specs.Turned.{struck, is_nine, turned}
 use Rattle.against.proofs.Steps.{NoNine, no-nine-step, Past, past-step, first_past, Threes, same, split, three-steps}
 
 -- ---- the two answers turned into one
 
 -- an answer that both ways give stays
 turned_same : (a : Brief) → turned a a ≡ a
-unfolding turned isNine pick
+unfolding turned is_nine pick
 turned_same (Yes h r w) = refl
 turned_same (No n l p) =
     by-eq n 9
@@ -45,25 +45,25 @@ turned_same (No n l p) =
     (λ e. simp (ne_eqb n 9 e))
 
 -- a 9 that comes with the register's numbers alone is 22
-turned-late : (a : Brief) (l p : ℕ) → isNine l p a ≡ false → turned a (No 9 l p) ≡ No 22 l p
+turned-late : (a : Brief) (l p : ℕ) → is_nine l p a ≡ false → turned a (No 9 l p) ≡ No 22 l p
 unfolding turned pick
 turned-late a l p e = simp e
 
 -- ---- a later line's answer is no 9 at an earlier line
 
-ends-later : (n k i p : ℕ) (st : State) → NoNine i st → isNine i p (brief (judge.end_of n k st)) ≡ false
-unfolding judge.end_of brief isNine pick
-ends-later n k i p atFirst q = refl
-ends-later n k i p (atFile x) q = by-test (null x.files) (λ e. simp e) (λ e. simp e)
-ends-later n k i p (atGroup x) q = refl
-ends-later n k i p (atItem x) q = refl
+ends-later : (n k i p : ℕ) (st : State) → NoNine i st → is_nine i p (brief (judge.end_of n k st)) ≡ false
+unfolding judge.end_of brief is_nine pick
+ends-later n k i p at_first q = refl
+ends-later n k i p (at_file x) q = by-test (null x.files) (λ e. simp e) (λ e. simp e)
+ends-later n k i p (at_group x) q = refl
+ends-later n k i p (at_item x) q = refl
 ends-later n k i p (stop (Refused m l b)) q =
     by-eq m 9
     (λ e. let far : i < l = q e in simp (eq-eqb m 9 e, ne_eqb i l (λ z. omega arith)))
     (λ e. simp (ne_eqb m 9 e))
 ends-later n k i p (stop (Accepted h b w)) q = refl
 
-runs-later : (sh : Sheet) (today n k i p : ℕ) (ts : List Line) (st : State) → i < k → NoNine i st → isNine i p (brief (judge.run sh today n k ts st)) ≡ false
+runs-later : (sh : Sheet) (today n k i p : ℕ) (ts : List Line) (st : State) → i < k → NoNine i st → is_nine i p (brief (judge.run sh today n k ts st)) ≡ false
 unfolding judge.run
 runs-later sh today n k i p [] st l q = ends-later n k i p st q
 runs-later sh today n k i p (t ∷ ts) st l q =
@@ -71,13 +71,13 @@ runs-later sh today n k i p (t ∷ ts) st l q =
 
 -- ---- what has stopped answers so
 
-run-stop : (sh : Sheet) (today n k : ℕ) (ts : List Line) (a : numbers.Brief) → numbers.run sh today n k ts (tStop a) ≡ a
+run-stop : (sh : Sheet) (today n k : ℕ) (ts : List Line) (a : numbers.Brief) → numbers.run sh today n k ts (t_stop a) ≡ a
 unfolding numbers.run numbers.step numbers.end_of
 run-stop sh today n k [] a = refl
 run-stop sh today n k (t ∷ ts) a = run-stop sh today n (suc k) ts a
 
-on-stop : (reg : Register) (sh : Sheet) (today n k : ℕ) (ts : List Line) (a : Answer) → runOn reg sh today n k ts (stop a) ≡ a
-unfolding runOn stepOn judge.end_of
+on-stop : (reg : Register) (sh : Sheet) (today n k : ℕ) (ts : List Line) (a : Answer) → run_on reg sh today n k ts (stop a) ≡ a
+unfolding run_on step_on judge.end_of
 on-stop reg sh today n k [] a = refl
 on-stop reg sh today n k (t ∷ ts) a = on-stop reg sh today n (suc k) ts a
 
@@ -106,27 +106,27 @@ end-grown u false n l p h' h own m r' r w' w e =
 ends-grown : (u : List ℕ) (n k : ℕ) (st : State) → Past st → (h : Header) (m : List ℕ) (r w : ℕ)
     → numbers.end_of n k (seed u (abs st)) ≡ numbers.Yes h m r w → Grown u h m r w (numbers.end_of n k (abs st))
 unfolding abs seed numbers.end_of numbers.brief
-ends-grown u n k atFirst q h m r w e = absurd q
-ends-grown u n k (atFile x) q h m r w e = end-grown u _ _ _ _ x.header h (seen x.files) m _ r x.warnings w e
-ends-grown u n k (atGroup x) q h m r w e = not_yes e
-ends-grown u n k (atItem x) q h m r w e = not_yes e
+ends-grown u n k at_first q h m r w e = absurd q
+ends-grown u n k (at_file x) q h m r w e = end-grown u _ _ _ _ x.header h (seen x.files) m _ r x.warnings w e
+ends-grown u n k (at_group x) q h m r w e = not_yes e
+ends-grown u n k (at_item x) q h m r w e = not_yes e
 ends-grown u n k (stop (Refused a b c)) q h m r w e = not_yes e
 ends-grown u n k (stop (Accepted a b c)) q h m r w e = absurd q
 
 seed-end : (u : List ℕ) (n k : ℕ) (c : Tally) → short (numbers.end_of n k (seed u c)) ≡ short (numbers.end_of n k c)
 unfolding seed numbers.end_of short
-seed-end u n k tFirst = refl
-seed-end u n k (tFile b) = map-pick short _ _ _ ∙ sym (map-pick short _ _ _)
-seed-end u n k (tGroup b s) = refl
-seed-end u n k (tItem b s o) = refl
-seed-end u n k (tStop a) = refl
+seed-end u n k t_first = refl
+seed-end u n k (t_file b) = map-pick short _ _ _ ∙ sym (map-pick short _ _ _)
+seed-end u n k (t_group b s) = refl
+seed-end u n k (t_item b s o) = refl
+seed-end u n k (t_stop a) = refl
 
 -- ---- the lines behind the first
 
 module _ (reg : Register) (sh : Sheet) (i : sh.interval ≡ true) (u : List ℕ) (is-used : (n : ℕ) → used reg n ≡ member n u) (today n : ℕ) where
   -- the answer against the register is the two others turned into one
   abbrev Turned : ℕ → List Line → State → State → Tally → Type 0
-  Turned k ts a b c = brief (runOn reg sh today n k ts b) ≡ turned (brief (judge.run sh today n k ts a)) (short (numbers.run sh today n k ts c))
+  Turned k ts a b c = brief (run_on reg sh today n k ts b) ≡ turned (brief (judge.run sh today n k ts a)) (short (numbers.run sh today n k ts c))
 
   line-turned : (k : ℕ) (ts : List Line) {a b : State} {c : Tally} → Threes u k a b c → Past a
       → ((st : State) → Past st → Turned (suc k) ts st st (seed u (abs st))) → Turned (suc k) ts a b c
@@ -137,7 +137,7 @@ module _ (reg : Register) (sh : Sheet) (i : sh.interval ≡ true) (u : List ℕ)
       (sym (turned-late _ k p (runs-later sh today n (suc k) k p ts st (omega arith) clear)))
 
   run-turned : (k : ℕ) (ts : List Line) (st : State) → Past st → Turned k ts st st (seed u (abs st))
-  unfolding runOn judge.run numbers.run
+  unfolding run_on judge.run numbers.run
   run-turned k [] st q =
       rw (seed-end u n k (abs st), ← (endings n k st), both (judge.end_of n k st)) (sym (turned_same (brief (judge.end_of n k st))))
   run-turned k (t ∷ ts) st q =
@@ -148,7 +148,7 @@ module _ (reg : Register) (sh : Sheet) (i : sh.interval ≡ true) (u : List ℕ)
     abbrev Grows : ℕ → List Line → State → State → Tally → Type 0
     Grows k ts a b c =
         numbers.run sh today n k ts c ≡ numbers.Yes h m r w
-        → Grown u h m r w (numbers.brief (judge.run sh today n k ts a)) × (runOn reg sh today n k ts b ≡ judge.run sh today n k ts a)
+        → Grown u h m r w (numbers.brief (judge.run sh today n k ts a)) × (run_on reg sh today n k ts b ≡ judge.run sh today n k ts a)
 
     line-grows : (k : ℕ) (ts : List Line) {a b : State} {c : Tally} → Threes u k a b c → Past a
         → ((st : State) → Past st → Grows (suc k) ts st st (seed u (abs st))) → Grows (suc k) ts a b c
@@ -156,7 +156,7 @@ module _ (reg : Register) (sh : Sheet) (i : sh.interval ≡ true) (u : List ℕ)
     line-grows k ts (split {st = st} {p = p} clear) q later e = not_yes (sym (run-stop sh today n (suc k) ts (numbers.No 9 k p)) ∙ e)
 
     run-grows : (k : ℕ) (ts : List Line) (st : State) → Past st → Grows k ts st st (seed u (abs st))
-    unfolding runOn judge.run numbers.run
+    unfolding run_on judge.run numbers.run
     run-grows k [] st q e = (rw (endings n k st) (ends-grown u n k st q h m r w e), refl)
     run-grows k (t ∷ ts) st q e =
         line-grows k ts (three-steps reg sh i u is-used today k t st q) (past-step sh today k t st q) (run-grows (suc k) ts) e
@@ -165,38 +165,38 @@ module _ (reg : Register) (sh : Sheet) (i : sh.interval ≡ true) (u : List ℕ)
 
 module _ (reg : Register) (sh : Sheet) (today k : ℕ) (t : Line) where
   -- 23 comes before all that the line may be refused with behind its date
-  struck-line : (kind : Kind) → is headLine kind ≡ true → isOther reg (dayOf t.bytes) ≡ true
-      → lineOn reg sh today k t kind atFirst ≡ stop (Refused 23 k (t.start + 4))
-  unfolding lineOn judge.isDue judge.isFull read_on readFirstOn judge.onSaid counted pick
-  struck-line headLine e o = rw o
-  struck-line fileLine e o = never (sym e)
-  struck-line groupLine e o = never (sym e)
-  struck-line itemLine e o = never (sym e)
-  struck-line groupEnd e o = never (sym e)
-  struck-line fileEnd e o = never (sym e)
+  struck-line : (kind : Kind) → is head_line kind ≡ true → is_other reg (day_of t.bytes) ≡ true
+      → line_on reg sh today k t kind at_first ≡ stop (Refused 23 k (t.start + 4))
+  unfolding line_on judge.is_due judge.is_full read_on read_first_on judge.on_said counted pick
+  struck-line head_line e o = rw o
+  struck-line file_line e o = never (sym e)
+  struck-line group_line e o = never (sym e)
+  struck-line item_line e o = never (sym e)
+  struck-line group_end e o = never (sym e)
+  struck-line file_end e o = never (sym e)
 
   -- a line that is not struck is met as ever
-  spared-line : (kind : Kind) → pick (is headLine kind) (isOther reg (dayOf t.bytes)) false ≡ false
-      → lineOn reg sh today k t kind atFirst ≡ judge.read sh today k t kind atFirst
-  unfolding lineOn judge.read judge.isDue read_on readFirstOn readAs pick
-  spared-line headLine e = rw e
-  spared-line fileLine e = refl
-  spared-line groupLine e = refl
-  spared-line itemLine e = refl
-  spared-line groupEnd e = refl
-  spared-line fileEnd e = refl
+  spared-line : (kind : Kind) → pick (is head_line kind) (is_other reg (day_of t.bytes)) false ≡ false
+      → line_on reg sh today k t kind at_first ≡ judge.read sh today k t kind at_first
+  unfolding line_on judge.read judge.is_due read_on read_first_on read_as pick
+  spared-line head_line e = rw e
+  spared-line file_line e = refl
+  spared-line group_line e = refl
+  spared-line item_line e = refl
+  spared-line group_end e = refl
+  spared-line file_end e = refl
 
-  struck-step : (ts : List Line) → struck reg (t ∷ ts) ≡ true → stepOn reg sh today k t atFirst ≡ stop (Refused 23 k (t.start + 4))
-  unfolding struck stepOn
+  struck-step : (ts : List Line) → struck reg (t ∷ ts) ≡ true → step_on reg sh today k t at_first ≡ stop (Refused 23 k (t.start + 4))
+  unfolding struck step_on
   struck-step ts e = let b = pick-both _ _ e in struck-line (kind_of t.bytes) b.0 b.1
 
-  spared-step : (ts : List Line) → struck reg (t ∷ ts) ≡ false → stepOn reg sh today k t atFirst ≡ judge.step sh today k t atFirst
-  unfolding struck stepOn judge.step
+  spared-step : (ts : List Line) → struck reg (t ∷ ts) ≡ false → step_on reg sh today k t at_first ≡ judge.step sh today k t at_first
+  unfolding struck step_on judge.step
   spared-step ts e = spared-line (kind_of t.bytes) e
 
-first-seeded : (sh : Sheet) (today k : ℕ) (t : Line) → numbers.step sh today k t tFirst ≡ abs (judge.step sh today k t atFirst)
+first-seeded : (sh : Sheet) (today k : ℕ) (t : Line) → numbers.step sh today k t t_first ≡ abs (judge.step sh today k t at_first)
 unfolding abs
-first-seeded sh today k t = sym (steps sh today k t atFirst)
+first-seeded sh today k t = sym (steps sh today k t at_first)
 
 -- where the first of the lines starts
 abbrev StartsAt : ℕ → List Line → Type 0
@@ -222,63 +222,63 @@ lines_start i (b ∷ s) =
 -- ---- the lines from the top
 
 lines-struck : (reg : Register) (sh : Sheet) (today n : ℕ) (ts : List Line) → StartsAt 0 ts → struck reg ts ≡ true
-    → runOn reg sh today n 1 ts atFirst ≡ Refused 23 1 4
-unfolding runOn struck
+    → run_on reg sh today n 1 ts at_first ≡ Refused 23 1 4
+unfolding run_on struck
 lines-struck reg sh today n [] s e = never (sym e)
 lines-struck reg sh today n (t ∷ ts) s e =
     rw (struck-step reg sh today 1 t ts e) (on-stop reg sh today n 2 ts _ ∙ ap (λ (p : ℕ). Refused 23 1 (p + 4)) s)
 
-none-turned : (n : ℕ) → brief (judge.end_of n 1 atFirst) ≡ turned (brief (judge.end_of n 1 atFirst)) (short (numbers.end_of n 1 tFirst))
+none-turned : (n : ℕ) → brief (judge.end_of n 1 at_first) ≡ turned (brief (judge.end_of n 1 at_first)) (short (numbers.end_of n 1 t_first))
 unfolding judge.end_of numbers.end_of brief short turned pick
 none-turned n = refl
 
-none-grows : (n : ℕ) {h : Header} {m : List ℕ} {r w : ℕ} {A : Type 0} → numbers.end_of n 1 tFirst ≡ numbers.Yes h m r w → A
+none-grows : (n : ℕ) {h : Header} {m : List ℕ} {r w : ℕ} {A : Type 0} → numbers.end_of n 1 t_first ≡ numbers.Yes h m r w → A
 unfolding numbers.end_of
 none-grows n e = not_yes e
 
 module _ (reg : Register) (sh : Sheet) (i : sh.interval ≡ true) (u : List ℕ) (is-used : (n : ℕ) → used reg n ≡ member n u) (today n : ℕ) where
   lines-turned : (ts : List Line) → struck reg ts ≡ false
-      → brief (runOn reg sh today n 1 ts atFirst) ≡ turned (brief (judge.run sh today n 1 ts atFirst)) (short (seededRun u sh today n ts))
-  unfolding runOn judge.run seededRun
+      → brief (run_on reg sh today n 1 ts at_first) ≡ turned (brief (judge.run sh today n 1 ts at_first)) (short (seeded_run u sh today n ts))
+  unfolding run_on judge.run seeded_run
   lines-turned [] e = none-turned n
   lines-turned (t ∷ ts) e =
       rw (spared-step reg sh today 1 t ts e, first-seeded sh today 1 t)
-      (run-turned reg sh i u is-used today n 2 ts (judge.step sh today 1 t atFirst) (first_past sh today 1 t))
+      (run-turned reg sh i u is-used today n 2 ts (judge.step sh today 1 t at_first) (first_past sh today 1 t))
 
-  lines-grow : (h : Header) (m : List ℕ) (r w : ℕ) (ts : List Line) → struck reg ts ≡ false → seededRun u sh today n ts ≡ numbers.Yes h m r w
-      → Grown u h m r w (numbers.brief (judge.run sh today n 1 ts atFirst)) × (runOn reg sh today n 1 ts atFirst ≡ judge.run sh today n 1 ts atFirst)
-  unfolding runOn judge.run seededRun
+  lines-grow : (h : Header) (m : List ℕ) (r w : ℕ) (ts : List Line) → struck reg ts ≡ false → seeded_run u sh today n ts ≡ numbers.Yes h m r w
+      → Grown u h m r w (numbers.brief (judge.run sh today n 1 ts at_first)) × (run_on reg sh today n 1 ts at_first ≡ judge.run sh today n 1 ts at_first)
+  unfolding run_on judge.run seeded_run
   lines-grow h m r w [] e y = none-grows n y
   lines-grow h m r w (t ∷ ts) e y =
       rw (spared-step reg sh today 1 t ts e)
-      (run-grows reg sh i u is-used today n h m r w 2 ts (judge.step sh today 1 t atFirst) (first_past sh today 1 t) (rw (first-seeded sh today 1 t) at y))
+      (run-grows reg sh i u is-used today n h m r w 2 ts (judge.step sh today 1 t at_first) (first_past sh today 1 t) (rw (first-seeded sh today 1 t) at y))
 
 -- ---- the whole file
 
 module _ (reg : Register) (sh : Sheet) (today : ℕ) (f : List ℕ) where
   module _ (i : sh.interval ≡ true) where
-    on-lines : judgeOn reg sh today f ≡ runOn reg sh today (length f) 1 (lines_of 0 f) atFirst
-    unfolding judgeOn
+    on-lines : judge_on reg sh today f ≡ run_on reg sh today (length f) 1 (lines_of 0 f) at_first
+    unfolding judge_on
     on-lines = pick_true _ _ i
 
     -- a first line whose date the register is not for is refused there
-    pub strikes : struck reg (lines_of 0 f) ≡ true → judgeOn reg sh today f ≡ Refused 23 1 4
+    pub strikes : struck reg (lines_of 0 f) ≡ true → judge_on reg sh today f ≡ Refused 23 1 4
     strikes e = on-lines ∙ lines-struck reg sh today (length f) (lines_of 0 f) (lines_start 0 f) e
 
     module _ (u : List ℕ) (is-used : (n : ℕ) → used reg n ≡ member n u) (e : struck reg (lines_of 0 f) ≡ false) where
       -- else two judgements give the answer
-      pub turned-is : brief (judgeOn reg sh today f) ≡ turned (tally sh today f) (short (seeded u sh today f))
+      pub turned-is : brief (judge_on reg sh today f) ≡ turned (tally sh today f) (short (seeded u sh today f))
       unfolding seeded judge.judge
       turned-is = rw (on-lines, tally-is sh today f) (lines-turned reg sh i u is-used today (length f) (lines_of 0 f) e)
 
       -- accepted, it leaves its own numbers in front of the register's
       pub grown : (h : Header) (m : List ℕ) (r w : ℕ) → seeded u sh today f ≡ numbers.Yes h m r w
-          → (b : Batch) × (judge.judge sh today f ≡ Accepted h b w) × (judgeOn reg sh today f ≡ Accepted h b w)
-          × (r ≡ length (things b)) × (m ≡ seen (revOn b []) ++ u)
+          → (b : Batch) × (judge.judge sh today f ≡ Accepted h b w) × (judge_on reg sh today f ≡ Accepted h b w)
+          × (r ≡ length (things b)) × (m ≡ seen (rev_on b []) ++ u)
       unfolding seeded judge.judge
       grown h m r w y =
           let (g, alike) = lines-grow reg sh i u is-used today (length f) h m r w (lines_of 0 f) e y in
-          let (b, is, rows, own) = accepted-is (judge.run sh today (length f) 1 (lines_of 0 f) atFirst) h g.own r w g.plain in
+          let (b, is, rows, own) = accepted-is (judge.run sh today (length f) 1 (lines_of 0 f) at_first) h g.own r w g.plain in
           (b, is, on-lines ∙ (alike ∙ is), rows, g.all ∙ ap (λ (l : List ℕ). l ++ u) own)
 
 -- ---- the numbers that words hold, as a list

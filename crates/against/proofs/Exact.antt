@@ -10,13 +10,13 @@ use Rattle.paper.specs.Batch.{Batch, Header}
 use Rattle.paper.specs.Judge.{Answer, Accepted, judge}
 use Rattle.exact.proofs.Completes.{refused}
 use Rattle.register.specs.Register.{Register, fits, used}
-use Rattle.against.specs.Against.{judgeOn}
+use Rattle.against.specs.Against.{judge_on}
 use Rattle.against.specs.FirstUsed.{Unused}
 use Rattle.against.proofs.Outcome.{Outcome, alike, another, marked, outcome}
 
 -- A sheet without K's number rule does not look at the register.
-pub elsewhere : (reg : Register) (sh : Sheet) (today : ℕ) (f : List ℕ) → sh.interval ≡ false → judgeOn reg sh today f ≡ judge sh today f
-unfolding judgeOn
+pub elsewhere : (reg : Register) (sh : Sheet) (today : ℕ) (f : List ℕ) → sh.interval ≡ false → judge_on reg sh today f ≡ judge sh today f
+unfolding judge_on
 elsewhere reg sh today f i = pick-false _ _ i
 
 -- one with it and with a header does:
@@ -34,7 +34,7 @@ module _ (reg : Register) (sh : Sheet) (i : sh.interval ≡ true) (headed : sh.h
     also (marked _ bad) e d u = absurd (bad h b w e (d, u))
 
   pub accepted-on : (h : Header) (b : Batch) (w : ℕ)
-      → judgeOn reg sh today f ≡ Accepted h b w ↔ ((judge sh today f ≡ Accepted h b w) × (fits reg h.date ≡ true) × Unused (used reg) b)
+      → judge_on reg sh today f ≡ Accepted h b w ↔ ((judge sh today f ≡ Accepted h b w) × (fits reg h.date ≡ true) × Unused (used reg) b)
   accepted-on h b w = (
     only h b w (outcome reg sh today f headed i),
     λ (e, d, u). also h b w (outcome reg sh today f headed i) e d u,

@@ -3,14 +3,14 @@ use Prim.Native.Nat.{ℕ}
 use Prim.Native.String.{String}
 use mathlib.Core.Path.{◌≡◌, refl}
 use mathlib.Core.List.{List, [], ◌∷◌, ◌++◌}
-use Rattle.sheet.specs.Sheets.{sheetK}
+use Rattle.sheet.specs.Sheets.{sheet_k}
 use Rattle.paper.specs.Bytes.{bytes}
 use Rattle.paper.specs.FileLine.{member}
 use Rattle.paper.specs.Judge.{Answer, Refused}
 use Rattle.cases.specs.Asked.{today, judged}
 use Rattle.register.specs.Marks.{none}
 use Rattle.register.specs.Register.{Register, malformed, of, fits, used}
-use Rattle.against.specs.Against.{unusedTest, dayOf, isOther, readFirstOn, read_on, lineOn, stepOn, runOn, judgeOn}
+use Rattle.against.specs.Against.{unused_test, day_of, is_other, read_first_on, read_on, line_on, step_on, run_on, judge_on}
 
 -- a register of 1 January 2018 in which these numbers are marked
 abbrev pub day : List ℕ → Register
@@ -25,21 +25,21 @@ abbrev pub account : String → String → List ℕ
 account number bank = bytes "1 1501 " ++ (bytes number ++ (bytes " " ++ (bytes bank ++ bytes "\n2 19-19 300 020118\n705 300 1 03000558\n3 +\n5 +\n")))
 
 unfoldable pub against : Register → List ℕ → Answer
-unfolding judged fits used none unusedTest dayOf isOther readFirstOn read_on lineOn stepOn runOn judgeOn
-against reg f = judgeOn reg sheetK today f
+unfolding judged fits used none unused_test day_of is_other read_first_on read_on line_on step_on run_on judge_on
+against reg f = judge_on reg sheet_k today f
 
 -- A number that is not used is accepted as ever; one that is, is 22 at its place, whatever its last three digits are.
 pub used-today :
-    (against (day []) (filed (account "001001" "8100")) ≡ judged sheetK (filed (account "001001" "8100")))
-    × (against (day (2 ∷ 999 ∷ [])) (filed (account "001001" "8100")) ≡ judged sheetK (filed (account "001001" "8100")))
+    (against (day []) (filed (account "001001" "8100")) ≡ judged sheet_k (filed (account "001001" "8100")))
+    × (against (day (2 ∷ 999 ∷ [])) (filed (account "001001" "8100")) ≡ judged sheet_k (filed (account "001001" "8100")))
     × (against (day (1 ∷ [])) (filed (account "001001" "8100")) ≡ Refused 22 2 66)
     × (against (day (1 ∷ [])) (filed (account "001999" "8100")) ≡ Refused 22 2 66)
-    × (against (day (1 ∷ [])) (filed (account "002001" "8100")) ≡ judged sheetK (filed (account "002001" "8100")))
+    × (against (day (1 ∷ [])) (filed (account "002001" "8100")) ≡ judged sheet_k (filed (account "002001" "8100")))
 unfolding against
 used-today = (refl, refl, refl, refl, refl)
 
 -- 4 and 9 come before 22, and 22 before BANK's 8: a used number outside the interval is 9, and one that comes twice is 22 at its first place.
-pub in_order :
+pub in-order :
     (against (day (1 ∷ [])) (filed (account "00100x" "8100")) ≡ Refused 4 2 66)
     × (against (day (3 ∷ [])) (filed (account "003001" "8100")) ≡ Refused 9 2 66)
     × (against (day (1 ∷ [])) (filed (account "001001" "0300")) ≡ Refused 22 2 66)
@@ -48,7 +48,7 @@ pub in_order :
     × (against (day (1 ∷ [])) (filed (account "001001" "8100" ++ account "001002" "8100")) ≡ Refused 22 2 66)
     × (against (day (2 ∷ [])) (filed (account "001001" "8100" ++ account "002002" "8100")) ≡ Refused 22 7 131)
 unfolding against
-in_order = (refl, refl, refl, refl, refl, refl, refl)
+in-order = (refl, refl, refl, refl, refl, refl, refl)
 
 -- 23 stands at the date, for another day and for a malformed register, before all that follows; a date that cannot be read has its own refusal, and a file that
 -- does not begin with a first line is 3.

@@ -9,14 +9,14 @@ use lib.ListN.{length}
 use Rattle.base.proofs.Cases.{pick_true}
 use Rattle.sheet.specs.declared.Sheet.{Sheet}
 use Rattle.paper.specs.Lines.{Line, lines_of}
-use Rattle.paper.specs.Judge.{Answer, Refused, revOn, State, atFirst, atFile, stop, judge}
+use Rattle.paper.specs.Judge.{Answer, Refused, rev_on, State, at_first, at_file, stop, judge}
 use Rattle.paper.specs.FirstFault.{Lawful, nothing, header, opens as opened, begins as begun, more as added, closes as closed, finishes as finished}
 use Rattle.exact.specs.named.Numbers.{Judged}
-use Rattle.exact.proofs.Told.{told_line, kind-item}
+use Rattle.exact.proofs.Told.{told-line, kind-item}
 use Rattle.exact.proofs.Moves.{Moves, heads, opens, begins, more, closes, finishes, moves-step}
 use Rattle.exact.proofs.named.Main.{judge-named}
 use Rattle.register.specs.Register.{Register}
-use Rattle.against.specs.Against.{stepOn, runOn, judgeOn}
+use Rattle.against.specs.Against.{step_on, run_on, judge_on}
 use Rattle.against.specs.FirstUsed.{OtherDate, UsedNumber}
 use Rattle.against.proofs.Way.{Clear, clear-back, Way, kept, dated, struck, date-strikes, number-strikes, way}
 use Rattle.against.proofs.Outcome.{stopped-on, Outcome, alike, another, marked, outcome}
@@ -37,34 +37,34 @@ module _ (sh : Sheet) (today : ℕ) where
   last (opened l few q) = record { state = _; lawful = l; moves = opens few q }
   last (begun l q) = record { state = _; lawful = l; moves = begins q }
   last (added {t = t} l free (p, q)) =
-      record { state = _; lawful = l; moves = more (rw (kind-item (told_line sh today _ t.bytes _ q)) at free) (p, q) }
+      record { state = _; lawful = l; moves = more (rw (kind-item (told-line sh today _ t.bytes _ q)) at free) (p, q) }
   last (closed l some q good) = record { state = _; lawful = l; moves = closes some q good }
   last (finished l some q) = record { state = _; lawful = l; moves = finishes some q }
 
 module _ (reg : Register) (sh : Sheet) (i : sh.interval ≡ true) (headed : sh.header ≡ true) (today : ℕ) where
   -- ---- lawful lines with which the register is content lead where they lead as ever
 
-  moved : {k : ℕ} {t : Line} {st new : State} → Way reg sh today k t st → Moves sh today k t st new → Clear reg new → stepOn reg sh today k t st ≡ new
+  moved : {k : ℕ} {t : Line} {st new : State} → Way reg sh today k t st → Moves sh today k t st new → Clear reg new → step_on reg sh today k t st ≡ new
   moved (kept e _) m c = e ∙ moves-step sh today _ _ m
   moved {new = new} (dated _ _ _ bad) m c = absurd (bad new m c)
   moved {new = new} (struck _ _ _ _ _ bad) m c = absurd (bad new m c)
 
   module _ (size : ℕ) where
-    step-on : (k : ℕ) (t : Line) (after : List Line) (st new : State) → stepOn reg sh today k t st ≡ new
-        → runOn reg sh today size k (t ∷ after) st ≡ runOn reg sh today size (suc k) after new
-    unfolding runOn
-    step-on k t after st new e = ap (λ s. runOn reg sh today size (suc k) after s) e
+    step-on : (k : ℕ) (t : Line) (after : List Line) (st new : State) → step_on reg sh today k t st ≡ new
+        → run_on reg sh today size k (t ∷ after) st ≡ run_on reg sh today size (suc k) after new
+    unfolding run_on
+    step-on k t after st new e = ap (λ s. run_on reg sh today size (suc k) after s) e
 
-    stops-on : (k : ℕ) (t : Line) (after : List Line) (st : State) (a : Answer) → stepOn reg sh today k t st ≡ stop a
-        → runOn reg sh today size k (t ∷ after) st ≡ a
+    stops-on : (k : ℕ) (t : Line) (after : List Line) (st : State) (a : Answer) → step_on reg sh today k t st ≡ stop a
+        → run_on reg sh today size k (t ∷ after) st ≡ a
     stops-on k t after st a e = step-on k t after st (stop a) e ∙ stopped-on reg sh today size (suc k) after a
 
     reached-none : {st : State} → Lawful sh today [] st → (after : List Line)
-        → runOn reg sh today size 1 after atFirst ≡ runOn reg sh today size 1 after st
+        → run_on reg sh today size 1 after at_first ≡ run_on reg sh today size 1 after st
     reached-none nothing after = refl
 
     reached : (ts : List Line) (st : State) → Lawful sh today ts st → Clear reg st → (after : List Line)
-        → runOn reg sh today size 1 (revOn ts after) atFirst ≡ runOn reg sh today size (suc (length ts)) after st
+        → run_on reg sh today size 1 (rev_on ts after) at_first ≡ run_on reg sh today size (suc (length ts)) after st
     reached [] st l c after = reached-none l after
     reached (t ∷ ts) st l c after =
         let o = last sh today l in
@@ -75,9 +75,9 @@ module _ (reg : Register) (sh : Sheet) (i : sh.interval ≡ true) (headed : sh.h
   -- ---- the claims
 
   module _ (f : List ℕ) where
-    split-lines : {ts : List Line} → lines_of 0 f ≡ ts → judgeOn reg sh today f ≡ runOn reg sh today (length f) 1 ts atFirst
-    unfolding judgeOn
-    split-lines e = pick_true _ _ i ∙ ap (λ ts. runOn reg sh today (length f) 1 ts atFirst) e
+    split-lines : {ts : List Line} → lines_of 0 f ≡ ts → judge_on reg sh today f ≡ run_on reg sh today (length f) 1 ts at_first
+    unfolding judge_on
+    split-lines e = pick_true _ _ i ∙ ap (λ ts. run_on reg sh today (length f) 1 ts at_first) e
 
     -- document 01 refuses with 3 to 15
     abbrev Named : Answer → Type 0
@@ -102,25 +102,25 @@ module _ (reg : Register) (sh : Sheet) (i : sh.interval ≡ true) (headed : sh.h
     named n l p e = judge-named sh today f n l p e
 
     -- 23 is given exactly where the header's date can be read and is not the register's,
-    pub other-date : (l p : ℕ) → judgeOn reg sh today f ≡ Refused 23 l p ↔ OtherDate reg f l p
+    pub other-date : (l p : ℕ) → judge_on reg sh today f ≡ Refused 23 l p ↔ OtherDate reg f l p
     other-date l p = (
       other-only named (outcome reg sh today f headed i) l p,
       λ o. split-lines o.split
-          ∙ stops-on (length f) 1 o.line o.after atFirst _ (date-strikes reg sh today 1 o.line o.date o.kind o.read o.other)
+          ∙ stops-on (length f) 1 o.line o.after at_first _ (date-strikes reg sh today 1 o.line o.date o.kind o.read o.other)
           ∙ placed o.place.0 o.place.1,
     )
 
     -- 22 exactly where the lines before break no rule and the register marks the number of an account file that document 01 allows,
-    pub used-number : (l p : ℕ) → judgeOn reg sh today f ≡ Refused 22 l p ↔ UsedNumber reg sh today f l p
+    pub used-number : (l p : ℕ) → judge_on reg sh today f ≡ Refused 22 l p ↔ UsedNumber reg sh today f l p
     used-number l p = (
       used-only named (outcome reg sh today f headed i) l p,
       λ u. split-lines u.split
-          ∙ reached (length f) u.before (atFile u.so_far) u.lawful (u.day, u.unused) (u.line ∷ u.after)
-          ∙ stops-on (length f) _ u.line u.after (atFile u.so_far) _
+          ∙ reached (length f) u.before (at_file u.so_far) u.lawful (u.day, u.unused) (u.line ∷ u.after)
+          ∙ stops-on (length f) _ u.line u.after (at_file u.so_far) _
           (number-strikes reg sh today _ u.line u.so_far u.number u.off u.room u.kind u.reaches u.allowed u.marked)
           ∙ placed u.place.0 u.place.1,
     )
 
     -- and any other is document 01's.
-    pub as-ever : (n l p : ℕ) → judgeOn reg sh today f ≡ Refused n l p → (n ≡ 22 → ⊥) → (n ≡ 23 → ⊥) → judge sh today f ≡ Refused n l p
+    pub as-ever : (n l p : ℕ) → judge_on reg sh today f ≡ Refused n l p → (n ≡ 22 → ⊥) → (n ≡ 23 → ⊥) → judge sh today f ≡ Refused n l p
     as-ever n l p e u d = no_other (outcome reg sh today f headed i) n l p e u d

@@ -6,4 +6,4 @@ use Rattle.sheet.specs.declared.Sheet.{Sheet}
 use Rattle.sheet.proofs.Laws.{Sane}
 
 pub headed : (sh : Sheet) → Sane sh → sh.interval ≡ true → sh.header ≡ true
-headed sh sane i = by-test sh.header (λ e. e) (λ e. absurd (true≢false (sym i ∙ sane.no-interval e)))
+headed sh sane i = by-test sh.header (λ e. e) (λ e. absurd (true≢false (sym i ∙ sane.no_interval e)))

@@ -12,21 +12,21 @@ use Rattle.sheet.specs.declared.Sheet.{Sheet}
 use Rattle.paper.specs.Accounts.{Account}
 use Rattle.paper.specs.Batch.{Header, Item}
 use Rattle.paper.specs.Lines.{Line}
-use Rattle.paper.specs.Entries.{Entry, head, file, group, item, closeGroup, closeFile, on_entry, onFile, onGroup, onItem, Saying, Listed, Counted, plain, got, no, counted, Kind, headLine, fileLine, groupLine, itemLine, groupEnd, fileEnd, kind_of}
-use Rattle.paper.specs.FileLine.{series, member, numberFault, readFile}
-use Rattle.paper.specs.Spells.{after, numberTest, readAs}
-use Rattle.paper.specs.Judge.{Answer, Refused, Accepted, Between, InFile, InGroup, State, atFirst, atFile, atGroup, atItem, stop, seen}
+use Rattle.paper.specs.Entries.{Entry, head, file, group, item, close_group, close_file, on_entry, on_file, on_group, on_item, Saying, Listed, Counted, plain, got, no, counted, Kind, head_line, file_line, group_line, item_line, group_end, file_end, kind_of}
+use Rattle.paper.specs.FileLine.{series, member, number_fault, read_file}
+use Rattle.paper.specs.Spells.{after, number_test, read_as}
+use Rattle.paper.specs.Judge.{Answer, Refused, Accepted, Between, InFile, InGroup, State, at_first, at_file, at_group, at_item, stop, seen}
 use Rattle.paper.specs.Judge as judge
-use Rattle.paper.specs.FirstFault.{Broken, not-due, full, in-line, total}
+use Rattle.paper.specs.FirstFault.{Broken, not-due, full, in_line, total}
 use Rattle.exact.proofs.Moves.{Moves, heads, opens, begins, more, closes, finishes, Next, on, halted, stays, next}
-use Rattle.tally.specs.Tally.{No, Tally, tFirst, tFile, tGroup, tItem, tStop, Book, Shelf, Open, seed}
+use Rattle.tally.specs.Tally.{No, Tally, t_first, t_file, t_group, t_item, t_stop, Book, Shelf, Open, seed}
 use Rattle.tally.specs.Tally as numbers
 use Rattle.tally.specs.Abs.{abs}
 use Rattle.tally.proofs.Abs.{map-pick}
 use Rattle.tally.proofs.Same.{saids, reads}
 use Rattle.register.specs.Marks.{Marks}
 use Rattle.register.specs.Register.{Register, used}
-use Rattle.against.specs.Against.{unusedTest, read_on, lineOn, stepOn}
+use Rattle.against.specs.Against.{unused_test, read_on, line_on, step_on}
 use Rattle.against.proofs.Shape.{Shape, early, whole, late, shape}
 
 -- ---- the three tests of a number
@@ -53,8 +53,8 @@ graded-tests true true false true = marked
 graded-tests true true false false = agree
 
 number-tests : (marks : Marks) (sh : Sheet) → sh.interval ≡ true → (u : List ℕ) → ((n : ℕ) → marks n ≡ member n u) → (h : Header) (l : List ℕ) (n : ℕ)
-    → Tests (numberTest sh (after h l) n) (unusedTest marks (numberTest sh (after h l)) n) (numberTest sh (after h (l ++ u)) n)
-unfolding numberTest numberFault unusedTest pick
+    → Tests (number_test sh (after h l) n) (unused_test marks (number_test sh (after h l)) n) (number_test sh (after h (l ++ u)) n)
+unfolding number_test number_fault unused_test pick
 number-tests marks sh i u is-used h l n =
     rw (i, member-both (series n) l u, is-used (series n))
     (graded-tests (leb h.from (series n)) (leb (series n) h.to) (member (series n) l) (member (series n) u))
@@ -77,14 +77,14 @@ by_tests r off q agree = alike
 by_tests r off q marked = hit q
 
 module _ (sh : Sheet) (s : List ℕ) (a b c : ℕ → ℕ) (tests : (n : ℕ) → Tests (a n) (b n) (c n)) where
-  three-of : Shape sh s → Three (readFile sh a s) (readFile sh b s) (readFile sh c s)
+  three-of : Shape sh s → Three (read_file sh a s) (read_file sh b s) (read_file sh c s)
   three-of (early e h) = rw (h a, h b, h c) alike
   three-of (whole n off kind h) = rw (h a, h b, h c) (by_tests (plain (file kind n)) off opening (tests n))
   three-of (late n off r at e h) = rw (h a, h b, h c) (by_tests (no r at) off (refusing e) (tests n))
 
 -- ---- what holds of a state holds behind a line, if it holds of all that go on, of 10 and of what the line itself is refused with
 
-module _ (P : State → Type 0) (at-file : (x : Between) → P (atFile x)) (at-group : (x : InFile) → P (atGroup x)) (at_item : (x : InGroup) → P (atItem x)) where
+module _ (P : State → Type 0) (at-file : (x : Between) → P (at_file x)) (at-group : (x : InFile) → P (at_group x)) (at_item : (x : InGroup) → P (at_item x)) where
   moves-held : {sh : Sheet} {today k : ℕ} {t : Line} {st new : State} → Moves sh today k t st new → P new
   moves-held (heads _) = at-file _
   moves-held (opens _ _) = at-group _
@@ -97,7 +97,7 @@ module _ (P : State → Type 0) (at-file : (x : Between) → P (atFile x)) (at-g
     broken-held : {sh : Sheet} {today size : ℕ} {t : Line} {ts : List Line} {st : State} {a : Answer} → Broken sh today size k st (t ∷ ts) a → P (stop a)
     broken-held (not-due _) = now _ _
     broken-held (full _ _) = now _ _
-    broken-held (in-line _ _ _) = now _ _
+    broken-held (in_line _ _ _) = now _ _
     broken-held (total _ _ _) = ten _ _
 
     next-held : {sh : Sheet} {today size : ℕ} {t : Line} {ts : List Line} {st new : State} → Next sh today size k t ts st new → P st → P new
@@ -107,19 +107,19 @@ module _ (P : State → Type 0) (at-file : (x : Between) → P (atFile x)) (at-g
 
 -- no refusal 9 at a line up to i
 abbrev pub NoNine : ℕ → State → Type 0
-NoNine i atFirst = Unit {0}
-NoNine i (atFile x) = Unit {0}
-NoNine i (atGroup x) = Unit {0}
-NoNine i (atItem x) = Unit {0}
+NoNine i at_first = Unit {0}
+NoNine i (at_file x) = Unit {0}
+NoNine i (at_group x) = Unit {0}
+NoNine i (at_item x) = Unit {0}
 NoNine i (stop (Refused n l p)) = n ≡ 9 → i < l
 NoNine i (stop (Accepted h b w)) = Unit {0}
 
 -- the first line has passed, and the end has not
 abbrev pub Past : State → Type 0
-Past atFirst = ⊥
-Past (atFile x) = Unit {0}
-Past (atGroup x) = Unit {0}
-Past (atItem x) = Unit {0}
+Past at_first = ⊥
+Past (at_file x) = Unit {0}
+Past (at_group x) = Unit {0}
+Past (at_item x) = Unit {0}
 Past (stop (Refused n l p)) = Unit {0}
 Past (stop (Accepted h b w)) = ⊥
 
@@ -131,16 +131,16 @@ module _ (sh : Sheet) (today k : ℕ) (t : Line) where
   pub past-step : (st : State) → Past st → Past (judge.step sh today k t st)
   past-step st q = next-held Past (λ _. tt) (λ _. tt) (λ _. tt) k (λ _ _. tt) (λ _ _. tt) (next sh today 0 k t [] st) q
 
-  first_next : {new : State} → Next sh today 0 k t [] atFirst new → Past new
+  first_next : {new : State} → Next sh today 0 k t [] at_first new → Past new
   first_next (on m) = moves-held Past (λ _. tt) (λ _. tt) (λ _. tt) m
   first_next (halted _) = tt
 
-  pub first_past : Past (judge.step sh today k t atFirst)
-  first_past = first_next (next sh today 0 k t [] atFirst)
+  pub first_past : Past (judge.step sh today k t at_first)
+  first_past = first_next (next sh today 0 k t [] at_first)
 
 -- a quiet line where an account file is due
-quiet-here : (sh : Sheet) (k at : ℕ) (x : Between) {r : Listed} → Quiet r → NoNine k (judge.onSaid sh k at (counted r) (atFile x))
-unfolding judge.onSaid judge.meet counted onFile on_entry
+quiet-here : (sh : Sheet) (k at : ℕ) (x : Between) {r : Listed} → Quiet r → NoNine k (judge.on_said sh k at (counted r) (at_file x))
+unfolding judge.on_said judge.meet counted on_file on_entry
 quiet-here sh k at x opening = tt
 quiet-here sh k at x (refusing e) = λ q. absurd (e q)
 
@@ -148,11 +148,11 @@ quiet-here sh k at x (refusing e) = λ q. absurd (e q)
 
 -- the first line has passed
 abbrev Begun : Tally → Type 0
-Begun tFirst = ⊥
-Begun (tFile b) = Unit {0}
-Begun (tGroup b s) = Unit {0}
-Begun (tItem b s o) = Unit {0}
-Begun (tStop a) = Unit {0}
+Begun t_first = ⊥
+Begun (t_file b) = Unit {0}
+Begun (t_group b s) = Unit {0}
+Begun (t_item b s o) = Unit {0}
+Begun (t_stop a) = Unit {0}
 
 map-entry : {A B : Type 0} (g : A → B) (x : Entry) (a : Header → A) (b : ℕ → ℕ → A) (c : Account → ℕ → ℕ → A) (d : Item → A) (e f : A)
     → g (on_entry x a b c d e f) ≡ on_entry x (λ h. g (a h)) (λ n m. g (b n m)) (λ p t u. g (c p t u)) (λ i. g (d i)) (g e) (g f)
@@ -161,24 +161,24 @@ map-entry g (head h) a b c d e f = refl
 map-entry g (file n m) a b c d e f = refl
 map-entry g (group p t u) a b c d e f = refl
 map-entry g (item i) a b c d e f = refl
-map-entry g closeGroup a b c d e f = refl
-map-entry g closeFile a b c d e f = refl
+map-entry g close_group a b c d e f = refl
+map-entry g close_file a b c d e f = refl
 
 module _ (u : List ℕ) (sh : Sheet) (k at : ℕ) where
-  seed-closed : (b : Book) (s : Shelf) (o : Open) (v : ℕ) → seed u (numbers.closed sh b s o v) ≡ numbers.closed sh (numbers.seedBook u b) s o v
+  seed-closed : (b : Book) (s : Shelf) (o : Open) (v : ℕ) → seed u (numbers.closed sh b s o v) ≡ numbers.closed sh (numbers.seed_book u b) s o v
   unfolding numbers.closed seed
   seed-closed b s o v = map-pick (seed u) _ _ _
 
   seed-meet : (t : Saying ℕ) (c : Tally) → Begun c → seed u (numbers.meet sh k at t c) ≡ numbers.meet sh k at t (seed u c)
-  unfolding numbers.meet seed onFile onGroup onItem
-  seed-meet t tFirst q = absurd q
-  seed-meet t (tFile b) q = map-entry (seed u) t.entry _ _ _ _ _ _
-  seed-meet t (tGroup b s) q = map-entry (seed u) t.entry _ _ _ _ _ _
-  seed-meet t (tItem b s o) q = map-entry (seed u) t.entry _ _ _ _ _ _ ∙ rw (seed-closed b s o t.warnings)
-  seed-meet t (tStop a) q = refl
+  unfolding numbers.meet seed on_file on_group on_item
+  seed-meet t t_first q = absurd q
+  seed-meet t (t_file b) q = map-entry (seed u) t.entry _ _ _ _ _ _
+  seed-meet t (t_group b s) q = map-entry (seed u) t.entry _ _ _ _ _ _
+  seed-meet t (t_item b s o) q = map-entry (seed u) t.entry _ _ _ _ _ _ ∙ rw (seed-closed b s o t.warnings)
+  seed-meet t (t_stop a) q = refl
 
-  seed-said : (r : Counted) (c : Tally) → Begun c → seed u (numbers.onSaid sh k at r c) ≡ numbers.onSaid sh k at r (seed u c)
-  unfolding numbers.onSaid seed
+  seed-said : (r : Counted) (c : Tally) → Begun c → seed u (numbers.on_said sh k at r c) ≡ numbers.on_said sh k at r (seed u c)
+  unfolding numbers.on_said seed
   seed-said (got t) c q = seed-meet t c q
   seed-said (no n off) c q = refl
 
@@ -186,94 +186,94 @@ two-picks : {A B : Type 0} (f : A → B) (a b : Bool) (x y z : A) → f (pick a 
 two-picks f a b x y z = map-pick f a _ _ ∙ ap (λ e. pick a e (f z)) (map-pick f b x y)
 
 module _ (u : List ℕ) (sh : Sheet) (today k : ℕ) (t : Line) where
-  seed-group : (kind : Kind) (b : Book) (s : Shelf) → numbers.read sh today k t kind (seed u (tGroup b s)) ≡ seed u (numbers.read sh today k t kind (tGroup b s))
-  unfolding numbers.read numbers.isDue numbers.isFull numbers.context_of seed
-  seed-group kind b s = rw (two-picks (seed u), seed-said u sh k t.start _ (tGroup b s) tt)
+  seed-group : (kind : Kind) (b : Book) (s : Shelf) → numbers.read sh today k t kind (seed u (t_group b s)) ≡ seed u (numbers.read sh today k t kind (t_group b s))
+  unfolding numbers.read numbers.is_due numbers.is_full numbers.context_of seed
+  seed-group kind b s = rw (two-picks (seed u), seed-said u sh k t.start _ (t_group b s) tt)
 
   seed-item : (kind : Kind) (b : Book) (s : Shelf) (o : Open)
-      → numbers.read sh today k t kind (seed u (tItem b s o)) ≡ seed u (numbers.read sh today k t kind (tItem b s o))
-  unfolding numbers.read numbers.isDue numbers.isFull numbers.context_of seed
-  seed-item kind b s o = rw (two-picks (seed u), seed-said u sh k t.start _ (tItem b s o) tt)
+      → numbers.read sh today k t kind (seed u (t_item b s o)) ≡ seed u (numbers.read sh today k t kind (t_item b s o))
+  unfolding numbers.read numbers.is_due numbers.is_full numbers.context_of seed
+  seed-item kind b s o = rw (two-picks (seed u), seed-said u sh k t.start _ (t_item b s o) tt)
 
-  group-seeded : (kind : Kind) (x : InFile) → numbers.read sh today k t kind (seed u (abs (atGroup x))) ≡ seed u (abs (judge.read sh today k t kind (atGroup x)))
+  group-seeded : (kind : Kind) (x : InFile) → numbers.read sh today k t kind (seed u (abs (at_group x))) ≡ seed u (abs (judge.read sh today k t kind (at_group x)))
   unfolding abs
-  group-seeded kind x = seed-group kind _ _ ∙ ap (seed u) (sym (reads sh today k t kind (atGroup x)))
+  group-seeded kind x = seed-group kind _ _ ∙ ap (seed u) (sym (reads sh today k t kind (at_group x)))
 
-  item-seeded : (kind : Kind) (x : InGroup) → numbers.read sh today k t kind (seed u (abs (atItem x))) ≡ seed u (abs (judge.read sh today k t kind (atItem x)))
+  item-seeded : (kind : Kind) (x : InGroup) → numbers.read sh today k t kind (seed u (abs (at_item x))) ≡ seed u (abs (judge.read sh today k t kind (at_item x)))
   unfolding abs
-  item-seeded kind x = seed-item kind _ _ _ ∙ ap (seed u) (sym (reads sh today k t kind (atItem x)))
+  item-seeded kind x = seed-item kind _ _ _ ∙ ap (seed u) (sym (reads sh today k t kind (at_item x)))
 
 -- ---- the three ways: they agree; or line k has a number that the register marks, and is not refused with 9 as ever
 
 pub data Threes (u : List ℕ) (k : ℕ) : State → State → Tally → Type 0 where
   same : {st : State} → Threes u k st st (seed u (abs st))
-  split : {st : State} {p : ℕ} → NoNine k st → Threes u k st (stop (Refused 22 k p)) (tStop (No 9 k p))
+  split : {st : State} {p : ℕ} → NoNine k st → Threes u k st (stop (Refused 22 k p)) (t_stop (No 9 k p))
 
 same-as : {u : List ℕ} {k : ℕ} {st : State} {c : Tally} → c ≡ seed u (abs st) → Threes u k st st c
 same-as e = rw e same
 
-same_stop : (u : List ℕ) (k n l p : ℕ) → Threes u k (stop (Refused n l p)) (stop (Refused n l p)) (tStop (No n l p))
+same_stop : (u : List ℕ) (k n l p : ℕ) → Threes u k (stop (Refused n l p)) (stop (Refused n l p)) (t_stop (No n l p))
 unfolding abs seed numbers.brief
 same_stop u k n l p = same {st = stop (Refused n l p)}
 
-begun-file : (x : Between) → Begun (abs (atFile x))
+begun-file : (x : Between) → Begun (abs (at_file x))
 unfolding abs
 begun-file x = tt
 
 -- inside an account file the register is not looked at
 module _ (reg : Register) (sh : Sheet) (today k : ℕ) (t : Line) where
-  pub group-read : (kind : Kind) (x : InFile) → lineOn reg sh today k t kind (atGroup x) ≡ judge.read sh today k t kind (atGroup x)
-  unfolding lineOn judge.read judge.isDue read_on pick
-  group-read headLine x = refl
-  group-read fileLine x = refl
-  group-read groupLine x = refl
-  group-read itemLine x = refl
-  group-read groupEnd x = refl
-  group-read fileEnd x = refl
+  pub group-read : (kind : Kind) (x : InFile) → line_on reg sh today k t kind (at_group x) ≡ judge.read sh today k t kind (at_group x)
+  unfolding line_on judge.read judge.is_due read_on pick
+  group-read head_line x = refl
+  group-read file_line x = refl
+  group-read group_line x = refl
+  group-read item_line x = refl
+  group-read group_end x = refl
+  group-read file_end x = refl
 
-  pub item-read : (kind : Kind) (x : InGroup) → lineOn reg sh today k t kind (atItem x) ≡ judge.read sh today k t kind (atItem x)
-  unfolding lineOn judge.read judge.isDue read_on pick
-  item-read headLine x = refl
-  item-read fileLine x = refl
-  item-read groupLine x = refl
-  item-read itemLine x = refl
-  item-read groupEnd x = refl
-  item-read fileEnd x = refl
+  pub item-read : (kind : Kind) (x : InGroup) → line_on reg sh today k t kind (at_item x) ≡ judge.read sh today k t kind (at_item x)
+  unfolding line_on judge.read judge.is_due read_on pick
+  item-read head_line x = refl
+  item-read file_line x = refl
+  item-read group_line x = refl
+  item-read item_line x = refl
+  item-read group_end x = refl
+  item-read file_end x = refl
 
 module _ (reg : Register) (sh : Sheet) (i : sh.interval ≡ true) (u : List ℕ) (is-used : (n : ℕ) → used reg n ≡ member n u) (today k : ℕ) (t : Line) where
   -- an account file is due, and its line was read
   file-said : (x : Between) {a b c : Listed} → Three a b c
-      → Threes u k (judge.onSaid sh k t.start (counted a) (atFile x)) (judge.onSaid sh k t.start (counted b) (atFile x))
-      (numbers.onSaid sh k t.start (counted c) (seed u (abs (atFile x))))
-  unfolding judge.onSaid numbers.onSaid counted
+      → Threes u k (judge.on_said sh k t.start (counted a) (at_file x)) (judge.on_said sh k t.start (counted b) (at_file x))
+      (numbers.on_said sh k t.start (counted c) (seed u (abs (at_file x))))
+  unfolding judge.on_said numbers.on_said counted
   file-said x (alike {r = r}) =
       same-as
-      (sym (seed-said u sh k t.start (counted r) (abs (atFile x)) (begun-file x)) ∙ ap (seed u) (sym (saids sh k t.start (counted r) (atFile x))))
+      (sym (seed-said u sh k t.start (counted r) (abs (at_file x)) (begun-file x)) ∙ ap (seed u) (sym (saids sh k t.start (counted r) (at_file x))))
   file-said x (hit q) = split (quiet-here sh k t.start x q)
 
   file-three : (x : Between)
-      → Three (readFile sh (numberTest sh (after x.header (seen x.files))) t.bytes)
-      (readFile sh (unusedTest (used reg) (numberTest sh (after x.header (seen x.files)))) t.bytes)
-      (readFile sh (numberTest sh (after x.header (seen x.files ++ u))) t.bytes)
+      → Three (read_file sh (number_test sh (after x.header (seen x.files))) t.bytes)
+      (read_file sh (unused_test (used reg) (number_test sh (after x.header (seen x.files)))) t.bytes)
+      (read_file sh (number_test sh (after x.header (seen x.files ++ u))) t.bytes)
   file-three x = three-of sh t.bytes _ _ _ (number-tests (used reg) sh i u is-used x.header (seen x.files)) (shape sh t.bytes)
 
   file-read : (kind : Kind) (x : Between)
-      → Threes u k (judge.read sh today k t kind (atFile x)) (lineOn reg sh today k t kind (atFile x))
-      (numbers.read sh today k t kind (seed u (abs (atFile x))))
-  unfolding judge.read lineOn numbers.read judge.isDue numbers.isDue judge.isFull numbers.isFull judge.context_of numbers.context_of readAs read_on abs seed pick
-  file-read headLine x = same_stop u k 3 k t.start
-  file-read fileLine x =
+      → Threes u k (judge.read sh today k t kind (at_file x)) (line_on reg sh today k t kind (at_file x))
+      (numbers.read sh today k t kind (seed u (abs (at_file x))))
+  unfolding judge.read line_on numbers.read judge.is_due numbers.is_due judge.is_full numbers.is_full judge.context_of numbers.context_of read_as read_on abs seed pick
+  file-read head_line x = same_stop u k 3 k t.start
+  file-read file_line x =
       by-test (leb 1000 (length x.files)) (λ e. simp e (same_stop u k 15 k t.start)) (λ e. simp e (file-said x (file-three x)))
-  file-read groupLine x = same_stop u k 3 k t.start
-  file-read itemLine x = same_stop u k 3 k t.start
-  file-read groupEnd x = same_stop u k 3 k t.start
-  file-read fileEnd x = same_stop u k 3 k t.start
+  file-read group_line x = same_stop u k 3 k t.start
+  file-read item_line x = same_stop u k 3 k t.start
+  file-read group_end x = same_stop u k 3 k t.start
+  file-read file_end x = same_stop u k 3 k t.start
 
   -- behind the first line
-  pub three-steps : (st : State) → Past st → Threes u k (judge.step sh today k t st) (stepOn reg sh today k t st) (numbers.step sh today k t (seed u (abs st)))
-  unfolding judge.step stepOn numbers.step abs seed
-  three-steps atFirst q = absurd q
-  three-steps (atFile x) q = file-read (kind_of t.bytes) x
-  three-steps (atGroup x) q = rw (group-read reg sh today k t (kind_of t.bytes) x) (same-as (group-seeded u sh today k t (kind_of t.bytes) x))
-  three-steps (atItem x) q = rw (item-read reg sh today k t (kind_of t.bytes) x) (same-as (item-seeded u sh today k t (kind_of t.bytes) x))
+  pub three-steps : (st : State) → Past st → Threes u k (judge.step sh today k t st) (step_on reg sh today k t st) (numbers.step sh today k t (seed u (abs st)))
+  unfolding judge.step step_on numbers.step abs seed
+  three-steps at_first q = absurd q
+  three-steps (at_file x) q = file-read (kind_of t.bytes) x
+  three-steps (at_group x) q = rw (group-read reg sh today k t (kind_of t.bytes) x) (same-as (group-seeded u sh today k t (kind_of t.bytes) x))
+  three-steps (at_item x) q = rw (item-read reg sh today k t (kind_of t.bytes) x) (same-as (item-seeded u sh today k t (kind_of t.bytes) x))
   three-steps (stop a) q = same {st = stop a}

@@ -2,8 +2,8 @@
 use Rattle.std.specs.Prelude.{ℕ, List}
 use Rattle.paper.specs.Batch.{Batch, Header}
 use Rattle.outcomes.specs.Outcomes.{Accepts}
-use Rattle.against.specs.Registered.{registeredAnswer, registeredRows}
+use Rattle.against.specs.Registered.{registered_answer, registered_rows}
 
 -- The file f is accepted against a lent register as the batch b with the header h and w warnings, in the same words as without one (`ReadsAs`).
 abbrev pub RegisteredAs : ℕ → ℕ → List ℕ → List ℕ → List ℕ → Header → Batch → ℕ → Type 0
-RegisteredAs sheet today f lent register h b w = Accepts f (registeredAnswer sheet today f lent register) (registeredRows sheet today f lent register) h b w
+RegisteredAs sheet today f lent register h b w = Accepts f (registered_answer sheet today f lent register) (registered_rows sheet today f lent register) h b w

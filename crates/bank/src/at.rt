@@ -7,15 +7,15 @@ ghost use Rattle.paper.specs.Bytes.{space, field_of};
 ghost use Rattle.paper.specs.Numerals.{digits};
 ghost use Rattle.paper.specs.ItemLine.{is_value};
 ghost use Rattle.paper.specs.BankField as paper;
-ghost use Rattle.paper.specs.BankField.{readBank, readDueBank};
+ghost use Rattle.paper.specs.BankField.{read_bank, read_due_bank};
 ghost use Rattle.calendar.specs.term.Allows.{allows};
 ghost use Rattle.numeral.specs.Zero.{is_zero};
 ghost use Rattle.numeral.specs.field.At.{ending, field_at};
 ghost use Rattle.numeral.specs.field.Kept.{keeping};
 ghost use Rattle.numeral.specs.field.Told.{told};
 ghost use Rattle.bank.specs.at.Plain.{PlainBank};
-ghost use Rattle.bank.specs.at.Told.{toldBank};
-ghost use Rattle.bank.specs.at.Warned.{warningsOf, warnedBy};
+ghost use Rattle.bank.specs.at.Told.{told_bank};
+ghost use Rattle.bank.specs.at.Warned.{warnings_of, warned_by};
 
 use calendar::term::Banks;
 use numeral::field::NumAt;
@@ -56,7 +56,7 @@ fn plain_bank(s: &[u8], at: usize) -> bool
 
 // The ninth digit d decides on the warnings: where the field holds a priority (`ranked`) 1 and 2 give one; elsewhere the digit is 0.
 fn by_ninth(ranked: bool, d: u64, end: usize) -> NumAt
-    ensures { told result ≡ ending end (warnedBy ranked d) }
+    ensures { told result ≡ ending end (warned_by ranked d) }
 {
     if d < 1 {
         return NumAt::Value(0, end);
@@ -73,7 +73,7 @@ fn by_ninth(ranked: bool, d: u64, end: usize) -> NumAt
 // Any field at `at`: eight to ten digits that end in four of payee bank and four of constant symbol.
 fn any_bank(s: &[u8], at: usize, ranked: bool) -> NumAt
     requires { at ≤ length s.now }
-    ensures { told result ≡ keeping warningsOf (field_at (readBank ranked) s.now at) }
+    ensures { told result ≡ keeping warnings_of (field_at (read_bank ranked) s.now at) }
 {
     match numeral::field::number_at(s, at, 8, 10) {
         NumAt::Value(n, end) => {
@@ -92,8 +92,8 @@ fn any_bank(s: &[u8], at: usize, ranked: bool) -> NumAt
 // May the bank of the field at `at`, which was judged, be due?
 fn bank_due(s: &[u8], at: usize, ranked: bool, own: u64, banks: Banks) -> bool
     requires at_in_bounds { at ≤ length s.now }
-    requires s_value { is_value (readBank ranked (field_of (drop at s.now))) ≡ true }
-    ensures { (b : paper.Bank) → readBank ranked (field_of (drop at s.now)) ≡ value b → result ≡ allows banks own b.bank }
+    requires s_value { is_value (read_bank ranked (field_of (drop at s.now))) ≡ true }
+    ensures { (b : paper.Bank) → read_bank ranked (field_of (drop at s.now)) ≡ value b → result ≡ allows banks own b.bank }
 {
     match banks {
         Banks::Any => true,
@@ -108,7 +108,7 @@ fn bank_due(s: &[u8], at: usize, ranked: bool, own: u64, banks: Banks) -> bool
 // Any field at `at`, whose bank is one of those that may be due.
 fn any_due_bank(s: &[u8], at: usize, ranked: bool, own: u64, banks: Banks) -> NumAt
     requires { at ≤ length s.now }
-    ensures { told result ≡ keeping warningsOf (field_at (readDueBank ranked (allows banks own)) s.now at) }
+    ensures { told result ≡ keeping warnings_of (field_at (read_due_bank ranked (allows banks own)) s.now at) }
 {
     match any_bank(s, at, ranked) {
         NumAt::Value(warnings, end) => {
@@ -124,7 +124,7 @@ fn any_due_bank(s: &[u8], at: usize, ranked: bool, own: u64, banks: Banks) -> Nu
 // The field at `at`, whatever its bank: how many warnings it gives and where it ends, or the refusal's number.
 fn plain_or_any(s: &[u8], at: usize, ranked: bool) -> NumAt
     requires { at ≤ length s.now }
-    ensures { told result ≡ keeping warningsOf (field_at (readBank ranked) s.now at) }
+    ensures { told result ≡ keeping warnings_of (field_at (read_bank ranked) s.now at) }
 {
     if plain_bank(s, at) {
         let end = at + 8;
@@ -136,7 +136,7 @@ fn plain_or_any(s: &[u8], at: usize, ranked: bool) -> NumAt
 // The field at `at`, whose bank is one of those that may be due. It is looked at only where not every bank may be.
 pub fn judge_bank(s: &[u8], at: usize, ranked: bool, own: u64, banks: Banks) -> NumAt
     requires { at ≤ length s.now }
-    ensures { told result ≡ keeping warningsOf (field_at (readDueBank ranked (allows banks own)) s.now at) }
+    ensures { told result ≡ keeping warnings_of (field_at (read_due_bank ranked (allows banks own)) s.now at) }
 {
     match banks {
         Banks::Any => plain_or_any(s, at, ranked),
@@ -195,8 +195,8 @@ fn ninth_digit(s: &[u8], at: usize, from: usize) -> u64
 // digit is 0, and the usual priority follows as well.
 pub fn take_bank(s: &[u8], at: usize, ranked: bool) -> Bank
     requires at_in_bounds { at ≤ length s.now }
-    requires s_value { is_value (readBank ranked (field_of (drop at s.now))) ≡ true }
-    ensures { toldBank result ≡ field_at (readBank ranked) s.now at }
+    requires s_value { is_value (read_bank ranked (field_of (drop at s.now))) ≡ true }
+    ensures { told_bank result ≡ field_at (read_bank ranked) s.now at }
 {
     let from = bank_from(s, at);
     let d = ninth_digit(s, at, from);

@@ -5,11 +5,11 @@ ghost use Rattle.std.specs.Prelude.{◌≡◌, [], ℕ, ◌+◌, ◌≤◌, eqb,
 ghost use Rattle.base.specs.Pick.{pick};
 ghost use Rattle.base.specs.Put.{Wrote};
 ghost use Rattle.paper.specs.Numerals.{fixed};
-ghost use Rattle.paper.specs.BankField.{bankProper, priorityProper, priorityCarried, spellBank};
+ghost use Rattle.paper.specs.BankField.{bank_proper, priority_proper, priority_carried, spell_bank};
 
 // A payee bank is 1 to 9999.
 pub fn bank_proper(b: u64) -> bool
-    ensures { result ≡ bankProper b }
+    ensures { result ≡ bank_proper b }
 {
     if b < 1 {
         return false;
@@ -19,7 +19,7 @@ pub fn bank_proper(b: u64) -> bool
 
 // A priority is 3 to 9.
 pub fn priority_proper(p: u64) -> bool
-    ensures { result ≡ priorityProper p }
+    ensures { result ≡ priority_proper p }
 {
     if p < 3 {
         return false;
@@ -29,7 +29,7 @@ pub fn priority_proper(p: u64) -> bool
 
 // Where the field holds the priority (`ranked`), it carries every one; elsewhere 5 alone.
 pub fn priority_carried(ranked: bool, p: u64) -> bool
-    ensures { result ≡ priorityCarried ranked p }
+    ensures { result ≡ priority_carried ranked p }
 {
     if ranked {
         return true;
@@ -39,7 +39,7 @@ pub fn priority_carried(ranked: bool, p: u64) -> bool
 
 // How many bytes the field takes: two more where the priority is spelled.
 pub fn bank_len(priority: u64) -> usize
-    ensures { (b c : ℕ) → result ≡ length (spellBank b c priority) }
+    ensures { (b c : ℕ) → result ≡ length (spell_bank b c priority) }
 {
     if priority == 5 {
         return 8;
@@ -61,8 +61,8 @@ fn put_priority(out: &mut [u8], at: usize, p: u64) -> usize
 
 // Writes the field at `at`, and returns the place behind it.
 pub fn put_bank(out: &mut [u8], at: usize, bank: u64, constant: u64, priority: u64) -> usize
-    requires { (at + length (spellBank bank constant priority) ≤ length out.old) × (bank ≤ 9999) × (constant ≤ 9999) × (priority ≤ 9) }
-    ensures { Wrote out.old at (spellBank bank constant priority) out.new result }
+    requires { (at + length (spell_bank bank constant priority) ≤ length out.old) × (bank ≤ 9999) × (constant ≤ 9999) × (priority ≤ 9) }
+    ensures { Wrote out.old at (spell_bank bank constant priority) out.new result }
 {
     let e = put_priority(out, at, priority);
     let f = numeral::put_four(out, e, bank);

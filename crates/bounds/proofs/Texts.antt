@@ -8,7 +8,7 @@ use lib.ListN.{length, length-append}
 use Rattle.base.proofs.Cases.{either, pick-both}
 use Rattle.sheet.specs.declared.Style.{Style}
 use Rattle.paper.specs.Bytes.{bar, av, np, mark}
-use Rattle.paper.specs.Texts.{lacks, nameProper, partProper, partsProper, keep, trim, joinOn, joined, spellName, spellMarked, spellText}
+use Rattle.paper.specs.Texts.{lacks, name_proper, part_proper, parts_proper, keep, trim, join_on, joined, spell_name, spell_marked, spell_text}
 use Rattle.paper.proofs.Verdicts.{name-short}
 
 -- ---- 35 bytes
@@ -18,12 +18,12 @@ abbrev pub Short : List (List ℕ) → Type 0
 Short [] = Unit {0}
 Short (p ∷ ps) = (length p ≤ 35) × Short ps
 
-pub parts-short : (ps : List (List ℕ)) → partsProper ps ≡ true → Short ps
-unfolding partsProper partProper
+pub parts-short : (ps : List (List ℕ)) → parts_proper ps ≡ true → Short ps
+unfolding parts_proper part_proper
 parts-short [] e = tt
 parts-short (p ∷ ps) e =
-    let (one, others) = pick-both (partProper p) (partsProper ps) e in
-    let (name, _) = pick-both (nameProper p) (lacks bar p) one in
+    let (one, others) = pick-both (part_proper p) (parts_proper ps) e in
+    let (name, _) = pick-both (name_proper p) (lacks bar p) one in
     (name-short p name, parts-short ps others)
 
 -- ---- the parts that are spelled
@@ -43,10 +43,10 @@ trim-short (p ∷ ps) (l, s) =
     (u, omega arith)
 
 -- one part, and the others with a `|` each
-join-most : (p : List ℕ) (ps : List (List ℕ)) → length p ≤ 35 → Short ps → length (joinOn p ps) ≤ 35 + 36 * length ps
-unfolding joinOn
+join-most : (p : List ℕ) (ps : List (List ℕ)) → length p ≤ 35 → Short ps → length (join_on p ps) ≤ 35 + 36 * length ps
+unfolding join_on
 join-most p [] l s = omega arith
-join-most p (q ∷ qs) l (m, s) = omega (arith, length-append p (124 ∷ joinOn q qs), join-most q qs m s)
+join-most p (q ∷ qs) l (m, s) = omega (arith, length-append p (124 ∷ join_on q qs), join-most q qs m s)
 
 joined-most : (ps : List (List ℕ)) → Short ps → length (joined ps) ≤ 36 * length ps
 unfolding joined
@@ -55,19 +55,19 @@ joined-most (p ∷ ps) (l, s) = omega (arith, join-most p ps l s)
 
 -- ---- the whole text
 
-named-most : (n : List ℕ) → length n ≤ 35 → length (spellName n) ≤ 39
-unfolding spellName
+named-most : (n : List ℕ) → length n ≤ 35 → length (spell_name n) ≤ 39
+unfolding spell_name
 named-most [] l = omega arith
 named-most (x ∷ n) l = omega (arith, length-append mark (x ∷ n))
 
-marked-most : (ps : List (List ℕ)) (n : List ℕ) → Short ps → length ps ≤ 4 → length n ≤ 35 → length (spellMarked ps n) ≤ 185
-unfolding spellMarked
+marked-most : (ps : List (List ℕ)) (n : List ℕ) → Short ps → length ps ≤ 4 → length n ≤ 35 → length (spell_marked ps n) ≤ 185
+unfolding spell_marked
 marked-most [] n s four l = omega (arith, length-append np n)
 marked-most (p ∷ ps) n (m, s) four l =
-    omega (arith, length-append av (joinOn p ps ++ spellName n), length-append (joinOn p ps) (spellName n), join-most p ps m s, named-most n l)
+    omega (arith, length-append av (join_on p ps ++ spell_name n), length-append (join_on p ps) (spell_name n), join-most p ps m s, named-most n l)
 
-pub text-most : (y : Style) (ps : List (List ℕ)) (n : List ℕ) → Short ps → length ps ≡ 4 → length n ≤ 35 → length (spellText y ps n) ≤ 185
-unfolding spellText
+pub text-most : (y : Style) (ps : List (List ℕ)) (n : List ℕ) → Short ps → length ps ≡ 4 → length n ≤ 35 → length (spell_text y ps n) ≤ 185
+unfolding spell_text
 text-most y ps n s four l =
     let (t, m) = trim-short ps s in
     either (λ (x : List ℕ). length x ≤ 185) y.av

@@ -6,9 +6,9 @@ use native.Mathlib.Omega.{arith}
 use lib.ListN.{length}
 use Rattle.base.specs.Pick.{pick}
 use Rattle.base.specs.Seek.{all}
-use Rattle.paper.specs.Bytes.{isDigit}
+use Rattle.paper.specs.Bytes.{is_digit}
 use Rattle.paper.specs.Read.{value, given}
-use Rattle.paper.specs.Days.{yearOf, monthOf, dayOf, realDay, real, shortDay, longDay, readDay, spellDay, dueAllowed, readDue}
+use Rattle.paper.specs.Days.{year_of, month_of, day_of, real_day, real, short_day, long_day, read_day, spell_day, due_allowed, read_due}
 use Rattle.numeral.proofs.Fixed.{fixed-length}
 use Rattle.numeral.proofs.Plain.{fixed_plain}
 use Rattle.numeral.proofs.Back.{fixed_back}
@@ -32,43 +32,43 @@ module _ (a b c : ℕ) where
     part_c : joined a b c % 100 ≡ c
     part_c = omega arith
 
-same-day : (d : ℕ) → 2000 ≤ yearOf d → yearOf d ≤ 2099 → (2000 + yearOf d % 100) * 10000 + monthOf d * 100 + dayOf d ≡ d
+same-day : (d : ℕ) → 2000 ≤ year_of d → year_of d ≤ 2099 → (2000 + year_of d % 100) * 10000 + month_of d * 100 + day_of d ≡ d
 same-day d h k = omega arith
 
 module _ (d : ℕ) where
-  pub spell-day-length : length (spellDay d) ≡ 6
-  unfolding spellDay
+  pub spell-day-length : length (spell_day d) ≡ 6
+  unfolding spell_day
   spell-day-length = fixed-length 6 _
 
-  pub spell-day-plain : all isDigit (spellDay d) ≡ true
-  unfolding spellDay
+  pub spell-day-plain : all is_digit (spell_day d) ≡ true
+  unfolding spell_day
   spell-day-plain = fixed_plain 6 _
 
-  module _ (r : realDay d ≡ true) (long : Bool) where
-    spelled-short : shortDay (spellDay d) ≡ value d
-    unfolding shortDay spellDay given real pick
+  module _ (r : real_day d ≡ true) (long : Bool) where
+    spelled-short : short_day (spell_day d) ≡ value d
+    unfolding short_day spell_day given real pick
     spelled-short =
         let p = parts d r in
-        let y : yearOf d % 100 < 100 = omega arith in
-        let m : monthOf d < 100 = omega arith in
-        let whole : (2000 + yearOf d % 100) * 10000 + monthOf d * 100 + dayOf d ≡ d = same-day d p.from p.to in
+        let y : year_of d % 100 < 100 = omega arith in
+        let m : month_of d < 100 = omega arith in
+        let whole : (2000 + year_of d % 100) * 10000 + month_of d * 100 + day_of d ≡ d = same-day d p.from p.to in
         rw (
-          fixed_back 6 (joined (dayOf d) (monthOf d) (yearOf d % 100)) (six-digits (dayOf d) (monthOf d) (yearOf d % 100) (omega arith) m y),
-          part_c (dayOf d) (monthOf d) (yearOf d % 100) m y,
-          part-b (dayOf d) (monthOf d) (yearOf d % 100) m y,
-          part-a (dayOf d) (monthOf d) (yearOf d % 100) m y,
+          fixed_back 6 (joined (day_of d) (month_of d) (year_of d % 100)) (six-digits (day_of d) (month_of d) (year_of d % 100) (omega arith) m y),
+          part_c (day_of d) (month_of d) (year_of d % 100) m y,
+          part-b (day_of d) (month_of d) (year_of d % 100) m y,
+          part-a (day_of d) (month_of d) (year_of d % 100) m y,
           whole,
           r,
         )
 
-    pub day-back : readDay long (spellDay d) ≡ value d
-    unfolding readDay pick
+    pub day-back : read_day long (spell_day d) ≡ value d
+    unfolding read_day pick
     day-back = rw spell-day-length (six long ∙ spelled-short)
       where
-        six : (b : Bool) → pick (pick b false false) (longDay (spellDay d)) (shortDay (spellDay d)) ≡ shortDay (spellDay d)
+        six : (b : Bool) → pick (pick b false false) (long_day (spell_day d)) (short_day (spell_day d)) ≡ short_day (spell_day d)
         six true = refl
         six false = refl
 
-    pub due-back : (here early : Bool) (ahead today : ℕ) → dueAllowed here early ahead today d ≡ true → readDue long here early ahead today (spellDay d) ≡ value d
-    unfolding readDue given pick
+    pub due-back : (here early : Bool) (ahead today : ℕ) → due_allowed here early ahead today d ≡ true → read_due long here early ahead today (spell_day d) ≡ value d
+    unfolding read_due given pick
     due-back here early ahead today h = rw (day-back, h)

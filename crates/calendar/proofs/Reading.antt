@@ -9,7 +9,7 @@ use borrow.Author.Tests.{eq-eqb, ne_eqb}
 use Rattle.base.specs.Pick.{pick}
 use Rattle.base.proofs.Cases.{picks}
 use Rattle.paper.specs.Read.{Field, fault, given}
-use Rattle.paper.specs.Days.{readDay, longDay, shortDay}
+use Rattle.paper.specs.Days.{read_day, long_day, short_day}
 use Rattle.numeral.specs.declared.Num.{Num}
 use Rattle.numeral.specs.declared.Num.TheVariants.{Value, Refused}
 use Rattle.numeral.specs.Told.{told}
@@ -26,20 +26,20 @@ module _ (n : Num) (x : Field ℕ) (k : ℕ → Field ℕ) (g : told n ≡ x) wh
 
 -- which of the two forms is read
 module _ (r : Field ℕ) (s : List ℕ) (long : Bool) where
-  pub long-form : long ≡ true → length s ≡ 8 → r ≡ longDay s → r ≡ readDay long s
-  unfolding readDay pick
+  pub long-form : long ≡ true → length s ≡ 8 → r ≡ long_day s → r ≡ read_day long s
+  unfolding read_day pick
   long-form e h f = f ∙ simp (e, eq-eqb (length s) 8 h)
 
-  pub other_length : (length s ≡ 8 → ⊥) → r ≡ shortDay s → r ≡ readDay long s
-  unfolding readDay pick
+  pub other_length : (length s ≡ 8 → ⊥) → r ≡ short_day s → r ≡ read_day long s
+  unfolding read_day pick
   other_length n f = f ∙ other long
     where
-      other : (b : Bool) → shortDay s ≡ pick (pick b (eqb (length s) 8) false) (longDay s) (shortDay s)
+      other : (b : Bool) → short_day s ≡ pick (pick b (eqb (length s) 8) false) (long_day s) (short_day s)
       other true = simp (ne_eqb (length s) 8 n)
       other false = refl
 
-  pub short-form : long ≡ false → r ≡ shortDay s → r ≡ readDay long s
-  unfolding readDay pick
+  pub short-form : long ≡ false → r ≡ short_day s → r ≡ read_day long s
+  unfolding read_day pick
   short-form e f = f ∙ simp e
 
 pub ruleset reading = (read-on, read-not, long-form, other_length, short-form, picks)

@@ -7,19 +7,19 @@ use lib.Dec.{eqb, leb}
 use borrow.Author.Tests.{ltb-false, leb-true, le-ltb, le-leb, eq-eqb, ne_eqb}
 use Rattle.base.specs.Pick.{pick}
 use Rattle.base.proofs.Cases.{by-eq, picks, pick-not}
-use Rattle.paper.specs.Days.{leap, monthDays, realDay, yearOf, monthOf, dayOf}
+use Rattle.paper.specs.Days.{leap, month_days, real_day, year_of, month_of, day_of}
 
 -- the parts of a real day
 pub record Parts (d : ℕ) : Type 0 where
-  pub from : 2000 ≤ yearOf d
-  pub to : yearOf d ≤ 2099
-  pub first : 1 ≤ monthOf d
-  pub last : monthOf d ≤ 12
-  pub low : 1 ≤ dayOf d
-  pub high : dayOf d ≤ monthDays (yearOf d) (monthOf d)
+  pub from : 2000 ≤ year_of d
+  pub to : year_of d ≤ 2099
+  pub first : 1 ≤ month_of d
+  pub last : month_of d ≤ 12
+  pub low : 1 ≤ day_of d
+  pub high : day_of d ≤ month_days (year_of d) (month_of d)
 
-pub parts : (d : ℕ) → realDay d ≡ true → Parts d
-unfolding realDay
+pub parts : (d : ℕ) → real_day d ≡ true → Parts d
+unfolding real_day
 parts d r =
     let a = pick-not _ _ r in
     let b = pick-not _ _ a.1 in
@@ -36,8 +36,8 @@ parts d r =
     }
 
 -- and such parts make a real day
-pub whole : (d : ℕ) → Parts d → realDay d ≡ true
-unfolding realDay pick
+pub whole : (d : ℕ) → Parts d → real_day d ≡ true
+unfolding real_day pick
 whole d p = simp (le-ltb _ _ p.from, le-ltb _ _ p.to, le-ltb _ _ p.first, le-ltb _ _ p.last, le-ltb _ _ p.low, le-leb _ _ p.high)
 
 -- from 2000 to 2099 every fourth year has 29 February

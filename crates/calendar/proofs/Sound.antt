@@ -10,8 +10,8 @@ use Rattle.base.specs.Pick.{pick}
 use Rattle.base.proofs.Cases.{either}
 use Rattle.paper.specs.Numerals.{digits}
 use Rattle.paper.specs.Read.{value}
-use Rattle.paper.specs.Days.{realDay, real, shortDay, longDay, readDay, dueAllowed, readDue}
-use Rattle.numeral.proofs.given.Says.{Says, says, of-value, of-fault, says-value, says-given}
+use Rattle.paper.specs.Days.{real_day, real, short_day, long_day, read_day, due_allowed, read_due}
+use Rattle.numeral.proofs.given.Says.{Says, says, of_value, of_fault, says-value, says-given}
 use Rattle.numeral.specs.declared.Num.{Num}
 use Rattle.numeral.specs.declared.Num.TheVariants.{Value}
 use Rattle.numeral.proofs.Sound.{digits-fault}
@@ -30,14 +30,14 @@ digits-say least most s = says Any Dated (digits least most s) (λ v e. refl) (�
 
 -- a day that is real
 abbrev Sure : ℕ → Type 0
-Sure d = realDay d ≡ true
+Sure d = real_day d ≡ true
 
 real-say : (d : ℕ) → Says Sure Dated (real d)
 unfolding real
-real-say d = either (Says Sure Dated) (realDay d) (λ e. of-value Sure Dated d e) (λ e. of-fault Sure Dated 11 (inr refl))
+real-say d = either (Says Sure Dated) (real_day d) (λ e. of_value Sure Dated d e) (λ e. of_fault Sure Dated 11 (inr refl))
 
-day-says : (long : Bool) (s : List ℕ) → Says Sure Dated (readDay long s)
-unfolding readDay shortDay longDay
+day-says : (long : Bool) (s : List ℕ) → Says Sure Dated (read_day long s)
+unfolding read_day short_day long_day
 day-says long s =
     either (Says Sure Dated) (pick long (eqb (length s) 8) false)
     (λ e. says-given Any Sure Dated (digits 8 8 s) real (digits-say 8 8 s) (λ n p. real-say n))
@@ -45,23 +45,23 @@ day-says long s =
 
 module _ (long : Bool) (s : List ℕ) where
   -- a date that is read is a real day
-  pub day-sound : (d : ℕ) → readDay long s ≡ value d → realDay d ≡ true
-  day-sound d e = says-value Sure Dated (readDay long s) (day-says long s) d e
+  pub day-sound : (d : ℕ) → read_day long s ≡ value d → real_day d ≡ true
+  day-sound d e = says-value Sure Dated (read_day long s) (day-says long s) d e
 
   -- r is what the reader of a date answered
-  pub day-told : (r : Num) (d : ℕ) → told r ≡ readDay long s → r ≡ Value d → realDay d ≡ true
+  pub day-told : (r : Num) (d : ℕ) → told r ≡ read_day long s → r ≡ Value d → real_day d ≡ true
   day-told r d g e = day-sound d (sym g ∙ rw e)
 
   module _ (here early : Bool) (ahead today : ℕ) where
     abbrev Due : ℕ → Type 0
-    Due d = (realDay d ≡ true) × (dueAllowed here early ahead today d ≡ true)
+    Due d = (real_day d ≡ true) × (due_allowed here early ahead today d ≡ true)
 
-    due-says : Says Due Dated (readDue long here early ahead today s)
-    unfolding readDue
+    due-says : Says Due Dated (read_due long here early ahead today s)
+    unfolding read_due
     due-says =
-        says-given Sure Due Dated (readDay long s) _ (day-says long s)
-        (λ d p. either (Says Due Dated) (dueAllowed here early ahead today d) (λ e. of-value Due Dated d (p, e)) (λ e. of-fault Due Dated 11 (inr refl)))
+        says-given Sure Due Dated (read_day long s) _ (day-says long s)
+        (λ d p. either (Says Due Dated) (due_allowed here early ahead today d) (λ e. of_value Due Dated d (p, e)) (λ e. of_fault Due Dated 11 (inr refl)))
 
     -- a due date that is read is a real day, and one of the sheet's days
-    pub due-sound : (d : ℕ) → readDue long here early ahead today s ≡ value d → (realDay d ≡ true) × (dueAllowed here early ahead today d ≡ true)
+    pub due-sound : (d : ℕ) → read_due long here early ahead today s ≡ value d → (real_day d ≡ true) × (due_allowed here early ahead today d ≡ true)
     due-sound d e = says-value Due Dated _ due-says d e

@@ -2,7 +2,7 @@
 ghost use Rattle.std.specs.Prelude.{◌≡◌, true, ◌+◌, ◌≤◌, length, get_or, drop};
 ghost use Rattle.base.specs.Pick.{pick};
 ghost use Rattle.paper.specs.Read.{value, fault};
-ghost use Rattle.paper.specs.Days.{realDay, shortDay, longDay, dueAllowed, readDue};
+ghost use Rattle.paper.specs.Days.{real_day, short_day, long_day, due_allowed, read_due};
 ghost use Rattle.paper.specs.ItemLine.{is_value};
 ghost use Rattle.numeral.specs.field.At.{ending, field_at};
 ghost use Rattle.numeral.specs.field.Told.{told};
@@ -49,9 +49,9 @@ fn last_day(s: &[u8], at: usize) -> u64
 
 // The real day d as a due date, 11 where no group may be due on it.
 fn if_allowed(d: u64, here: bool, early: bool, ahead: u64, today: u64, end: usize) -> NumAt
-    requires today_value { realDay today ≡ true }
-    requires d_value { realDay d ≡ true }
-    ensures { told result ≡ ending end (pick (dueAllowed here early ahead today d) (value d) (fault 11)) }
+    requires today_value { real_day today ≡ true }
+    requires d_value { real_day d ≡ true }
+    ensures { told result ≡ ending end (pick (due_allowed here early ahead today d) (value d) (fault 11)) }
 {
     if crate::due_allowed(here, early, ahead, today, d) {
         return NumAt::Value(d, end);
@@ -61,8 +61,8 @@ fn if_allowed(d: u64, here: bool, early: bool, ahead: u64, today: u64, end: usiz
 
 // The day d as a due date, 11 where it is not real either.
 fn if_due(d: u64, here: bool, early: bool, ahead: u64, today: u64, end: usize) -> NumAt
-    requires { realDay today ≡ true }
-    ensures { told result ≡ ending end (pick (realDay d) (pick (dueAllowed here early ahead today d) (value d) (fault 11)) (fault 11)) }
+    requires { real_day today ≡ true }
+    ensures { told result ≡ ending end (pick (real_day d) (pick (due_allowed here early ahead today d) (value d) (fault 11)) (fault 11)) }
 {
     if crate::real_day(d) {
         return if_allowed(d, here, early, ahead, today, end);
@@ -81,8 +81,8 @@ fn whole_due(
     today: u64,
 ) -> NumAt
     requires at_in_bounds { at ≤ length s.now }
-    requires today_value { realDay today ≡ true }
-    ensures { told result ≡ field_at (readDue long here early ahead today) s.now at }
+    requires today_value { real_day today ≡ true }
+    ensures { told result ≡ field_at (read_due long here early ahead today) s.now at }
 {
     let end = scan::line::field_end(s, at);
     match crate::read_day(&s[at..end], long) {
@@ -103,8 +103,8 @@ pub fn due_at(
     today: u64,
 ) -> NumAt
     requires at_in_bounds { at ≤ length s.now }
-    requires today_value { realDay today ≡ true }
-    ensures { told result ≡ field_at (readDue long here early ahead today) s.now at }
+    requires today_value { real_day today ≡ true }
+    ensures { told result ≡ field_at (read_due long here early ahead today) s.now at }
 {
     let end = s.len();
     if end - at == 6 {
@@ -120,8 +120,8 @@ pub fn due_at(
 
 // DDMMRR, from `at` to the line's end.
 pub fn short_day(s: &[u8], at: usize) -> u64
-    requires { is_value (shortDay (drop at s.now)) ≡ true }
-    ensures { value result ≡ shortDay (drop at s.now) }
+    requires { is_value (short_day (drop at s.now)) ≡ true }
+    ensures { value result ≡ short_day (drop at s.now) }
 {
     let day = numeral::placed::two(s, at);
     let month = numeral::placed::two(s, at + 2);
@@ -131,8 +131,8 @@ pub fn short_day(s: &[u8], at: usize) -> u64
 
 // RRRRMMDD, from `at` to the line's end.
 pub fn long_day(s: &[u8], at: usize) -> u64
-    requires { is_value (longDay (drop at s.now)) ≡ true }
-    ensures { value result ≡ longDay (drop at s.now) }
+    requires { is_value (long_day (drop at s.now)) ≡ true }
+    ensures { value result ≡ long_day (drop at s.now) }
 {
     numeral::placed::four(s, at) * 10000 + numeral::placed::four(s, at + 4)
 }

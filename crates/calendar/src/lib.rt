@@ -5,7 +5,7 @@ pub mod term;
 ghost use Rattle.std.specs.Prelude.{◌≡◌, true, ◌+◌, ◌≤◌, length};
 ghost use Rattle.base.specs.Put.{Wrote};
 ghost use Rattle.numeral.specs.Told.{told};
-ghost use Rattle.paper.specs.Days.{realDay, dayNumber, monthDays, real, shortDay, longDay, readDay, spellDay, dueAllowed, dueWarnings, monthAhead, collectAllowed};
+ghost use Rattle.paper.specs.Days.{real_day, day_number, month_days, real, short_day, long_day, read_day, spell_day, due_allowed, due_warnings, month_ahead, collect_allowed};
 
 use numeral::Num;
 
@@ -17,7 +17,7 @@ const BEFORE: [u64; 12] = [0, 31, 59, 90, 120, 151, 181, 212, 243, 273, 304, 334
 
 // Is the number YYYYMMDD a real day of 2000 to 2099? In these years every fourth has 29 February.
 pub fn real_day(d: u64) -> bool
-    ensures { result ≡ realDay d }
+    ensures { result ≡ real_day d }
 {
     let y = d / 10000;
     if y < 2000 {
@@ -43,7 +43,7 @@ pub fn real_day(d: u64) -> bool
 // How many days the month m, 1 to 12, of a year of 2000 to 2099 has.
 fn month_days(y: u64, m: u64) -> u64
     requires { (2000 ≤ y) × (y ≤ 2099) × (1 ≤ m) × (m ≤ 12) }
-    ensures { result ≡ monthDays y m }
+    ensures { result ≡ month_days y m }
 {
     if m == 2 {
         if y % 4 == 0 {
@@ -57,8 +57,8 @@ fn month_days(y: u64, m: u64) -> u64
 
 // How many days lie between 1 January 2000 and the day d.
 pub fn day_number(d: u64) -> u64
-    requires { realDay d ≡ true }
-    ensures { result ≡ dayNumber d }
+    requires { real_day d ≡ true }
+    ensures { result ≡ day_number d }
 {
     // of the n years from 2000 on, the first and then every fourth have a day more
     let n = d / 10000 - 2000;
@@ -76,9 +76,9 @@ pub fn day_number(d: u64) -> u64
 
 // May a group be due on the day d, as far as that is judged at its own field (`here`)?
 pub fn due_allowed(here: bool, early: bool, ahead: u64, today: u64, d: u64) -> bool
-    requires today_value { realDay today ≡ true }
-    requires d_value { realDay d ≡ true }
-    ensures { result ≡ dueAllowed here early ahead today d }
+    requires today_value { real_day today ≡ true }
+    requires d_value { real_day d ≡ true }
+    ensures { result ≡ due_allowed here early ahead today d }
 {
     if here {
         // later days have greater numbers, so a past day is known without its number
@@ -96,9 +96,9 @@ pub fn due_allowed(here: bool, early: bool, ahead: u64, today: u64, d: u64) -> b
 
 // How many warnings the due day d brings there.
 pub fn due_warnings(here: bool, warns: bool, today: u64, d: u64) -> u64
-    requires today_value { realDay today ≡ true }
-    requires d_value { realDay d ≡ true }
-    ensures value { result ≡ dueWarnings here warns today d }
+    requires today_value { real_day today ≡ true }
+    requires d_value { real_day d ≡ true }
+    ensures value { result ≡ due_warnings here warns today d }
     ensures upper_bound { result ≤ 1 }
 {
     if today <= d {
@@ -114,8 +114,8 @@ pub fn due_warnings(here: bool, warns: bool, today: u64, d: u64) -> u64
 
 // The same day of the next month, or that month's last day if it is shorter.
 pub fn month_ahead(d: u64) -> u64
-    requires { realDay d ≡ true }
-    ensures { result ≡ monthAhead d }
+    requires { real_day d ≡ true }
+    ensures { result ≡ month_ahead d }
 {
     let y = d / 10000;
     let m = d / 100 % 100;
@@ -134,8 +134,8 @@ pub fn month_ahead(d: u64) -> u64
 
 // May a collection be due on the day d, from the sheet's own bank or from any other? The last day for it is one month ahead of today.
 pub fn collect_allowed(own: bool, today: u64, last: u64, d: u64) -> bool
-    requires { last ≡ monthAhead today }
-    ensures { result ≡ collectAllowed own today d }
+    requires { last ≡ month_ahead today }
+    ensures { result ≡ collect_allowed own today d }
 {
     if own {
         if d < today {
@@ -161,7 +161,7 @@ fn only_real(d: u64) -> Num
 
 // DDMMRR
 fn read_short(f: &[u8]) -> Num
-    ensures { told result ≡ shortDay f.now }
+    ensures { told result ≡ short_day f.now }
 {
     match numeral::read_digits(f, 6, 6) {
         Num::Value(n) => only_real((2000 + n % 100) * 10000 + n / 100 % 100 * 100 + n / 10000),
@@ -171,7 +171,7 @@ fn read_short(f: &[u8]) -> Num
 
 // RRRRMMDD
 fn read_long(f: &[u8]) -> Num
-    ensures { told result ≡ longDay f.now }
+    ensures { told result ≡ long_day f.now }
 {
     match numeral::read_digits(f, 8, 8) {
         Num::Value(n) => only_real(n),
@@ -181,7 +181,7 @@ fn read_long(f: &[u8]) -> Num
 
 // A date: DDMMRR, or RRRRMMDD where that is taken too (`long`).
 pub fn read_day(f: &[u8], long: bool) -> Num
-    ensures { told result ≡ readDay long f.now }
+    ensures { told result ≡ read_day long f.now }
 {
     if long {
         if f.len() == 8 {
@@ -195,7 +195,7 @@ pub fn read_day(f: &[u8], long: bool) -> Num
 // Writes the day d at `at` as DDMMRR, and returns the next place.
 pub fn put_day(out: &mut [u8], at: usize, d: u64) -> usize
     requires { at + 6 ≤ length out.old }
-    ensures { Wrote out.old at (spellDay d) out.new result }
+    ensures { Wrote out.old at (spell_day d) out.new result }
 {
     let n = d % 100 * 10000 + d / 100 % 100 * 100 + d / 10000 % 100;
     numeral::put_fixed(out, at, 6, n)

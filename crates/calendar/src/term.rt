@@ -1,7 +1,7 @@
 // Where a group's due day is judged: at its own field, or for each item by its payee bank; and the banks that may be due.
 ghost use Rattle.std.specs.Prelude.{◌≡◌, true, ℕ, eqb};
-ghost use Rattle.paper.specs.Days.{realDay, collectAllowed};
-ghost use Rattle.paper.specs.Terms.{collection, dayHere, bankDue};
+ghost use Rattle.paper.specs.Days.{real_day, collect_allowed};
+ghost use Rattle.paper.specs.Terms.{collection, day_here, bank_due};
 ghost use Rattle.calendar.specs.term.Allows.{allows};
 
 use sheet::Sheet;
@@ -26,7 +26,7 @@ pub fn is_collection(sh: Sheet, kind: u64) -> bool
 
 // Is the day of a group judged at its own field, in an account file of this kind?
 pub fn day_here(sh: Sheet, kind: u64) -> bool
-    ensures { result ≡ dayHere sh kind }
+    ensures { result ≡ day_here sh kind }
 {
     let collects = sh.collects;
     if collects {
@@ -40,8 +40,8 @@ pub fn day_here(sh: Sheet, kind: u64) -> bool
 
 // The banks that may be collected from on a day.
 fn collected(today: u64, date: u64) -> Banks
-    requires { realDay today ≡ true }
-    ensures { (own bank : ℕ) → allows result own bank ≡ collectAllowed (eqb bank own) today date }
+    requires { real_day today ≡ true }
+    ensures { (own bank : ℕ) → allows result own bank ≡ collect_allowed (eqb bank own) today date }
 {
     let last = crate::month_ahead(today);
     if crate::collect_allowed(false, today, last, date) {
@@ -55,8 +55,8 @@ fn collected(today: u64, date: u64) -> Banks
 
 // The banks that the items of a group may have, by its day and its account file's kind.
 pub fn banks_due(sh: Sheet, today: u64, kind: u64, date: u64) -> Banks
-    requires { realDay today ≡ true }
-    ensures { (bank : ℕ) → allows result sh.bank bank ≡ bankDue sh today kind date bank }
+    requires { real_day today ≡ true }
+    ensures { (bank : ℕ) → allows result sh.bank bank ≡ bank_due sh today kind date bank }
 {
     if is_collection(sh, kind) {
         return collected(today, date);

@@ -5,28 +5,28 @@ use mathlib.Core.Bool.{true, false}
 use mathlib.Core.List.{[], ◌∷◌}
 use mathlib.Core.Path.{◌≡◌, refl}
 use Rattle.sheet.specs.declared.Sheet.{Sheet}
-use Rattle.sheet.specs.Sheets.{sheetK, sheetC, sheetE}
+use Rattle.sheet.specs.Sheets.{sheet_k, sheet_c, sheet_e}
 use Rattle.paper.specs.Read.{Field, value, fault}
 use Rattle.paper.specs.Bytes.{bytes}
-use Rattle.paper.specs.Days.{realDay, readDay, readDue}
-use Rattle.paper.specs.Accounts.{Account, account, rest, readAccount}
-use Rattle.paper.specs.Amounts.{readItemAmount}
-use Rattle.paper.specs.BankField.{Bank, readBank}
-use Rattle.paper.specs.Texts.{piece, Noted, readText}
+use Rattle.paper.specs.Days.{real_day, read_day, read_due}
+use Rattle.paper.specs.Accounts.{Account, account, rest, read_account}
+use Rattle.paper.specs.Amounts.{read_item_amount}
+use Rattle.paper.specs.BankField.{Bank, read_bank}
+use Rattle.paper.specs.Texts.{piece, Noted, read_text}
 use Rattle.cases.specs.Asked.{judged}
 
 -- a field on a sheet
-abbrev pub accountOn : Sheet → String → Field Account
-accountOn sh s = readAccount sh.joined sh.basemin (bytes s)
+abbrev pub account_on : Sheet → String → Field Account
+account_on sh s = read_account sh.joined sh.basemin (bytes s)
 
-abbrev pub amountOn : Sheet → String → Field ℕ
-amountOn sh s = readItemAmount sh.comma sh.itemdigits sh.itemmax (bytes s)
+abbrev pub amount_on : Sheet → String → Field ℕ
+amount_on sh s = read_item_amount sh.comma sh.itemdigits sh.itemmax (bytes s)
 
-abbrev pub bankOn : Sheet → String → Field Bank
-bankOn sh s = readBank sh.priority (bytes s)
+abbrev pub bank_on : Sheet → String → Field Bank
+bank_on sh s = read_bank sh.priority (bytes s)
 
-abbrev pub dueOn : Sheet → ℕ → String → Field ℕ
-dueOn sh today s = readDue sh.longdate true sh.early sh.ahead today (bytes s)
+abbrev pub due_on : Sheet → ℕ → String → Field ℕ
+due_on sh today s = read_due sh.longdate true sh.early sh.ahead today (bytes s)
 
 -- no message, and a name at a place of its text
 abbrev pub named : ℕ → String → Noted
@@ -34,34 +34,34 @@ named at s = record { parts = piece 0 [] ∷ piece 0 [] ∷ piece 0 [] ∷ piece
 
 pub table :
     -- these accounts are valid, and 1234567890 is not
-    (accountOn sheetC "19-19" ≡ value (account 19 19))
-    × (accountOn sheetC "5152046" ≡ value (account 0 5152046))
-    × (accountOn sheetC "174-1999738514" ≡ value (account 174 1999738514))
-    × (accountOn sheetC "500005-2267100237" ≡ value (account 500005 2267100237))
-    × (accountOn sheetC "1234567890" ≡ fault 5)
+    (account_on sheet_c "19-19" ≡ value (account 19 19))
+    × (account_on sheet_c "5152046" ≡ value (account 0 5152046))
+    × (account_on sheet_c "174-1999738514" ≡ value (account 174 1999738514))
+    × (account_on sheet_c "500005-2267100237" ≡ value (account 500005 2267100237))
+    × (account_on sheet_c "1234567890" ≡ fault 5)
     -- 0, 00 and 9 are no bases
-    × (accountOn sheetC "0" ≡ fault 5)
-    × (accountOn sheetC "00" ≡ fault 5)
-    × (accountOn sheetC "9" ≡ fault 5)
+    × (account_on sheet_c "0" ≡ fault 5)
+    × (account_on sheet_c "00" ≡ fault 5)
+    × (account_on sheet_c "9" ≡ fault 5)
     -- twelve digits joined are an account on C alone
-    × (accountOn sheetC "190000000019" ≡ value (account 19 19))
-    × (accountOn sheetK "190000000019" ≡ fault 4)
+    × (account_on sheet_c "190000000019" ≡ value (account 19 19))
+    × (account_on sheet_k "190000000019" ≡ fault 4)
     -- days that are real, and days that are not
-    × (realDay 21000228 ≡ false)
-    × (realDay 20240229 ≡ true)
-    × (readDay false (bytes "290223") ≡ fault 11)
+    × (real_day 21000228 ≡ false)
+    × (real_day 20240229 ≡ true)
+    × (read_day false (bytes "290223") ≡ fault 11)
     -- a comma on E stands before exactly two digits, and behind at least one
-    × (amountOn sheetE "3500,00" ≡ value 350000)
-    × (amountOn sheetE ",50" ≡ fault 4)
-    × (amountOn sheetE "3500,0" ≡ fault 4)
+    × (amount_on sheet_e "3500,00" ≡ value 350000)
+    × (amount_on sheet_e ",50" ≡ fault 4)
+    × (amount_on sheet_e "3500,0" ≡ fault 4)
     -- the ninth digit on K
-    × (bankOn sheetK "0781000558" ≡ value (record { bank = 8100; constant = 558; priority = 7; warnings = 0 }))
-    × (bankOn sheetK "0181000558" ≡ value (record { bank = 8100; constant = 558; priority = 5; warnings = 1 }))
+    × (bank_on sheet_k "0781000558" ≡ value (record { bank = 8100; constant = 558; priority = 7; warnings = 0 }))
+    × (bank_on sheet_k "0181000558" ≡ value (record { bank = 8100; constant = 558; priority = 5; warnings = 1 }))
     -- K takes the day 364 days ahead of 1 January 2018, and not the next one
-    × (dueOn sheetK 20180101 "311218" ≡ value 20181231)
-    × (dueOn sheetK 20180101 "010119" ≡ fault 11)
+    × (due_on sheet_k 20180101 "311218" ≡ value 20181231)
+    × (due_on sheet_k 20180101 "010119" ≡ fault 11)
     -- an empty message and the name Jan
-    × (readText sheetC.text 0 (bytes "AV: NP:Jan") ≡ value (named 7 "Jan"))
+    × (read_text sheet_c.text 0 (bytes "AV: NP:Jan") ≡ value (named 7 "Jan"))
 unfolding judged
 table = (refl, refl, refl, refl, refl, refl, refl, refl, refl, refl, refl, refl, refl, refl, refl, refl, refl, refl, refl, refl, refl)
 

@@ -4,9 +4,9 @@ use mathlib.Core.List.{[], ◌∷◌}
 use mathlib.Core.Path.{◌≡◌, refl}
 use Rattle.paper.specs.Accounts.{account}
 use Rattle.paper.specs.Judge.{Refused}
-use Rattle.sheet.specs.Sheets.{sheetK as K, sheetS as S, sheetC as C, sheetE as E}
+use Rattle.sheet.specs.Sheets.{sheet_k as K, sheet_s as S, sheet_c as C, sheet_e as E}
 use Rattle.cases.specs.Asked.{judged}
-use Rattle.cases.specs.Frame.{first, opening, group, behind, single, without, headed, batch, plainItem, plain, filed, dueOn, alone, ◌gives◌at◌, ◌reads◌warned◌, ◌heads◌}
+use Rattle.cases.specs.Frame.{first, opening, group, behind, single, without, headed, batch, plain_item, plain, filed, due_on, alone, ◌gives◌at◌, ◌reads◌warned◌, ◌heads◌}
 
 -- Point 7: the first line goes by places. One that ends before or inside a field is 4 at that field; the length is judged when the rest is
 -- reached, so a wrong day and K's 9 come before it.
@@ -163,18 +163,18 @@ pub days :
     × (group C "2 19-19 5001 21000101" gives 11 at 13)
     × (group E "2 19-19 5001 310418" gives 11 at 13)
     × (group E "2 19-19 5001 011318" gives 11 at 13)
-    × (group E "2 19-19 5001 290200" reads dueOn 20000229 warned 0)
-    × (group K "2 19-19 5001 010118" reads dueOn 20180101 warned 0)
-    × (group C "2 19-19 5001 010118" reads dueOn 20180101 warned 0)
+    × (group E "2 19-19 5001 290200" reads due_on 20000229 warned 0)
+    × (group K "2 19-19 5001 010118" reads due_on 20180101 warned 0)
+    × (group C "2 19-19 5001 010118" reads due_on 20180101 warned 0)
     × (group K "2 19-19 5001 311217" gives 11 at 13)
     × (group S "2 19-19 5001 311217" gives 11 at 13)
-    × (group C "2 19-19 5001 311217" reads dueOn 20171231 warned 1)
-    × (group E "2 19-19 5001 311217" reads dueOn 20171231 warned 0)
-    × (group C "2 19-19 10002 311217\n705 5001 42 03000558" reads batch 1501 0 20171231 (account 19 19) (plainItem ∷ plainItem ∷ []) warned 1)
-    × (group C "2 19-19 5001 010119" reads dueOn 20190101 warned 0)
+    × (group C "2 19-19 5001 311217" reads due_on 20171231 warned 1)
+    × (group E "2 19-19 5001 311217" reads due_on 20171231 warned 0)
+    × (group C "2 19-19 10002 311217\n705 5001 42 03000558" reads batch 1501 0 20171231 (account 19 19) (plain_item ∷ plain_item ∷ []) warned 1)
+    × (group C "2 19-19 5001 010119" reads due_on 20190101 warned 0)
     × (group C "2 19-19 5001 020119" gives 11 at 13)
-    × (group S "2 19-19 5001 311299" reads dueOn 20991231 warned 0)
-    × (group E "2 19-19 5001 010100" reads dueOn 20000101 warned 0)
+    × (group S "2 19-19 5001 311299" reads due_on 20991231 warned 0)
+    × (group E "2 19-19 5001 010100" reads due_on 20000101 warned 0)
     -- the divider behind the day: one too many, one too few
     × (group K "2 19-19 5001 020118 " gives 4 at 19)
     × (group E "2 19-19 5001" gives 4 at 12)

@@ -1,7 +1,7 @@
 -- Worked examples of docs/DECISIONS.md, points 11 to 24: an item's line, its fields and its texts, computed over the definitions. Assumes nothing.
 use mathlib.Core.List.{[], ◌∷◌}
 use mathlib.Core.Path.{refl}
-use Rattle.sheet.specs.Sheets.{sheetK as K, sheetS as S, sheetC as C, sheetE as E}
+use Rattle.sheet.specs.Sheets.{sheet_k as K, sheet_s as S, sheet_c as C, sheet_e as E}
 use Rattle.cases.specs.Asked.{judged}
 use Rattle.cases.specs.Frame.{item, payment, plain, ranked, texts, ◌gives◌at◌, ◌reads◌warned◌}
 

@@ -7,34 +7,34 @@ use Rattle.paper.specs.Bytes.{bytes}
 use Rattle.paper.specs.Accounts.{account}
 use Rattle.paper.specs.Batch.{AccountFile, Group, no_header}
 use Rattle.paper.specs.Lines.{line, lines_of}
-use Rattle.paper.specs.Judge.{Refused, Accepted, State, atFile, atItem, stop, step}
-use Rattle.sheet.specs.Sheets.{sheetK as K, sheetS as S, sheetC as C, sheetE as E}
+use Rattle.paper.specs.Judge.{Refused, Accepted, State, at_file, at_item, stop, step}
+use Rattle.sheet.specs.Sheets.{sheet_k as K, sheet_s as S, sheet_c as C, sheet_e as E}
 use Rattle.cases.specs.Asked.{today, judged}
-use Rattle.cases.specs.Frame.{frame, endedBy, first, opening, group, item, closing, ending, behind, plainItem, plain, ◌gives◌at◌, ◌reads◌warned◌}
+use Rattle.cases.specs.Frame.{frame, ended_by, first, opening, group, item, closing, ending, behind, plain_item, plain, ◌gives◌at◌, ◌reads◌warned◌}
 
 -- a group with n items
 abbrev items : ℕ → Group
-items n = record { date = 20180102; payer = account 19 19; items = replicate n plainItem }
+items n = record { date = 20180102; payer = account 19 19; items = replicate n plain_item }
 
 -- an account file with such a group
 abbrev filled : ℕ → AccountFile
 filled n = record { kind = 1501; number = 0; groups = items n ∷ [] }
 
 -- n account files were read, and another one is due
-abbrev afterFiles : ℕ → State
-afterFiles n = atFile (record { header = no_header; files = replicate n (filled 1); warnings = 0 })
+abbrev after_files : ℕ → State
+after_files n = at_file (record { header = no_header; files = replicate n (filled 1); warnings = 0 })
 
 -- c items of an earlier account file, g of an earlier group and n of this group were read, and another one is due
-abbrev afterItems : ℕ → ℕ → ℕ → State
-afterItems c g n =
-    atItem
+abbrev after_items : ℕ → ℕ → ℕ → State
+after_items c g n =
+    at_item
     (record {
       header = no_header;
       files = filled c ∷ [];
       opening = record { kind = 1501; number = 0 };
       groups = items g ∷ [];
       head = record { payer = account 19 19; date = 20180102; total = 5001; line = 3; byte = 8 };
-      items = replicate n plainItem;
+      items = replicate n plain_item;
       warnings = 0;
     })
 
@@ -42,10 +42,10 @@ afterItems c g n =
 -- and no line follows a CR that is the last byte.
 pub ends :
     (lines_of 0 (bytes "a\n\rb\r\r\nc\r") ≡ line 0 (bytes "a") ∷ line 2 [] ∷ line 3 (bytes "b") ∷ line 5 [] ∷ line 7 (bytes "c") ∷ [])
-    × (judged C (endedBy "\r\n" (frame C)) ≡ Accepted no_header plain 0)
-    × (judged C (endedBy "\r" (frame C)) ≡ Accepted no_header plain 0)
-    × (judged C (endedBy "\n\r" (frame C)) ≡ Refused 3 2 5)
-    × (judged C (endedBy "\r\r\n" (frame C)) ≡ Refused 3 2 5)
+    × (judged C (ended_by "\r\n" (frame C)) ≡ Accepted no_header plain 0)
+    × (judged C (ended_by "\r" (frame C)) ≡ Accepted no_header plain 0)
+    × (judged C (ended_by "\n\r" (frame C)) ≡ Refused 3 2 5)
+    × (judged C (ended_by "\r\r\n" (frame C)) ≡ Refused 3 2 5)
     × (judged C (bytes "UHL1\n1 1501 000000 0300\n2 19-19 5001 020118\n705 5001 42 03000558\n3 +\n5 +") ≡ Accepted no_header plain 0)
     × (judged C (bytes "UHL1\n1 1501 000000 0300\n2 19-19 5001 020118\n705 5001 42 03000558\n3 +\n5 +\r") ≡ Accepted no_header plain 0)
 unfolding judged
@@ -120,17 +120,17 @@ dues = (refl, refl, refl, refl, refl, refl, refl, refl, refl, refl, refl, refl, 
 
 -- Point 6: account file 1,001, on K too, although its number is bound to repeat; item 1,001 of S, counted over the whole file; item 100,000 of an
 -- account file. 3 comes before 15, and 15 before the line's fields; both are placed at the line's start.
-pub too_many :
-    (step K today 9 (line 70 (bytes "1 1501 000000 8100")) (afterFiles 1000) ≡ stop (Refused 15 9 70))
-    × (step C today 9 (line 70 (bytes "1 x")) (afterFiles 1000) ≡ stop (Refused 15 9 70))
-    × (step C today 9 (line 70 (bytes "2 x")) (afterFiles 1000) ≡ stop (Refused 3 9 70))
-    × (step C today 9 (line 70 (bytes "1 x")) (afterFiles 999) ≡ stop (Refused 4 9 72))
-    × (step S today 9 (line 70 (bytes "x")) (afterItems 500 300 200) ≡ stop (Refused 15 9 70))
-    × (step S today 9 (line 70 (bytes "x")) (afterItems 500 300 199) ≡ stop (Refused 4 9 70))
-    × (step S today 9 (line 70 (bytes "1 x")) (afterItems 500 300 200) ≡ stop (Refused 3 9 70))
-    × (step S today 9 (line 70 (bytes "3 x")) (afterItems 500 300 200) ≡ stop (Refused 4 9 72))
-    × (step C today 9 (line 70 (bytes "x")) (afterItems 500 300 200) ≡ stop (Refused 4 9 70))
-    × (step E today 9 (line 70 (bytes "x")) (afterItems 0 99000 999) ≡ stop (Refused 15 9 70))
-    × (step E today 9 (line 70 (bytes "x")) (afterItems 1 99000 998) ≡ stop (Refused 4 9 70))
+pub too-many :
+    (step K today 9 (line 70 (bytes "1 1501 000000 8100")) (after_files 1000) ≡ stop (Refused 15 9 70))
+    × (step C today 9 (line 70 (bytes "1 x")) (after_files 1000) ≡ stop (Refused 15 9 70))
+    × (step C today 9 (line 70 (bytes "2 x")) (after_files 1000) ≡ stop (Refused 3 9 70))
+    × (step C today 9 (line 70 (bytes "1 x")) (after_files 999) ≡ stop (Refused 4 9 72))
+    × (step S today 9 (line 70 (bytes "x")) (after_items 500 300 200) ≡ stop (Refused 15 9 70))
+    × (step S today 9 (line 70 (bytes "x")) (after_items 500 300 199) ≡ stop (Refused 4 9 70))
+    × (step S today 9 (line 70 (bytes "1 x")) (after_items 500 300 200) ≡ stop (Refused 3 9 70))
+    × (step S today 9 (line 70 (bytes "3 x")) (after_items 500 300 200) ≡ stop (Refused 4 9 72))
+    × (step C today 9 (line 70 (bytes "x")) (after_items 500 300 200) ≡ stop (Refused 4 9 70))
+    × (step E today 9 (line 70 (bytes "x")) (after_items 0 99000 999) ≡ stop (Refused 15 9 70))
+    × (step E today 9 (line 70 (bytes "x")) (after_items 1 99000 998) ≡ stop (Refused 4 9 70))
 unfolding judged
-too_many = (refl, refl, refl, refl, refl, refl, refl, refl, refl, refl, refl)
+too-many = (refl, refl, refl, refl, refl, refl, refl, refl, refl, refl, refl)

@@ -1,7 +1,7 @@
 -- The order in which a line is tested, docs/DECISIONS.md and "Numbers returned": lines with two faults, computed over the definitions.
 -- Assumes nothing.
 use mathlib.Core.Path.{refl}
-use Rattle.sheet.specs.Sheets.{sheetK as K, sheetS as S, sheetC as C, sheetE as E}
+use Rattle.sheet.specs.Sheets.{sheet_k as K, sheet_s as S, sheet_c as C, sheet_e as E}
 use Rattle.cases.specs.Asked.{judged}
 use Rattle.cases.specs.Frame.{first, opening, group, item, closing, ending, payment, ◌gives◌at◌}
 

@@ -8,9 +8,9 @@ use Rattle.paper.specs.Batch.{no_header, things}
 use Rattle.paper.specs.Judge.{Accepted}
 use Rattle.paper.specs.Writing.{drafted, refusal, draft}
 use Rattle.paper.specs.Rewriting.{rewriting}
-use Rattle.sheet.specs.Sheets.{sheetC as C, sheetP as P}
+use Rattle.sheet.specs.Sheets.{sheet_c as C, sheet_p as P}
 use Rattle.cases.specs.Asked.{today, judged, written, rewrites}
-use Rattle.cases.specs.Frame.{frame, endedBy, first, opening, group, single, item, payment, closing, ending, headed, header, paid, parts, plainItem, plain, filed, dueOn, texts, rows, alone, ◌gives◌at◌, ◌reads◌warned◌, ◌heads◌}
+use Rattle.cases.specs.Frame.{frame, ended_by, first, opening, group, single, item, payment, closing, ending, headed, header, paid, parts, plain_item, plain, filed, due_on, texts, rows, alone, ◌gives◌at◌, ◌reads◌warned◌, ◌heads◌}
 use Rattle.cases.proofs.Writing.{row3, told}
 
 -- The first line is S's: 58 bytes, and a start above the end is no fault. `#` and `~` may stand in it. Numbers of account files may come twice.
@@ -20,7 +20,7 @@ pub first-lines :
     × (first P "UHL1010118RYBNIKY # ~         1234567890901900  ##~~    x " heads headed 20180101 "RYBNIKY # ~         " 1234567890 901 900)
     × (first P "UHL1310218" gives 11 at 4)
     × (first P "UHL1" gives 4 at 4)
-    × (judged P (endedBy "\n" (frame P) ++ endedBy "\n" (drop 1 (frame P))) ≡ Accepted (header P) (plain ++ plain) 0)
+    × (judged P (ended_by "\n" (frame P) ++ ended_by "\n" (drop 1 (frame P))) ≡ Accepted (header P) (plain ++ plain) 0)
 unfolding judged
 first-lines = (refl, refl, refl, refl, refl, refl)
 
@@ -44,9 +44,9 @@ pub groups :
     × (group P "2 9 5001 020118" gives 5 at 2)
     × (group P "2 19-19 5000 020118" gives 10 at 8)
     × (group P "2 19-19 50,01 020118" gives 4 at 8)
-    × (group P "2 19-19 5001 20171231" reads dueOn 20171231 warned 1)
-    × (group P "2 19-19 5001 311217" reads dueOn 20171231 warned 1)
-    × (group P "2 19-19 5001 010119" reads dueOn 20190101 warned 0)
+    × (group P "2 19-19 5001 20171231" reads due_on 20171231 warned 1)
+    × (group P "2 19-19 5001 311217" reads due_on 20171231 warned 1)
+    × (group P "2 19-19 5001 010119" reads due_on 20190101 warned 0)
     × (group P "2 19-19 5001 020119" gives 11 at 13)
 unfolding judged
 groups = (refl, refl, refl, refl, refl, refl, refl, refl, refl, refl, refl, refl)
@@ -79,8 +79,8 @@ pub carried :
     × (written P (header P) (row3 (told ("" ∷ "" ∷ "" ∷ "x#" ∷ []) "")) ≡ refusal 21 3 17)
     × (written P (header P) (row3 (told [] "Jan")) ≡ refusal 21 3 19)
     × (written P (header P) (row3 (paid nobody 300 5001 0 7 (parts 4 ("#" ∷ [])) [])) ≡ refusal 21 3 10)
-    × (written P (header P) (rows 1503 0 20180102 (account 19 19) plainItem) ≡ refusal 21 1 1)
-    × (written P (header P) (rows 1501 0 20190102 (account 19 19) plainItem) ≡ refusal 21 2 1)
+    × (written P (header P) (rows 1503 0 20180102 (account 19 19) plain_item) ≡ refusal 21 1 1)
+    × (written P (header P) (rows 1501 0 20190102 (account 19 19) plain_item) ≡ refusal 21 2 1)
     × (written P (headed 20180229 "RYBNIKY             " 1234567890 0 900) (things plain) ≡ refusal 20 0 1)
     × (written C no_header (row3 (told ("a NP:b" ∷ []) "")) ≡ refusal 21 3 11)
     × (written P (header P) (row3 (told ("a NP:b" ∷ []) "")) ≡ drafted (bytes "UHL1010118RYBNIKY             1234567890000900000000000000\r\n1 1501 000000 0300\r\n2 19-19 5001 020118\r\n705 5001 42 03000558 0 AV:a NP:b\r\n3 +\r\n5 +\r\n"))

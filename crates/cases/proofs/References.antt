@@ -4,7 +4,7 @@ use mathlib.Core.List.{List, [], ◌∷◌, ◌++◌}
 use mathlib.Core.Path.{◌≡◌, refl}
 use Rattle.paper.specs.Bytes.{bytes}
 use Rattle.paper.specs.Batch.{no_header}
-use Rattle.paper.specs.Words.{blanks, rowsBytes}
+use Rattle.paper.specs.Words.{blanks, rows_bytes}
 use Rattle.paper.specs.Writing.{drafted, refusal, draft}
 use Rattle.cases.specs.Asked.{today, rewrites}
 
@@ -19,7 +19,7 @@ referred amount priority name reference last =
 
 -- the frame's rows on C, with this item and these rows behind it
 abbrev lent : List ℕ → List (List ℕ) → List ℕ
-lent x rest = rowsBytes (top 0 ++ (x ∷ rest))
+lent x rest = rows_bytes (top 0 ++ (x ∷ rest))
 
 -- what the frame is written as
 abbrev frame : List ℕ
@@ -39,13 +39,13 @@ reference-range = (refl, refl, refl, refl, refl, refl)
 -- Words 22 and 23 of an item's row, and words 21 to 23 of other rows, are not looked at.
 pub unused-words :
     (draft 3 today no_header (lent (referred 5001 5 0 7 18446744073709551615) []) [] ≡ drafted frame)
-    × (draft 3 today no_header (rowsBytes (top 18446744073709551615 ++ (referred 5001 5 0 7 0 ∷ []))) [] ≡ drafted frame)
+    × (draft 3 today no_header (rows_bytes (top 18446744073709551615 ++ (referred 5001 5 0 7 0 ∷ []))) [] ≡ drafted frame)
 unfolding rewrites
 unused-words = (refl, refl)
 
 -- It is the item's last field: behind the row itself, the amount and the name, before the next row, and before all of 21.
 pub reference-last :
-    (draft 3 today no_header (rowsBytes (referred 5001 5 0 4294967296 0 ∷ [])) [] ≡ refusal 20 1 0)
+    (draft 3 today no_header (rows_bytes (referred 5001 5 0 4294967296 0 ∷ [])) [] ≡ refusal 20 1 0)
     × (draft 3 today no_header (lent (referred 0 5 0 4294967296 0) []) [] ≡ refusal 20 3 6)
     × (draft 3 today no_header (lent (referred 5001 5 1 4294967296 0) []) [] ≡ refusal 20 3 19)
     × (draft 3 today no_header (lent (referred 5001 5 0 4294967296 0) (blanks 24 ∷ [])) [] ≡ refusal 20 3 21)

@@ -6,15 +6,15 @@ use Rattle.sheet.specs.declared.Sheet.{Sheet}
 use Rattle.paper.specs.Bytes.{bytes}
 use Rattle.paper.specs.Numerals.{fixed}
 use Rattle.paper.specs.Accounts.{Account, account, nobody}
-use Rattle.paper.specs.Batch.{Item, Batch, Header, no_header, Thing, aFile, aGroup, anItem}
+use Rattle.paper.specs.Batch.{Item, Batch, Header, no_header, Thing, a_file, a_group, an_item}
 use Rattle.paper.specs.Judge.{Refused, Accepted}
 use Rattle.cases.specs.Asked.{judged}
 
 -- ---- the frame
 
 -- the tail of an item with no symbol and no text: on S two spaces
-abbrev pub noTail : Sheet → List ℕ
-noTail sh = pick sh.fixedtail (bytes "  ") []
+abbrev pub no_tail : Sheet → List ℕ
+no_tail sh = pick sh.fixedtail (bytes "  ") []
 
 -- its six lines
 abbrev pub frame : Sheet → List (List ℕ)
@@ -22,21 +22,21 @@ frame sh =
     pick sh.header (bytes "UHL1010118RYBNIKY             1234567890000900000000000000") (bytes "UHL1")
     ∷ (bytes "1 1501 000000 " ++ fixed 4 sh.bank)
     ∷ bytes "2 19-19 5001 020118"
-    ∷ (bytes "705 5001 42 03000558" ++ noTail sh)
+    ∷ (bytes "705 5001 42 03000558" ++ no_tail sh)
     ∷ bytes "3 +"
     ∷ bytes "5 +"
     ∷ []
 
 -- the same with a single group: the payer's account stands in the item's line
-abbrev pub singleFrame : Sheet → List (List ℕ)
-singleFrame sh =
+abbrev pub single_frame : Sheet → List (List ℕ)
+single_frame sh =
     set (set (frame sh) 2 (pick sh.emptypayer (bytes "2  5001 020118") (bytes "2 5001 020118"))) 3
-    (bytes "19-19 705 5001 42 03000558" ++ noTail sh)
+    (bytes "19-19 705 5001 42 03000558" ++ no_tail sh)
 
 -- lines as bytes, each with this end
-abbrev pub endedBy : String → List (List ℕ) → List ℕ
-endedBy e [] = []
-endedBy e (t ∷ ts) = t ++ (bytes e ++ endedBy e ts)
+abbrev pub ended_by : String → List (List ℕ) → List ℕ
+ended_by e [] = []
+ended_by e (t ∷ ts) = t ++ (bytes e ++ ended_by e ts)
 
 -- where line k, from 0 on, starts, each line before it having an end of one byte
 abbrev pub start_of : ℕ → List (List ℕ) → ℕ
@@ -53,7 +53,7 @@ pub record Case : Type 0 where
 
 -- line k of these, from 0 on, is s
 abbrev pub changed : Sheet → List (List ℕ) → ℕ → String → Case
-changed sh ls k s = record { sheet = sh; file = endedBy "\n" (set ls k (bytes s)); line = suc k; start = start_of k ls }
+changed sh ls k s = record { sheet = sh; file = ended_by "\n" (set ls k (bytes s)); line = suc k; start = start_of k ls }
 
 -- the frame with this first line
 abbrev pub first : Sheet → String → Case
@@ -81,15 +81,15 @@ ending sh s = changed sh (frame sh) 5 s
 
 -- the frame, and behind it these bytes
 abbrev pub behind : Sheet → String → Case
-behind sh s = record { sheet = sh; file = endedBy "\n" (frame sh) ++ bytes s; line = 7; start = start_of 6 (frame sh) }
+behind sh s = record { sheet = sh; file = ended_by "\n" (frame sh) ++ bytes s; line = 7; start = start_of 6 (frame sh) }
 
 -- the frame of a single group, with this line for the group
 abbrev pub single : Sheet → String → Case
-single sh s = changed sh (singleFrame sh) 2 s
+single sh s = changed sh (single_frame sh) 2 s
 
 -- .. with this line for its item
 abbrev pub payment : Sheet → String → Case
-payment sh s = changed sh (singleFrame sh) 3 s
+payment sh s = changed sh (single_frame sh) 3 s
 
 -- the same file without its last n bytes
 abbrev pub without : ℕ → Case → Case
@@ -133,20 +133,20 @@ batch kind number date payer items =
     record { kind = kind; number = number; groups = record { date = date; payer = payer; items = items } ∷ [] } ∷ []
 
 -- the frame's item
-abbrev pub plainItem : Item
-plainItem = paid nobody 300 5001 0 5 (parts 4 []) []
+abbrev pub plain_item : Item
+plain_item = paid nobody 300 5001 0 5 (parts 4 []) []
 
 -- the frame's batch
 abbrev pub plain : Batch
-plain = batch 1501 0 20180102 (account 19 19) (plainItem ∷ [])
+plain = batch 1501 0 20180102 (account 19 19) (plain_item ∷ [])
 
 -- .. of another kind and number
 abbrev pub filed : ℕ → ℕ → Batch
-filed kind number = batch kind number 20180102 (account 19 19) (plainItem ∷ [])
+filed kind number = batch kind number 20180102 (account 19 19) (plain_item ∷ [])
 
 -- .. due on another day
-abbrev pub dueOn : ℕ → Batch
-dueOn date = batch 1501 0 date (account 19 19) (plainItem ∷ [])
+abbrev pub due_on : ℕ → Batch
+due_on date = batch 1501 0 date (account 19 19) (plain_item ∷ [])
 
 -- .. of another priority
 abbrev pub ranked : ℕ → Batch
@@ -158,7 +158,7 @@ texts specific ps name = batch 1501 0 20180102 (account 19 19) (paid nobody 300 
 
 -- the frame's rows: an account file with this kind and number, a group with this day and payer, an item
 abbrev pub rows : ℕ → ℕ → ℕ → Account → Item → List Thing
-rows kind number date payer x = aFile kind number ∷ aGroup date payer ∷ anItem x ∷ []
+rows kind number date payer x = a_file kind number ∷ a_group date payer ∷ an_item x ∷ []
 
 -- .. of a single group
 abbrev pub alone : Batch

@@ -1,7 +1,7 @@
 // The lines that close a group and an account file.
 ghost use Rattle.std.specs.Prelude.{◌≡◌, drop};
 ghost use Rattle.paper.specs.Entries.{Entry};
-ghost use Rattle.paper.specs.ClosingLine.{plusAt, readClose};
+ghost use Rattle.paper.specs.ClosingLine.{plus_at, read_close};
 ghost use Rattle.closing.specs.Told.{told};
 
 // What a closing line says: that it closes, or the refusal's number and its place in the line.
@@ -13,7 +13,7 @@ pub enum CloseRead {
 
 // A plus at `at`, and nothing more.
 fn plus_at(s: &[u8], at: usize) -> CloseRead
-    ensures { (e : Entry) → told e result ≡ plusAt e at (drop at s.now) }
+    ensures { (e : Entry) → told e result ≡ plus_at e at (drop at s.now) }
 {
     if s.len() <= at {
         return CloseRead::Refused(4, at);
@@ -30,7 +30,7 @@ fn plus_at(s: &[u8], at: usize) -> CloseRead
 
 // A line that was known as a closing one by its first byte: behind it a space and a plus, or, where `near`, a plus at once.
 pub fn close_line(s: &[u8], near: bool) -> CloseRead
-    ensures { (e : Entry) → told e result ≡ readClose near e s.now }
+    ensures { (e : Entry) → told e result ≡ read_close near e s.now }
 {
     if s.len() < 2 {
         return CloseRead::Refused(4, 1);

@@ -5,12 +5,12 @@ use Rattle.paper.specs.Batch.{Header}
 use Rattle.paper.specs.Lines.{Line}
 use Rattle.paper.specs.Judge.{State, step}
 use Rattle.fileline.specs.seen.Bits.{Holds}
-use Rattle.tally.specs.Tally.{Tally, tFirst, tFile}
+use Rattle.tally.specs.Tally.{Tally, t_first, t_file}
 use Rattle.tally.specs.Abs.{abs}
 use Rattle.judge.specs.declared.group.Counts.{Counts}
 use Rattle.judge.specs.declared.group.Shelf.{Shelf}
 use Rattle.judge.specs.declared.group.Held.{Held}
-use Rattle.judge.specs.group.Stands.{bookOf, inGroup, inFile, LowItem, LowGroup}
+use Rattle.judge.specs.group.Stands.{book_of, in_group, in_file, LowItem, LowGroup}
 use Rattle.judge.specs.accountfile.Resume.{LowFile}
 use Rattle.why.specs.Finding.{halted}
 use Rattle.course.specs.declared.Stage.{Stage}
@@ -20,11 +20,11 @@ use Rattle.course.specs.declared.Move.{Move}
 use Rattle.course.specs.declared.Move.TheVariants as move
 
 -- the judge's numbers, with the header and the first three digits of earlier account files' numbers
-abbrev pub numbersOf : Header → List ℕ → Stage → Tally
-numbersOf h l stage.First = tFirst
-numbersOf h l (stage.File c) = tFile (bookOf h l c)
-numbersOf h l (stage.Group c s) = inFile h l c s
-numbersOf h l (stage.Item x) = inGroup h l x
+abbrev pub numbers_of : Header → List ℕ → Stage → Tally
+numbers_of h l stage.First = t_first
+numbers_of h l (stage.File c) = t_file (book_of h l c)
+numbers_of h l (stage.Group c s) = in_file h l c s
+numbers_of h l (stage.Item x) = in_group h l x
 
 -- they are small, whatever the header and the earlier numbers are
 abbrev pub Low : Stage → Type 0
@@ -48,7 +48,7 @@ pub record Stands (x : Course) (words : List ℕ) (st : State) : Type 0 where
   pub last : header.to ≡ x.to
   pub holds : Holds words earlier
   pub fresh : Fresh x.stage earlier
-  pub numbers : abs st ≡ numbersOf header earlier x.stage
+  pub numbers : abs st ≡ numbers_of header earlier x.stage
 
 -- the numbers stay small
 abbrev pub LowMove : Move → Type 0
@@ -62,14 +62,14 @@ Leads sh today k t x before after move.Halt = (after ≡ before) × ((st : State
 
 -- ---- where a pass stands, by its stage
 
-abbrev pub atFirst : ℕ → ℕ → Course
-atFirst from to = record { from = from; to = to; stage = stage.First }
+abbrev pub at_first : ℕ → ℕ → Course
+at_first from to = record { from = from; to = to; stage = stage.First }
 
-abbrev pub atFile : ℕ → ℕ → Counts → Course
-atFile from to c = record { from = from; to = to; stage = stage.File c }
+abbrev pub at_file : ℕ → ℕ → Counts → Course
+at_file from to c = record { from = from; to = to; stage = stage.File c }
 
-abbrev pub atGroup : ℕ → ℕ → Counts → Shelf → Course
-atGroup from to c s = record { from = from; to = to; stage = stage.Group c s }
+abbrev pub at_group : ℕ → ℕ → Counts → Shelf → Course
+at_group from to c s = record { from = from; to = to; stage = stage.Group c s }
 
-abbrev pub atItem : ℕ → ℕ → Held → Course
-atItem from to x = record { from = from; to = to; stage = stage.Item x }
+abbrev pub at_item : ℕ → ℕ → Held → Course
+at_item from to x = record { from = from; to = to; stage = stage.Item x }

@@ -1,11 +1,11 @@
 // One line outside a group: it is judged as judging does it, and the pass stands behind it, or judging halts there.
 ghost use Rattle.std.specs.Prelude.{◌≡◌, true, List, ℕ, ◌-◌, ◌≤◌, length, take, drop};
-ghost use Rattle.paper.specs.Days.{realDay};
-ghost use Rattle.paper.specs.Entries.{headLine, fileLine, groupLine, fileEnd, kind_of};
+ghost use Rattle.paper.specs.Days.{real_day};
+ghost use Rattle.paper.specs.Entries.{head_line, file_line, group_line, file_end, kind_of};
 ghost use Rattle.scan.specs.line.Cutting.{Cuts};
-ghost use Rattle.judge.specs.group.Stands.{LowGroup, lineIn};
+ghost use Rattle.judge.specs.group.Stands.{LowGroup, line_in};
 ghost use Rattle.judge.specs.accountfile.Resume.{LowFile};
-ghost use Rattle.course.specs.Stands.{LowMove, Leads, atFirst, atFile, atGroup};
+ghost use Rattle.course.specs.Stands.{LowMove, Leads, at_first, at_file, at_group};
 
 use crate::{Course, Move, Stage};
 use closing::CloseRead;
@@ -31,9 +31,9 @@ const NOTHING: Counts = Counts {
 // The first line, which is known as one.
 fn begin(f: &[u8], sh: Sheet, at: usize, stop: usize) -> Move
     requires at_le_stop { (at ≤ stop) × (stop ≤ length f.now) }
-    requires f_value { kind_of (take (stop - at) (drop at f.now)) ≡ headLine }
+    requires f_value { kind_of (take (stop - at) (drop at f.now)) ≡ head_line }
     ensures low_move { LowMove result }
-    ensures leads { (today k from to : ℕ) (words : List ℕ) → Leads sh today k (lineIn f.now at stop) (atFirst from to) words words result }
+    ensures leads { (today k from to : ℕ) (words : List ℕ) → Leads sh today k (line_in f.now at stop) (at_first from to) words words result }
 {
     match firstline::first_line(&f[at..stop], sh) {
         FirstRead::Header {
@@ -59,7 +59,7 @@ fn begin(f: &[u8], sh: Sheet, at: usize, stop: usize) -> Move
 pub fn from_first(f: &[u8], sh: Sheet, at: usize, stop: usize) -> Move
     requires { (at ≤ stop) × (stop ≤ length f.now) }
     ensures low_move { LowMove result }
-    ensures leads { (today k from to : ℕ) (words : List ℕ) → Leads sh today k (lineIn f.now at stop) (atFirst from to) words words result }
+    ensures leads { (today k from to : ℕ) (words : List ℕ) → Leads sh today k (line_in f.now at stop) (at_first from to) words words result }
 {
     match scan::kind::kind_of(&f[at..stop]) {
         LineKind::Head => begin(f, sh, at, stop),
@@ -86,9 +86,9 @@ fn open_file(
 ) -> Move
     requires low_file { LowFile counts }
     requires cuts { Cuts f.now at cut }
-    requires f_value { kind_of (take (cut.stop - at) (drop at f.now)) ≡ fileLine }
+    requires f_value { kind_of (take (cut.stop - at) (drop at f.now)) ≡ file_line }
     ensures low_move { LowMove result }
-    ensures by_index { (today k : ℕ) → Leads sh today k (lineIn f.now at cut.stop) (atFile from to counts) seen.old seen.new result }
+    ensures by_index { (today k : ℕ) → Leads sh today k (line_in f.now at cut.stop) (at_file from to counts) seen.old seen.new result }
 {
     let files = counts.files;
     if 1000 <= files {
@@ -126,7 +126,7 @@ pub fn from_file(
     requires low_file { LowFile counts }
     requires cuts { Cuts f.now at cut }
     ensures low_move { LowMove result }
-    ensures by_index { (today k : ℕ) → Leads sh today k (lineIn f.now at cut.stop) (atFile from to counts) seen.old seen.new result }
+    ensures by_index { (today k : ℕ) → Leads sh today k (line_in f.now at cut.stop) (at_file from to counts) seen.old seen.new result }
 {
     let stop = cut.stop;
     match scan::kind::kind_of(&f[at..stop]) {
@@ -154,12 +154,12 @@ fn open_group(
     counts: Counts,
     shelf: Shelf,
 ) -> Move
-    requires today_value { realDay today ≡ true }
+    requires today_value { real_day today ≡ true }
     requires low_group { LowGroup counts shelf }
     requires at_le_stop { (at ≤ stop) × (stop ≤ length f.now) }
-    requires f_value { kind_of (take (stop - at) (drop at f.now)) ≡ groupLine }
+    requires f_value { kind_of (take (stop - at) (drop at f.now)) ≡ group_line }
     ensures low_move { LowMove result }
-    ensures by_index { (words : List ℕ) → Leads sh today line (lineIn f.now at stop) (atGroup from to counts shelf) words words result }
+    ensures by_index { (words : List ℕ) → Leads sh today line (line_in f.now at stop) (at_group from to counts shelf) words words result }
 {
     match judge::accountfile::group_opening(f, sh, today, at, stop, line, counts, shelf) {
         Opening::Group(held) => Move::On(Course {
@@ -184,9 +184,9 @@ fn close_file(
 ) -> Move
     requires low_group { LowGroup counts shelf }
     requires cuts { Cuts f.now at cut }
-    requires f_value { kind_of (take (cut.stop - at) (drop at f.now)) ≡ fileEnd }
+    requires f_value { kind_of (take (cut.stop - at) (drop at f.now)) ≡ file_end }
     ensures low_move { LowMove result }
-    ensures by_index { (today k : ℕ) (words : List ℕ) → Leads sh today k (lineIn f.now at cut.stop) (atGroup from to counts shelf) words words result }
+    ensures by_index { (today k : ℕ) (words : List ℕ) → Leads sh today k (line_in f.now at cut.stop) (at_group from to counts shelf) words words result }
 {
     let groups = shelf.groups;
     if groups == 0 {
@@ -216,11 +216,11 @@ pub fn from_group(
     counts: Counts,
     shelf: Shelf,
 ) -> Move
-    requires today_value { realDay today ≡ true }
+    requires today_value { real_day today ≡ true }
     requires low_group { LowGroup counts shelf }
     requires cuts { Cuts f.now at cut }
     ensures low_move { LowMove result }
-    ensures by_index { (words : List ℕ) → Leads sh today line (lineIn f.now at cut.stop) (atGroup from to counts shelf) words words result }
+    ensures by_index { (words : List ℕ) → Leads sh today line (line_in f.now at cut.stop) (at_group from to counts shelf) words words result }
 {
     let stop = cut.stop;
     match scan::kind::kind_of(&f[at..stop]) {

@@ -1,5 +1,5 @@
 -- The three demands on the library, on one page. The definitions are those of document 01 (crate paper) which the contracts of the calls
--- name: `readAnswer` and `rowsAfter` of abo_read, `draft`, `writtenIn` and `outputAfter` of abo_write, `explanation` of abo_explain (crate explain). Words
+-- name: `read_answer` and `rows_after` of abo_read, `draft`, `written_in` and `output_after` of abo_write, `explanation` of abo_explain (crate explain). Words
 -- has them all; the functions that make calls are in ../src/lib.rt. Assumes nothing.
 use mathlib.Core.Path.{◌≡◌}
 use mathlib.Core.Bool.{true}
@@ -61,34 +61,34 @@ explain-twice = explain-twice-call.met
 pub line-twice : {M : Type 1} → line-twice-contract.statement M
 line-twice = line-twice-call.met
 
-pub reading-refused : (sheet today : ℕ) (f lent : List ℕ) → ((readAnswer sheet today f lent).number ≡ 0 → ⊥) → rowsAfter sheet today f lent ≡ lent
+pub reading-refused : (sheet today : ℕ) (f lent : List ℕ) → ((read_answer sheet today f lent).number ≡ 0 → ⊥) → rows_after sheet today f lent ≡ lent
 reading-refused = kept.rows-kept
 
 -- writing and explaining: d is the draft of the one or of the other
-pub output-refused : (d : Draft) (out : List ℕ) → ((writtenIn (length out) d).number ≡ 0 → ⊥) → outputAfter out d ≡ out
+pub output-refused : (d : Draft) (out : List ℕ) → ((written_in (length out) d).number ≡ 0 → ⊥) → output_after out d ≡ out
 output-refused = kept.output-kept
 
 -- what reading refuses in a file, abo_line shows: the refusal's byte lies in the line of its number
-pub refusal-shown : (sheet today : ℕ) (f lent : List ℕ) → Judged (readAnswer sheet today f lent).number
-    → Holds (lineAnswer (readAnswer sheet today f lent).line f) (readAnswer sheet today f lent).byte
+pub refusal-shown : (sheet today : ℕ) (f lent : List ℕ) → Judged (read_answer sheet today f lent).number
+    → Holds (line_answer (read_answer sheet today f lent).line f) (read_answer sheet today f lent).byte
 refusal-shown = shown.read-shown
 
 -- ---- Demands 2 and 3, every number: an answer is given exactly if its case holds, whatever the sheet's number and the day
 
-pub reading-gives : (sheet today : ℕ) (f lent : List ℕ) (a : ReadAnswer) → readAnswer sheet today f lent ≡ a ↔ ReadGives sheet today f (length lent / rowSize) a
+pub reading-gives : (sheet today : ℕ) (f lent : List ℕ) (a : ReadAnswer) → read_answer sheet today f lent ≡ a ↔ ReadGives sheet today f (length lent / row_size) a
 reading-gives = read-numbers.reads
 
 pub writing-gives : (sheet today : ℕ) (h : Header) (rows texts out : List ℕ) (a : WriteAnswer)
-    → writtenIn (length out) (draft sheet today h rows texts) ≡ a ↔ WriteGives sheet today h rows texts (length out) a
+    → written_in (length out) (draft sheet today h rows texts) ≡ a ↔ WriteGives sheet today h rows texts (length out) a
 writing-gives sheet today h rows texts out = write-numbers.writes sheet today h rows texts (length out)
 
 -- ---- what follows speaks of a known sheet and a real day
 
-module _ (sheet : ℕ) (sh : Sheet) (named : sheetOf sheet ≡ known.Sheet sh) (today : ℕ) (day : realDay today ≡ true) where
+module _ (sheet : ℕ) (sh : Sheet) (named : sheet_of sheet ≡ known.Sheet sh) (today : ℕ) (day : real_day today ≡ true) where
   -- ---- Demand 2, reading
 
   -- With room for its rows a file is accepted as a batch, with a header and warnings, exactly if it breaks no rule and spells these,
-  pub accepted : (f lent : List ℕ) (h : Header) (b : Batch) (w : ℕ) → rowCount b ≤ length lent / rowSize → length f < 2 ^ 64
+  pub accepted : (f lent : List ℕ) (h : Header) (b : Batch) (w : ℕ) → row_count b ≤ length lent / row_size → length f < 2 ^ 64
       → ReadsAs sheet today f lent h b w ↔ Spells sh today f h b w
   accepted = reading.reads sheet sh named today day
 
@@ -98,7 +98,7 @@ module _ (sheet : ℕ) (sh : Sheet) (named : sheetOf sheet ≡ known.Sheet sh) (
   one_batch = exact.unambiguous sh today
 
   -- It is refused with a number, a line and a byte exactly if a rule is broken there and none before it in the testing order.
-  pub refused : (f lent : List ℕ) (n l p : ℕ) → readAnswer sheet today f lent ≡ refusedAt n l p ↔ FirstFault sh today f (Refused n l p)
+  pub refused : (f lent : List ℕ) (n l p : ℕ) → read_answer sheet today f lent ≡ refused_at n l p ↔ FirstFault sh today f (Refused n l p)
   refused = reading.refuses sheet sh named today day
 
   module _ (h : Header) (rows texts : List ℕ) where
@@ -116,16 +116,16 @@ module _ (sheet : ℕ) (sh : Sheet) (named : sheetOf sheet ≡ known.Sheet sh) (
 
     -- Writing is refused exactly if no file at all, however spelled, is read as this batch with this header (on C, as this batch),
     pub refused-exactly : Refuses (draft sheet today h rows texts)
-        ↔ ((b : Batch) (f : List ℕ) (w : ℕ) → Hold rows texts b → Spells sh today f (headRead sh h) b w → ⊥)
+        ↔ ((b : Batch) (f : List ℕ) (w : ℕ) → Hold rows texts b → Spells sh today f (head_read sh h) b w → ⊥)
     refused-exactly = written.refused-exactly sheet sh named today day h rows texts
 
     -- with 20 exactly if row and field are the first that break a rule of "The batch" (the header is row 0),
-    pub improper : (row field : ℕ) → draft sheet today h rows texts ≡ refusal 20 row field ↔ FirstWrong (properRules sh h (thingsIn texts (rowsIn rows))) row field
+    pub improper : (row field : ℕ) → draft sheet today h rows texts ≡ refusal 20 row field ↔ FirstWrong (proper_rules sh h (things_in texts (rows_in rows))) row field
     improper = write-numbers.draft-improper sheet today h rows texts sh named day
 
     -- with 21 exactly if no such rule is broken, and row and field are the first that the sheet does not carry on that day,
     pub uncarried : (row field : ℕ) → draft sheet today h rows texts ≡ refusal 21 row field
-        ↔ AllMet (properRules sh h (thingsIn texts (rowsIn rows))) × FirstWrong (carriedRules sh today h (thingsIn texts (rowsIn rows))) row field
+        ↔ AllMet (proper_rules sh h (things_in texts (rows_in rows))) × FirstWrong (carried_rules sh today h (things_in texts (rows_in rows))) row field
     uncarried = write-numbers.draft-uncarried sheet today h rows texts sh named day
 
     -- and with no other number.
@@ -135,14 +135,14 @@ module _ (sheet : ℕ) (sh : Sheet) (named : sheetOf sheet ≡ known.Sheet sh) (
     -- Otherwise a file is written that is accepted that day,
     pub otherwise-written : (Refuses (draft sheet today h rows texts) → ⊥)
         → (b : Batch) × Hold rows texts b × ((out : List ℕ) → length (canon sh h b) ≤ length out → WritesAs sheet today h rows texts out (canon sh h b))
-        × Spells sh today (canon sh h b) (headRead sh h) b (pastWarnings sh today b)
+        × Spells sh today (canon sh h b) (head_read sh h) b (past_warnings sh today b)
     otherwise-written = written.otherwise-written sheet sh named today day h rows texts
 
     -- and with room for its rows it is read back as exactly the batch and the header (on C, the batch).
     pub read_back : (Refuses (draft sheet today h rows texts) → ⊥)
         → (b : Batch) × Hold rows texts b
-        × ((lent : List ℕ) → rowCount b ≤ length lent / rowSize → length (canon sh h b) < 2 ^ 64
-        → ReadsAs sheet today (canon sh h b) lent (headRead sh h) b (pastWarnings sh today b))
+        × ((lent : List ℕ) → row_count b ≤ length lent / row_size → length (canon sh h b) < 2 ^ 64
+        → ReadsAs sheet today (canon sh h b) lent (head_read sh h) b (past_warnings sh today b))
     read_back = written.read_back sheet sh named today day h rows texts
 
 -- .. by the two calls, one after the other, whatever sheet and day: what abo_write writes, abo_read reads back.

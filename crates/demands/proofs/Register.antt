@@ -1,6 +1,6 @@
 -- What is demanded of the five calls that keep the day's numbers (document 02, W-207), on one page. The contracts of the calls name
--- `startAnswer`, `startAfter`, `lowestAnswer`, `freeAnswer`, `giveAnswer`, `giveAfter` (crate register) and `registeredAnswer`, `registeredRows`,
--- `registerAfter` (crate against). The functions that make calls are in ../src/lib.rt. Assumes nothing.
+-- `start_answer`, `start_after`, `lowest_answer`, `free_answer`, `give_answer`, `give_after` (crate register) and `registered_answer`, `registered_rows`,
+-- `register_after` (crate against). The functions that make calls are in ../src/lib.rt. Assumes nothing.
 use Prim.Native.Nat.{ℕ, ◌+◌, ◌/◌, ◌^◌, ◌≤◌, ◌<◌}
 use mathlib.Core.Path.{◌≡◌}
 use mathlib.Core.Bool.{true, false}
@@ -9,20 +9,20 @@ use mathlib.Core.Logic.{◌↔◌}
 use lib.ListN.{length}
 use Rattle.sheet.specs.declared.Sheet.{Sheet}
 use Rattle.sheet.specs.declared.Known.TheVariants as known
-use Rattle.sheet.specs.Sheets.{sheetOf}
+use Rattle.sheet.specs.Sheets.{sheet_of}
 use Rattle.sheet.proofs.Laws.{sane}
-use Rattle.paper.specs.Days.{realDay}
+use Rattle.paper.specs.Days.{real_day}
 use Rattle.paper.specs.Batch.{Batch, Header}
 use Rattle.paper.specs.Spells.{Spells}
 use Rattle.paper.specs.Judge.{seen}
-use Rattle.paper.specs.Rows.{rowSize}
-use Rattle.paper.specs.Reading.{refusedAt, rowCount, readAnswer, rowsAfter}
+use Rattle.paper.specs.Rows.{row_size}
+use Rattle.paper.specs.Reading.{refused_at, row_count, read_answer, rows_after}
 use Rattle.exact.specs.named.Numbers.{Judged}
 -- a set of numbers, and a register in lent bytes
 use Rattle.register.specs.Marks.{Marks, none, with, without, taken, free, lowest}
-use Rattle.register.specs.Register.{of, registerSize, registerOf, fits, used, laidIn, answer, startAnswer, startAfter, isGiven, giveAnswer, giveAfter}
+use Rattle.register.specs.Register.{of, register_size, register_of, fits, used, laid_in, answer, start_answer, start_after, is_given, give_answer, give_after}
 -- reading against it, and when 22 and 23 are the first fault
-use Rattle.against.specs.Registered.{registeredAnswer, registeredRows, registerAfter}
+use Rattle.against.specs.Registered.{registered_answer, registered_rows, register_after}
 use Rattle.against.specs.FirstUsed.{Unused, OtherDate, UsedNumber}
 use Rattle.against.specs.Outcomes.{RegisteredAs}
 use Rattle.enrol.proofs.abo_register_start.Statement as start-contract
@@ -85,28 +85,28 @@ give-back-twice = give-back-twice-call.met
 pub registered-twice : {M : Type 1} → registered-twice-contract.statement M
 registered-twice = registered-twice-call.met
 
-pub start-refused : (lent : List ℕ) (d : ℕ) → ((startAnswer d lent).number ≡ 0 → ⊥) → startAfter d lent ≡ lent
+pub start-refused : (lent : List ℕ) (d : ℕ) → ((start_answer d lent).number ≡ 0 → ⊥) → start_after d lent ≡ lent
 start-refused = laws.start-kept
 
-pub give-back-refused : (lent : List ℕ) (n : ℕ) → ((giveAnswer lent n).number ≡ 0 → ⊥) → giveAfter lent n ≡ lent
+pub give-back-refused : (lent : List ℕ) (n : ℕ) → ((give_answer lent n).number ≡ 0 → ⊥) → give_after lent n ≡ lent
 give-back-refused = laws.give_kept
 
 -- 16 too
-pub registered-refused : (sheet today : ℕ) (f lent register : List ℕ) → ((registeredAnswer sheet today f lent register).number ≡ 0 → ⊥)
-    → (registeredRows sheet today f lent register ≡ lent) × (registerAfter sheet today f lent register ≡ register)
+pub registered-refused : (sheet today : ℕ) (f lent register : List ℕ) → ((registered_answer sheet today f lent register).number ≡ 0 → ⊥)
+    → (registered_rows sheet today f lent register ≡ lent) × (register_after sheet today f lent register ≡ register)
 registered-refused = against.registered-kept
 
 -- ---- The register
 
 -- What a call leaves is laid out as a register, of the date and the marks that it was given; and what is laid out has a real day and no number above 999.
-pub laid-back : (lent : List ℕ) (d : ℕ) (p : Marks) → registerSize ≤ length lent → realDay d ≡ true → ((n : ℕ) → 1000 ≤ n → p n ≡ false) → registerOf (laidIn lent d p) ≡ of d p
+pub laid-back : (lent : List ℕ) (d : ℕ) (p : Marks) → register_size ≤ length lent → real_day d ≡ true → ((n : ℕ) → 1000 ≤ n → p n ≡ false) → register_of (laid_in lent d p) ≡ of d p
 laid-back = laws.laid-back
 
-pub laid-free : (lent : List ℕ) (d : ℕ) (p : Marks) → registerOf lent ≡ of d p → (realDay d ≡ true) × ((n : ℕ) → 1000 ≤ n → p n ≡ false)
+pub laid-free : (lent : List ℕ) (d : ℕ) (p : Marks) → register_of lent ≡ of d p → (real_day d ≡ true) × ((n : ℕ) → 1000 ≤ n → p n ≡ false)
 laid-free = laws.laid-free
 
 -- A new day starts empty; asked behind it, all numbers are free and the lowest is 0.
-pub started : (lent : List ℕ) (d : ℕ) → realDay d ≡ true → registerSize ≤ length lent → registerOf (startAfter d lent) ≡ of d none
+pub started : (lent : List ℕ) (d : ℕ) → real_day d ≡ true → register_size ≤ length lent → register_of (start_after d lent) ≡ of d none
 started = laws.started
 
 pub start-and-ask : {M : Type 1} → start-and-ask-contract.statement M
@@ -136,10 +136,10 @@ mark-give = laws.mark-give
 pub give-other : (n k : ℕ) (p : Marks) → (k ≡ n → ⊥) → without n p k ≡ p k
 give-other = laws.give-other
 
-pub given : (lent : List ℕ) (d : ℕ) (p : Marks) (n : ℕ) → registerOf lent ≡ of d p → isGiven p n ≡ true → registerOf (giveAfter lent n) ≡ of d (without n p)
+pub given : (lent : List ℕ) (d : ℕ) (p : Marks) (n : ℕ) → register_of lent ≡ of d p → is_given p n ≡ true → register_of (give_after lent n) ≡ of d (without n p)
 given = laws.given
 
-pub given-again : (lent : List ℕ) (d : ℕ) (p : Marks) (n : ℕ) → registerOf lent ≡ of d p → isGiven p n ≡ true → giveAnswer (giveAfter lent n) n ≡ answer 24 0
+pub given-again : (lent : List ℕ) (d : ℕ) (p : Marks) (n : ℕ) → register_of lent ≡ of d p → is_given p n ≡ true → give_answer (give_after lent n) n ≡ answer 24 0
 given-again = laws.given-again
 
 pub give-back-and-ask : {M : Type 1} → give-back-and-ask-contract.statement M
@@ -147,36 +147,36 @@ give-back-and-ask = give-back-and-ask-call.met
 
 -- ---- Reading against it: a known sheet
 
-module _ (sheet : ℕ) (sh : Sheet) (named : sheetOf sheet ≡ known.Sheet sh) (today : ℕ) (f lent register : List ℕ) where
+module _ (sheet : ℕ) (sh : Sheet) (named : sheet_of sheet ≡ known.Sheet sh) (today : ℕ) (f lent register : List ℕ) where
   -- A sheet without K's number rule neither looks at the register nor changes it, whatever it holds.
-  pub other-sheets : sh.interval ≡ false → (registeredAnswer sheet today f lent register ≡ readAnswer sheet today f lent)
-      × (registeredRows sheet today f lent register ≡ rowsAfter sheet today f lent) × (registerAfter sheet today f lent register ≡ register)
+  pub other-sheets : sh.interval ≡ false → (registered_answer sheet today f lent register ≡ read_answer sheet today f lent)
+      × (registered_rows sheet today f lent register ≡ rows_after sheet today f lent) × (register_after sheet today f lent register ≡ register)
   other-sheets = against.other-sheets sheet sh named today f lent register
 
   -- K, on a real day:
-  module _ (day : realDay today ≡ true) (i : sh.interval ≡ true) where
+  module _ (day : real_day today ≡ true) (i : sh.interval ≡ true) where
     -- with room for its rows a file is accepted as a batch, with a header and warnings, exactly if it spells these, the register is for its date and none of its numbers is marked;
-    pub accepted : (h : Header) (b : Batch) (w : ℕ) → rowCount b ≤ length lent / rowSize → length f < 2 ^ 64
-        → RegisteredAs sheet today f lent register h b w ↔ (Spells sh today f h b w × (fits (registerOf register) h.date ≡ true) × Unused (used (registerOf register)) b)
+    pub accepted : (h : Header) (b : Batch) (w : ℕ) → row_count b ≤ length lent / row_size → length f < 2 ^ 64
+        → RegisteredAs sheet today f lent register h b w ↔ (Spells sh today f h b w × (fits (register_of register) h.date ≡ true) × Unused (used (register_of register)) b)
     accepted = against.accepted sheet sh named today f lent register day i (headed sh (sane sheet sh named) i)
 
     -- then answer and rows are those of reading without one,
-    pub accepted-alike : (registeredAnswer sheet today f lent register).number ≡ 0
-        → (registeredAnswer sheet today f lent register ≡ readAnswer sheet today f lent) × (registeredRows sheet today f lent register ≡ rowsAfter sheet today f lent)
+    pub accepted-alike : (registered_answer sheet today f lent register).number ≡ 0
+        → (registered_answer sheet today f lent register ≡ read_answer sheet today f lent) × (registered_rows sheet today f lent register ≡ rows_after sheet today f lent)
     accepted-alike = against.accepted-alike sheet sh named today f lent register day i (headed sh (sane sheet sh named) i)
 
     -- and marked is what was marked or is a number of the batch; the date and the bytes behind the register stay.
-    pub accepted-marks : (registeredAnswer sheet today f lent register).number ≡ 0 → (h : Header) (b : Batch) (w : ℕ) → Spells sh today f h b w
-        → (d : ℕ) (p : Marks) → registerOf register ≡ of d p → registerAfter sheet today f lent register ≡ laidIn register d (with (seen b) p)
+    pub accepted-marks : (registered_answer sheet today f lent register).number ≡ 0 → (h : Header) (b : Batch) (w : ℕ) → Spells sh today f h b w
+        → (d : ℕ) (p : Marks) → register_of register ≡ of d p → register_after sheet today f lent register ≡ laid_in register d (with (seen b) p)
     accepted-marks = against.accepted-marks sheet sh named today f lent register day i (headed sh (sane sheet sh named) i)
 
     -- 22 is given exactly if a number that was used is the first fault, 23 exactly if the header's date is.
-    pub refused-22 : (l p : ℕ) → registeredAnswer sheet today f lent register ≡ refusedAt 22 l p ↔ UsedNumber (registerOf register) sh today f l p
+    pub refused-22 : (l p : ℕ) → registered_answer sheet today f lent register ≡ refused_at 22 l p ↔ UsedNumber (register_of register) sh today f l p
     refused-22 = against.refused-22 sheet sh named today f lent register day i (headed sh (sane sheet sh named) i)
 
-    pub refused-23 : (l p : ℕ) → registeredAnswer sheet today f lent register ≡ refusedAt 23 l p ↔ OtherDate (registerOf register) f l p
+    pub refused-23 : (l p : ℕ) → registered_answer sheet today f lent register ≡ refused_at 23 l p ↔ OtherDate (register_of register) f l p
     refused-23 = against.refused-23 sheet sh named today f lent register day i (headed sh (sane sheet sh named) i)
 
     -- Any other refusal of the file is the one that it gets without a register.
-    pub refused-alike : (n l p : ℕ) → Judged n → registeredAnswer sheet today f lent register ≡ refusedAt n l p → readAnswer sheet today f lent ≡ refusedAt n l p
+    pub refused-alike : (n l p : ℕ) → Judged n → registered_answer sheet today f lent register ≡ refused_at n l p → read_answer sheet today f lent ≡ refused_at n l p
     refused-alike = against.refused-alike sheet sh named today f lent register day i (headed sh (sane sheet sh named) i)

@@ -1,14 +1,14 @@
 // The demands, kept by functions that make the shipped calls: a call made twice answers alike, and what is written is read back.
 ghost use Rattle.std.specs.Prelude.{◌≡◌, ◌≤◌, ◌<◌, length, take};
-ghost use Rattle.paper.specs.Reading.{readAnswer, rowsAfter};
-ghost use Rattle.read.specs.Told.{told as toldRead};
-ghost use Rattle.write.specs.Told.{headerOf};
+ghost use Rattle.paper.specs.Reading.{read_answer, rows_after};
+ghost use Rattle.read.specs.Told.{told as told_read};
+ghost use Rattle.write.specs.Told.{header_of};
 ghost use Rattle.outcomes.specs.Outcomes.{ComesBack};
-ghost use Rattle.gpc.specs.Answers.{statementAnswer, statementRows};
+ghost use Rattle.gpc.specs.Answers.{statement_answer, statement_rows};
 ghost use Rattle.gpcwhole.specs.Outcomes.{ComesBack as StatementsComeBack};
-ghost use Rattle.statement.specs.reading.Told.{told as toldStatement};
+ghost use Rattle.statement.specs.reading.Told.{told as told_statement};
 ghost use Rattle.register.specs.Register.{answer};
-ghost use Rattle.register.specs.Told.{toldAnswer as toldRegister};
+ghost use Rattle.register.specs.Told.{told_answer as told_register};
 
 use explain::AboText;
 use findings::AboList;
@@ -156,8 +156,8 @@ pub struct Returned {
 // Reads the first bytes of an output.
 fn read_front(out: &[u8], len: u64, sheet: u64, today: u64, back: &mut [u8]) -> AboAnswer
     requires { len ≤ length out.now }
-    ensures result_value { toldRead result ≡ readAnswer sheet today (take len out.now) back.old }
-    ensures back_after { back.new ≡ rowsAfter sheet today (take len out.now) back.old }
+    ensures result_value { told_read result ≡ read_answer sheet today (take len out.now) back.old }
+    ensures back_after { back.new ≡ rows_after sheet today (take len out.now) back.old }
     ensures out_len_bound { length out.now < 18446744073709551616 }
 {
     let n = len as usize;
@@ -175,7 +175,7 @@ pub fn write_and_read(
     out: &mut [u8],
     back: &mut [u8],
 ) -> Returned
-    ensures { result.written.number ≡ 0 → ComesBack sheet today (headerOf head.date name.now head.client head.from head.to) rows.now texts.now (take result.written.bytes out.new) back.old (toldRead result.read) back.new }
+    ensures { result.written.number ≡ 0 → ComesBack sheet today (header_of head.date name.now head.client head.from head.to) rows.now texts.now (take result.written.bytes out.new) back.old (told_read result.read) back.new }
 {
     let written = abo::abo_write(
         rows,
@@ -238,8 +238,8 @@ pub struct StatementsReturned {
 // Reads the first bytes of an output as statements.
 fn statement_read_front(out: &[u8], len: u64, back: &mut [u8]) -> AboStatement
     requires { len ≤ length out.now }
-    ensures result_value { toldStatement result ≡ statementAnswer (take len out.now) back.old }
-    ensures back_after { back.new ≡ statementRows (take len out.now) back.old }
+    ensures result_value { told_statement result ≡ statement_answer (take len out.now) back.old }
+    ensures back_after { back.new ≡ statement_rows (take len out.now) back.old }
 {
     let n = len as usize;
     abo::abo_statement_read(&out[..n], back)
@@ -247,7 +247,7 @@ fn statement_read_front(out: &[u8], len: u64, back: &mut [u8]) -> AboStatement
 
 // Writes statements, and reads the written file; of rows that are refused, no bytes.
 pub fn statement_write_and_read(rows: &[u8], out: &mut [u8], back: &mut [u8]) -> StatementsReturned
-    ensures { result.written.number ≡ 0 → StatementsComeBack rows.now (take result.written.bytes out.new) back.old (toldStatement result.read) back.new }
+    ensures { result.written.number ≡ 0 → StatementsComeBack rows.now (take result.written.bytes out.new) back.old (told_statement result.read) back.new }
 {
     let written = abo::abo_statement_write(rows, out);
     if written.number != 0 {
@@ -345,7 +345,7 @@ pub struct Asked {
 
 // Starts a day, and asks: all numbers are free, and the lowest is 0.
 pub fn start_and_ask(date: u64, register: &mut [u8]) -> Asked
-    ensures { result.done.number ≡ 0 → (toldRegister result.lowest ≡ answer 0 0) × (toldRegister result.free ≡ answer 0 1000) }
+    ensures { result.done.number ≡ 0 → (told_register result.lowest ≡ answer 0 0) × (told_register result.free ≡ answer 0 1000) }
 {
     let done = enrol::abo_register_start(date, register);
     let lowest = enrol::abo_register_lowest(register);

@@ -1,10 +1,10 @@
 // The calls for a C program that keep the day's numbers. They are compiled by themselves: in one unit with reading, what both use would have two
 // callers, and the compiler would keep it apart from reading's loops.
 ghost use Rattle.std.specs.Prelude.{◌≡◌};
-ghost use Rattle.read.specs.Told.{told as toldRead};
-ghost use Rattle.register.specs.Register.{startAnswer, startAfter, lowestAnswer, freeAnswer, giveAnswer, giveAfter};
-ghost use Rattle.register.specs.Told.{toldAnswer};
-ghost use Rattle.against.specs.Registered.{registeredAnswer, registeredRows, registerAfter};
+ghost use Rattle.read.specs.Told.{told as told_read};
+ghost use Rattle.register.specs.Register.{start_answer, start_after, lowest_answer, free_answer, give_answer, give_after};
+ghost use Rattle.register.specs.Told.{told_answer};
+ghost use Rattle.against.specs.Registered.{registered_answer, registered_rows, register_after};
 
 use read::AboAnswer;
 use register::AboRegister;
@@ -12,8 +12,8 @@ use register::AboRegister;
 // Starts a day in a lent register: it is for that creation date, and no number is marked. A refusal leaves the bytes as they were.
 #[unsafe(no_mangle)]
 pub extern "C" fn abo_register_start(date: u64, register: &mut [u8]) -> AboRegister
-    ensures result_value { toldAnswer result ≡ startAnswer date register.old }
-    ensures register_after { register.new ≡ startAfter date register.old }
+    ensures result_value { told_answer result ≡ start_answer date register.old }
+    ensures register_after { register.new ≡ start_after date register.old }
 {
     register::start(date, register)
 }
@@ -21,7 +21,7 @@ pub extern "C" fn abo_register_start(date: u64, register: &mut [u8]) -> AboRegis
 // Asks a register for its lowest free number, 1,000 if none is free.
 #[unsafe(no_mangle)]
 pub extern "C" fn abo_register_lowest(register: &[u8]) -> AboRegister
-    ensures { toldAnswer result ≡ lowestAnswer register.now }
+    ensures { told_answer result ≡ lowest_answer register.now }
 {
     register::lowest_number(register)
 }
@@ -29,7 +29,7 @@ pub extern "C" fn abo_register_lowest(register: &[u8]) -> AboRegister
 // Asks a register how many numbers are free.
 #[unsafe(no_mangle)]
 pub extern "C" fn abo_register_free(register: &[u8]) -> AboRegister
-    ensures { toldAnswer result ≡ freeAnswer register.now }
+    ensures { told_answer result ≡ free_answer register.now }
 {
     register::free_numbers(register)
 }
@@ -37,8 +37,8 @@ pub extern "C" fn abo_register_free(register: &[u8]) -> AboRegister
 // Gives a number back to a register: it is free again. A refusal leaves the bytes as they were.
 #[unsafe(no_mangle)]
 pub extern "C" fn abo_register_give_back(register: &mut [u8], number: u64) -> AboRegister
-    ensures result_value { toldAnswer result ≡ giveAnswer register.old number }
-    ensures register_after { register.new ≡ giveAfter register.old number }
+    ensures result_value { told_answer result ≡ give_answer register.old number }
+    ensures register_after { register.new ≡ give_after register.old number }
 {
     register::give_back(register, number)
 }
@@ -53,9 +53,9 @@ pub extern "C" fn abo_read_registered(
     rows: &mut [u8],
     register: &mut [u8],
 ) -> AboAnswer
-    ensures result_value { toldRead result ≡ registeredAnswer sheet today file.now rows.old register.old }
-    ensures rows_after { rows.new ≡ registeredRows sheet today file.now rows.old register.old }
-    ensures register_after { register.new ≡ registerAfter sheet today file.now rows.old register.old }
+    ensures result_value { told_read result ≡ registered_answer sheet today file.now rows.old register.old }
+    ensures rows_after { rows.new ≡ registered_rows sheet today file.now rows.old register.old }
+    ensures register_after { register.new ≡ register_after sheet today file.now rows.old register.old }
 {
     registered::read_registered(file, sheet, today, rows, register)
 }

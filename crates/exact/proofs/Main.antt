@@ -8,7 +8,7 @@ use Rattle.sheet.specs.declared.Sheet.{Sheet}
 use Rattle.paper.specs.Batch.{Batch, Header}
 use Rattle.paper.specs.Lines.{lines_of}
 use Rattle.paper.specs.Spells.{Spells}
-use Rattle.paper.specs.Judge.{Accepted, atFirst, judge}
+use Rattle.paper.specs.Judge.{Accepted, at_first, judge}
 use Rattle.exact.proofs.Accepts.{accepts-only, accepts-also}
 
 module _ (sh : Sheet) (today : ℕ) (f : List ℕ) where
@@ -16,8 +16,8 @@ module _ (sh : Sheet) (today : ℕ) (f : List ℕ) where
   pub exact : (h : Header) (b : Batch) (w : ℕ) → judge sh today f ≡ Accepted h b w ↔ Spells sh today f h b w
   unfolding judge
   exact h b w = (
-    λ e. let c = accepts-only sh today h b w (length f) 1 (lines_of 0 f) atFirst e in record { lines = c.0; rules = c.1 },
-    λ s. accepts-also sh today h b w (length f) 1 (lines_of 0 f) atFirst (s.lines, s.rules),
+    λ e. let c = accepts-only sh today h b w (length f) 1 (lines_of 0 f) at_first e in record { lines = c.0; rules = c.1 },
+    λ s. accepts-also sh today h b w (length f) 1 (lines_of 0 f) at_first (s.lines, s.rules),
   )
 
   -- and it spells no others.

@@ -11,20 +11,20 @@ use Rattle.base.specs.Pick.{pick}
 use Rattle.sheet.specs.declared.Sheet.{Sheet}
 use Rattle.sheet.specs.declared.Known.{Known}
 use Rattle.sheet.specs.declared.Known.TheVariants as known
-use Rattle.sheet.specs.Sheets.{sheetOf}
+use Rattle.sheet.specs.Sheets.{sheet_of}
 use Rattle.sheet.proofs.Laws.{sheet-sane}
-use Rattle.paper.specs.Days.{realDay}
-use Rattle.paper.specs.Writing.{drafted, writtenIn, outputAfter}
+use Rattle.paper.specs.Days.{real_day}
+use Rattle.paper.specs.Writing.{drafted, written_in, output_after}
 use Rattle.numeral.specs.counted.Counted.{Counted}
 use Rattle.numeral.proofs.counted.Laws.{counted-wrote}
 use Rattle.tracing.specs.declared.file.Outcome.{Outcome}
 use Rattle.tracing.specs.file.Comes.{Comes}
-use Rattle.verdict.specs.Sheets.{sheetLines}
+use Rattle.verdict.specs.Sheets.{sheet_lines}
 use Rattle.findings.specs.Findings.{in_words}
 use Rattle.findings.proofs.Exits.{put_front}
-use Rattle.explain.specs.Explanation.{textOn, explanationWith, explanation}
-use Rattle.explain.specs.Parts.{textIn}
-use Rattle.explain.specs.Told.{TextAnswer, textAnswer}
+use Rattle.explain.specs.Explanation.{text_on, explanation_with, explanation}
+use Rattle.explain.specs.Parts.{text_in}
+use Rattle.explain.specs.Told.{TextAnswer, text_answer}
 use Rattle.explain.proofs.Text.{text-is}
 use Rattle.explain.proofs.Lengths.{lines-short, text-low}
 
@@ -32,21 +32,21 @@ use Rattle.explain.proofs.Lengths.{lines-short, text-low}
 
 module _ (o s : List ℕ) (n : ℕ) (long : n ≡ length s) where
   -- 16, with the bytes needed, and the output as it was
-  pub short-answer : length o < n → record { number = 16; bytes = n } ≡ textAnswer (writtenIn (length o) (drafted s))
-  unfolding writtenIn pick
+  pub short-answer : length o < n → record { number = 16; bytes = n } ≡ text_answer (written_in (length o) (drafted s))
+  unfolding written_in pick
   short-answer h = rw (← long, lt-ltb (length o) n h)
 
-  pub short-output : length o < n → o ≡ outputAfter o (drafted s)
-  unfolding outputAfter pick
+  pub short-output : length o < n → o ≡ output_after o (drafted s)
+  unfolding output_after pick
   short-output h = rw (← long, lt-ltb (length o) n h)
 
   -- 0, with the bytes written, and the text in front
-  pub full-answer : n ≤ length o → record { number = 0; bytes = n } ≡ textAnswer (writtenIn (length o) (drafted s))
-  unfolding writtenIn pick
+  pub full-answer : n ≤ length o → record { number = 0; bytes = n } ≡ text_answer (written_in (length o) (drafted s))
+  unfolding written_in pick
   full-answer h = rw (← long, le-ltb (length o) n h)
 
-  pub full-output : n ≤ length o → length s < 2 ^ 64 → (o1 : List ℕ) (r : ℕ) → Counted o 0 s o1 r → o1 ≡ outputAfter o (drafted s)
-  unfolding outputAfter pick
+  pub full-output : n ≤ length o → length s < 2 ^ 64 → (o1 : List ℕ) (r : ℕ) → Counted o 0 s o1 r → o1 ≡ output_after o (drafted s)
+  unfolding output_after pick
   full-output h low o1 r w =
       (counted-wrote w (omega (arith, low)) (omega arith)).left ∙ put_front o s ∙ rw (← long, le-ltb (length o) n h)
 
@@ -54,78 +54,78 @@ pub ruleset outputs = (short-answer, short-output, full-answer, full-output, tex
 
 -- ---- the sheets' lines, put aside in 1,024 bytes: n is the place behind them
 
-module _ (today : ℕ) (f o o1 : List ℕ) (n : ℕ) (w : Counted o 0 (sheetLines today f) o1 n) (room : length o ≡ 1024) where
-  aside-long : n ≡ length (sheetLines today f)
+module _ (today : ℕ) (f o o1 : List ℕ) (n : ℕ) (w : Counted o 0 (sheet_lines today f) o1 n) (room : length o ≡ 1024) where
+  aside-long : n ≡ length (sheet_lines today f)
   aside-long = omega (arith, w.next (omega (arith, lines-short today f)))
 
   pub aside-few : n ≤ length o1
   aside-few = omega (arith, aside-long, lines-short today f, w.long)
 
-  pub aside-lines : take (n - 0) (drop 0 o1) ≡ sheetLines today f
+  pub aside-lines : take (n - 0) (drop 0 o1) ≡ sheet_lines today f
   aside-lines =
-      let kept = (counted-wrote w (omega (arith, lines-short today f)) (omega (arith, lines-short today f))).left ∙ put_front o (sheetLines today f) in
-      let e : n - 0 ≡ length (sheetLines today f) = omega (arith, aside-long) in
-      rw (e, kept) (take-append_seam (sheetLines today f) _)
+      let kept = (counted-wrote w (omega (arith, lines-short today f)) (omega (arith, lines-short today f))).left ∙ put_front o (sheet_lines today f) in
+      let e : n - 0 ≡ length (sheet_lines today f) = omega (arith, aside-long) in
+      rw (e, kept) (take-append_seam (sheet_lines today f) _)
 
   pub aside-short : length (take (n - 0) (drop 0 o1)) ≤ 1024
   aside-short = rw aside-lines (omega (arith, lines-short today f))
 
   -- the text with them is the file's
   module _ (sh : Sheet) (s : Outcome) (comes : Comes sh today f s) where
-    pub aside-answer : (l : List ℕ) (a : TextAnswer) → a ≡ textAnswer (writtenIn (length l) (drafted (textIn (in_words sh today) f s (take (n - 0) (drop 0 o1)))))
-        → a ≡ textAnswer (writtenIn (length l) (drafted (textOn sh today f)))
+    pub aside-answer : (l : List ℕ) (a : TextAnswer) → a ≡ text_answer (written_in (length l) (drafted (text_in (in_words sh today) f s (take (n - 0) (drop 0 o1)))))
+        → a ≡ text_answer (written_in (length l) (drafted (text_on sh today f)))
     aside-answer l a e = e ∙ rw (aside-lines, text-is sh today f s comes)
 
-    pub aside-output : (l l1 : List ℕ) → l1 ≡ outputAfter l (drafted (textIn (in_words sh today) f s (take (n - 0) (drop 0 o1)))) → l1 ≡ outputAfter l (drafted (textOn sh today f))
+    pub aside-output : (l l1 : List ℕ) → l1 ≡ output_after l (drafted (text_in (in_words sh today) f s (take (n - 0) (drop 0 o1)))) → l1 ≡ output_after l (drafted (text_on sh today f))
     aside-output l l1 e = e ∙ rw (aside-lines, text-is sh today f s comes)
 
 pub ruleset asides = (aside-few, aside-short, aside-answer, aside-output)
 
 -- ---- 2: t says whether today is a day
 
-module _ (sh : Sheet) (today : ℕ) (f l l1 : List ℕ) (a : TextAnswer) (t : Bool) (g : t ≡ realDay today) where
-  pub real-known : t ≡ true → realDay today ≡ true
+module _ (sh : Sheet) (today : ℕ) (f l l1 : List ℕ) (a : TextAnswer) (t : Bool) (g : t ≡ real_day today) where
+  pub real-known : t ≡ true → real_day today ≡ true
   real-known e = sym g ∙ e
 
-  pub that-day : t ≡ true → a ≡ textAnswer (writtenIn (length l) (drafted (textOn sh today f))) → a ≡ textAnswer (writtenIn (length l) (explanationWith (known.Sheet sh) today f))
-  unfolding explanationWith pick
+  pub that-day : t ≡ true → a ≡ text_answer (written_in (length l) (drafted (text_on sh today f))) → a ≡ text_answer (written_in (length l) (explanation_with (known.Sheet sh) today f))
+  unfolding explanation_with pick
   that-day e h = h ∙ rw (← g, e)
 
-  pub output-that-day : t ≡ true → l1 ≡ outputAfter l (drafted (textOn sh today f)) → l1 ≡ outputAfter l (explanationWith (known.Sheet sh) today f)
-  unfolding explanationWith pick
+  pub output-that-day : t ≡ true → l1 ≡ output_after l (drafted (text_on sh today f)) → l1 ≡ output_after l (explanation_with (known.Sheet sh) today f)
+  unfolding explanation_with pick
   output-that-day e h = h ∙ rw (← g, e)
 
-  pub no-day : t ≡ false → a ≡ record { number = 2; bytes = 0 } → a ≡ textAnswer (writtenIn (length l) (explanationWith (known.Sheet sh) today f))
-  unfolding explanationWith writtenIn pick
-  no-day e h = h ∙ rw (← g, e)
+  pub no_day : t ≡ false → a ≡ record { number = 2; bytes = 0 } → a ≡ text_answer (written_in (length l) (explanation_with (known.Sheet sh) today f))
+  unfolding explanation_with written_in pick
+  no_day e h = h ∙ rw (← g, e)
 
-  pub output-no-day : t ≡ false → l1 ≡ l → l1 ≡ outputAfter l (explanationWith (known.Sheet sh) today f)
-  unfolding explanationWith outputAfter pick
+  pub output-no-day : t ≡ false → l1 ≡ l → l1 ≡ output_after l (explanation_with (known.Sheet sh) today f)
+  unfolding explanation_with output_after pick
   output-no-day e h = h ∙ rw (← g, e)
 
-pub ruleset on-days = (real-known, that-day, output-that-day, no-day, output-no-day)
+pub ruleset on-days = (real-known, that-day, output-that-day, no_day, output-no-day)
 
 -- ---- 1: r is the sheet that the number names
 
-module _ (r : Known) (n : ℕ) (g : r ≡ sheetOf n) where
-  pub sheet-known : (sh : Sheet) → r ≡ known.Sheet sh → sheetOf n ≡ known.Sheet sh
+module _ (r : Known) (n : ℕ) (g : r ≡ sheet_of n) where
+  pub sheet-known : (sh : Sheet) → r ≡ known.Sheet sh → sheet_of n ≡ known.Sheet sh
   sheet-known sh e = sym g ∙ e
 
   module _ (today : ℕ) (f l l1 : List ℕ) (a : TextAnswer) where
-    pub on-sheet : (sh : Sheet) → r ≡ known.Sheet sh → a ≡ textAnswer (writtenIn (length l) (explanationWith (known.Sheet sh) today f)) → a ≡ textAnswer (writtenIn (length l) (explanation n today f))
+    pub on-sheet : (sh : Sheet) → r ≡ known.Sheet sh → a ≡ text_answer (written_in (length l) (explanation_with (known.Sheet sh) today f)) → a ≡ text_answer (written_in (length l) (explanation n today f))
     unfolding explanation
     on-sheet sh e h = h ∙ rw (← g, e)
 
-    pub output-on-sheet : (sh : Sheet) → r ≡ known.Sheet sh → l1 ≡ outputAfter l (explanationWith (known.Sheet sh) today f) → l1 ≡ outputAfter l (explanation n today f)
+    pub output-on-sheet : (sh : Sheet) → r ≡ known.Sheet sh → l1 ≡ output_after l (explanation_with (known.Sheet sh) today f) → l1 ≡ output_after l (explanation n today f)
     unfolding explanation
     output-on-sheet sh e h = h ∙ rw (← g, e)
 
-    pub no-sheet : r ≡ known.Nothing → a ≡ record { number = 1; bytes = 0 } → a ≡ textAnswer (writtenIn (length l) (explanation n today f))
-    unfolding explanation explanationWith writtenIn
-    no-sheet e h = h ∙ rw (← g, e)
+    pub no_sheet : r ≡ known.Nothing → a ≡ record { number = 1; bytes = 0 } → a ≡ text_answer (written_in (length l) (explanation n today f))
+    unfolding explanation explanation_with written_in
+    no_sheet e h = h ∙ rw (← g, e)
 
-    pub output-no-sheet : r ≡ known.Nothing → l1 ≡ l → l1 ≡ outputAfter l (explanation n today f)
-    unfolding explanation explanationWith outputAfter
+    pub output-no-sheet : r ≡ known.Nothing → l1 ≡ l → l1 ≡ output_after l (explanation n today f)
+    unfolding explanation explanation_with output_after
     output-no-sheet e h = h ∙ rw (← g, e)
 
-pub ruleset on-sheets = (sheet-sane, sheet-known, on-sheet, output-on-sheet, no-sheet, output-no-sheet)
+pub ruleset on-sheets = (sheet-sane, sheet-known, on-sheet, output-on-sheet, no_sheet, output-no-sheet)

@@ -17,36 +17,36 @@ use Rattle.listing.specs.Listed.{listed}
 use Rattle.tracing.specs.declared.file.Outcome.{Outcome}
 use Rattle.tracing.specs.declared.file.Outcome.TheVariants as outcome
 use Rattle.tracing.specs.file.Comes.{Comes}
-use Rattle.verdict.specs.Sheets.{sheetLines}
+use Rattle.verdict.specs.Sheets.{sheet_lines}
 use Rattle.verdict.proofs.sheets.Saying.{sheet-lines-short}
-use Rattle.findings.specs.Findings.{findingsOf, findings, in_words}
+use Rattle.findings.specs.Findings.{findings_of, findings, in_words}
 use Rattle.findings.proofs.Lengths.{words_long}
 use Rattle.findings.proofs.outcome.Comes.{outcome-count}
-use Rattle.findings.specs.outcome.Counts.{countIn}
-use Rattle.explain.specs.Explanation.{refusedHeading, countsWords, acceptedHeading, heading, textOn}
-use Rattle.explain.specs.Parts.{headingIn, textIn}
+use Rattle.findings.specs.outcome.Counts.{count_in}
+use Rattle.explain.specs.Explanation.{refused_heading, counts_words, accepted_heading, heading, text_on}
+use Rattle.explain.specs.Parts.{heading_in, text_in}
 
 -- five sheets, at most 97 bytes a line
-pub lines-short : (today : ℕ) (f : List ℕ) → length (sheetLines today f) ≤ 1000
+pub lines-short : (today : ℕ) (f : List ℕ) → length (sheet_lines today f) ≤ 1000
 lines-short today f = let n : length sheets ≡ 5 = refl in omega (arith, sheet-lines-short today f, n)
 
-refused-short : (letter : ℕ) → length (refusedHeading letter) ≤ 20
-unfolding refusedHeading
+refused-short : (letter : ℕ) → length (refused_heading letter) ≤ 20
+unfolding refused_heading
 refused-short letter = omega arith
 
-accepted-short : (letter rows warnings : ℕ) → length (acceptedHeading letter rows warnings) ≤ 80
-unfolding acceptedHeading countsWords
+accepted-short : (letter rows warnings : ℕ) → length (accepted_heading letter rows warnings) ≤ 80
+unfolding accepted_heading counts_words
 accepted-short letter rows warnings =
     omega
     (arith, decimal-twenty rows, decimal-twenty warnings, length-append (decimal rows) (bytes ", warnings " ++ (decimal warnings ++ bytes ".\n")), length-append (decimal warnings) (bytes ".\n"))
 
-heading-short : (letter : ℕ) (s : Outcome) → length (headingIn letter s) ≤ 80
+heading-short : (letter : ℕ) (s : Outcome) → length (heading_in letter s) ≤ 80
 heading-short letter (outcome.Found x) = omega (arith, refused-short letter)
 heading-short letter (outcome.Passed rows warnings) = accepted-short letter rows warnings
 
-count_low : (sh : Sheet) (today : ℕ) (f : List ℕ) (s : Outcome) → Comes sh today f s → countIn s ≤ 799992001
+count_low : (sh : Sheet) (today : ℕ) (f : List ℕ) (s : Outcome) → Comes sh today f s → count_in s ≤ 799992001
 count_low sh today f (outcome.Found x) c = omega arith
-count_low sh today f (outcome.Passed rows warnings) c = c.warnings-low
+count_low sh today f (outcome.Passed rows warnings) c = c.warnings_low
 
 telling-is : (u : Telling) → u.words ≡ true → u ≡ in_words u.sheet u.today
 telling-is u e = rw (← e)
@@ -59,24 +59,24 @@ module _ (t : Telling) (f : List ℕ) (s : Outcome) (comes : Comes t.sheet t.tod
       subst (λ (u : Telling). length (listed u f (findings t.sheet t.today f)) ≤ 1024 * 799992001) (sym is)
       (omega (arith, words_long t.sheet t.today f (findings t.sheet t.today f), low))
 
-  pub text-low : length (textIn t f s lines) < 2 ^ 64
+  pub text-low : length (text_in t f s lines) < 2 ^ 64
   text-low =
       omega (
         arith,
         heading-short t.sheet.letter s,
         listed-low,
         few,
-        length-append (headingIn t.sheet.letter s) (listed t f (findings t.sheet t.today f) ++ lines),
+        length-append (heading_in t.sheet.letter s) (listed t f (findings t.sheet t.today f) ++ lines),
         length-append (listed t f (findings t.sheet t.today f)) lines,
       )
 
   -- text_len
-  pub text-counted : {o o1 : List ℕ} {r : ℕ} → Counted o 0 (textIn t f s lines) o1 r → r ≡ length (textIn t f s lines)
+  pub text-counted : {o o1 : List ℕ} {r : ℕ} → Counted o 0 (text_in t f s lines) o1 r → r ≡ length (text_in t f s lines)
   text-counted w = omega (arith, w.next (omega (arith, text-low)))
 
 -- ABO_EXPLAIN_BYTES: the text of a refused file, whatever the file is
-pub refused-text : (sh : Sheet) (today : ℕ) (f : List ℕ) (n l p : ℕ) → judge sh today f ≡ Refused n l p → length (textOn sh today f) ≤ 2048
-unfolding textOn heading findings findingsOf
+pub refused-text : (sh : Sheet) (today : ℕ) (f : List ℕ) (n l p : ℕ) → judge sh today f ≡ Refused n l p → length (text_on sh today f) ≤ 2048
+unfolding text_on heading findings findings_of
 refused-text sh today f n l p e =
     let s = listed (in_words sh today) f (findings sh today f) in
     let one : length (findings sh today f) ≡ 1 = rw e in
@@ -87,6 +87,6 @@ refused-text sh today f n l p e =
       words_long sh today f (findings sh today f),
       one,
       lines-short today f,
-      length-append (heading sh.letter (judge sh today f)) (s ++ sheetLines today f),
-      length-append s (sheetLines today f),
+      length-append (heading sh.letter (judge sh today f)) (s ++ sheet_lines today f),
+      length-append s (sheet_lines today f),
     )

@@ -5,13 +5,13 @@ use Rattle.listing.specs.Listed.{listed}
 use Rattle.tracing.specs.declared.file.Outcome.{Outcome}
 use Rattle.tracing.specs.declared.file.Outcome.TheVariants as outcome
 use Rattle.findings.specs.Findings.{findings}
-use Rattle.explain.specs.Explanation.{refusedHeading, acceptedHeading}
+use Rattle.explain.specs.Explanation.{refused_heading, accepted_heading}
 
 -- the heading
-abbrev pub headingIn : ℕ → Outcome → List ℕ
-headingIn letter (outcome.Found x) = refusedHeading letter
-headingIn letter (outcome.Passed rows warnings) = acceptedHeading letter rows warnings
+abbrev pub heading_in : ℕ → Outcome → List ℕ
+heading_in letter (outcome.Found x) = refused_heading letter
+heading_in letter (outcome.Passed rows warnings) = accepted_heading letter rows warnings
 
 -- all of it
-abbrev pub textIn : Telling → List ℕ → Outcome → List ℕ → List ℕ
-textIn t f o lines = headingIn t.sheet.letter o ++ (listed t f (findings t.sheet t.today f) ++ lines)
+abbrev pub text_in : Telling → List ℕ → Outcome → List ℕ → List ℕ
+text_in t f o lines = heading_in t.sheet.letter o ++ (listed t f (findings t.sheet t.today f) ++ lines)

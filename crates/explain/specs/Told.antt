@@ -9,8 +9,8 @@ pub record TextAnswer : Type 0 where
   pub bytes : ℕ
 
 -- of an answer of writing; a line of text has no rows, so that row and field are not asked for
-abbrev pub textAnswer : WriteAnswer → TextAnswer
-textAnswer a = record { number = a.number; bytes = a.bytes }
+abbrev pub text_answer : WriteAnswer → TextAnswer
+text_answer a = record { number = a.number; bytes = a.bytes }
 
 -- of the answer that a caller is given
 abbrev pub told : AboText → TextAnswer

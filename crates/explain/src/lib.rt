@@ -1,15 +1,15 @@
 // What is found in a file, in sentences for the clerk: whether it is refused, why or what it warns of, and what each sheet says of it.
 ghost use Rattle.std.specs.Prelude.{◌≡◌, true, ◌≤◌, length};
 ghost use Rattle.sheet.specs.declared.Known.TheVariants as known;
-ghost use Rattle.sheet.specs.Sheets.{sheetOf};
+ghost use Rattle.sheet.specs.Sheets.{sheet_of};
 ghost use Rattle.sheet.proofs.Laws.{Sane};
-ghost use Rattle.paper.specs.Days.{realDay};
-ghost use Rattle.paper.specs.Writing.{drafted, writtenIn, outputAfter};
+ghost use Rattle.paper.specs.Days.{real_day};
+ghost use Rattle.paper.specs.Writing.{drafted, written_in, output_after};
 ghost use Rattle.numeral.specs.counted.Counted.{Counted};
 ghost use Rattle.tracing.specs.file.Comes.{Comes};
-ghost use Rattle.explain.specs.Explanation.{refusedHeading, countsWords, acceptedHeading, textOn, explanationWith, explanation};
-ghost use Rattle.explain.specs.Parts.{headingIn, textIn};
-ghost use Rattle.explain.specs.Told.{textAnswer, told};
+ghost use Rattle.explain.specs.Explanation.{refused_heading, counts_words, accepted_heading, text_on, explanation_with, explanation};
+ghost use Rattle.explain.specs.Parts.{heading_in, text_in};
+ghost use Rattle.explain.specs.Told.{text_answer, told};
 
 use listing::Telling;
 use sheet::{Known, Sheet};
@@ -27,7 +27,7 @@ pub struct AboText {
 
 // `Refused on sheet K.`
 fn put_refused(out: &mut [u8], at: usize, letter: u8) -> usize
-    ensures { Counted out.old at (refusedHeading letter) out.new result }
+    ensures { Counted out.old at (refused_heading letter) out.new result }
 {
     let d = numeral::counted::put_bytes(out, at, b"Refused on sheet ");
     let e = numeral::counted::put_byte(out, d, letter);
@@ -36,7 +36,7 @@ fn put_refused(out: &mut [u8], at: usize, letter: u8) -> usize
 
 // `, rows R, warnings W.`
 fn put_counts(out: &mut [u8], at: usize, rows: u64, warnings: u64) -> usize
-    ensures { Counted out.old at (countsWords rows warnings) out.new result }
+    ensures { Counted out.old at (counts_words rows warnings) out.new result }
 {
     let e = verdict::put_said(out, at, b", rows ", rows);
     let f = verdict::put_said(out, e, b", warnings ", warnings);
@@ -45,7 +45,7 @@ fn put_counts(out: &mut [u8], at: usize, rows: u64, warnings: u64) -> usize
 
 // `Accepted on sheet K, rows R, warnings W.`
 fn put_accepted(out: &mut [u8], at: usize, letter: u8, rows: u64, warnings: u64) -> usize
-    ensures { Counted out.old at (acceptedHeading letter rows warnings) out.new result }
+    ensures { Counted out.old at (accepted_heading letter rows warnings) out.new result }
 {
     let c = numeral::counted::put_bytes(out, at, b"Accepted on sheet ");
     let d = numeral::counted::put_byte(out, c, letter);
@@ -54,7 +54,7 @@ fn put_accepted(out: &mut [u8], at: usize, letter: u8, rows: u64, warnings: u64)
 
 // The one or the other.
 fn put_heading(out: &mut [u8], at: usize, letter: u8, o: Outcome) -> usize
-    ensures { Counted out.old at (headingIn letter o) out.new result }
+    ensures { Counted out.old at (heading_in letter o) out.new result }
 {
     match o {
         Outcome::Found(_) => put_refused(out, at, letter),
@@ -64,9 +64,9 @@ fn put_heading(out: &mut [u8], at: usize, letter: u8, o: Outcome) -> usize
 
 // All of it, with the sheets' lines at its end.
 fn put_text(out: &mut [u8], at: usize, t: Telling, file: &[u8], o: Outcome, lines: &[u8]) -> usize
-    requires sane { Sane t.sheet × (realDay t.today ≡ true) }
+    requires sane { Sane t.sheet × (real_day t.today ≡ true) }
     requires comes { Comes t.sheet t.today file.now o }
-    ensures { Counted out.old at (textIn t file.now o lines.now) out.new result }
+    ensures { Counted out.old at (text_in t file.now o lines.now) out.new result }
 {
     let d = put_heading(out, at, t.sheet.letter, o);
     let e = findings::outcome::put_findings(out, d, t, file, o);
@@ -75,11 +75,11 @@ fn put_text(out: &mut [u8], at: usize, t: Telling, file: &[u8], o: Outcome, line
 
 // How many bytes it has: it is put where nothing is lent.
 fn text_len(t: Telling, file: &[u8], o: Outcome, lines: &[u8]) -> usize
-    requires sane { Sane t.sheet × (realDay t.today ≡ true) }
+    requires sane { Sane t.sheet × (real_day t.today ≡ true) }
     requires comes { Comes t.sheet t.today file.now o }
     requires words_value { t.words ≡ true }
     requires lines_len_bound { length lines.now ≤ 1024 }
-    ensures { result ≡ length (textIn t file.now o lines.now) }
+    ensures { result ≡ length (text_in t file.now o lines.now) }
 {
     let mut nothing = [0; 0];
     put_text(&mut nothing, 0, t, file, o, lines)
@@ -89,12 +89,12 @@ fn text_len(t: Telling, file: &[u8], o: Outcome, lines: &[u8]) -> usize
 
 // The text, or that it has no room.
 fn put_whole(t: Telling, file: &[u8], o: Outcome, lines: &[u8], out: &mut [u8]) -> AboText
-    requires sane { Sane t.sheet × (realDay t.today ≡ true) }
+    requires sane { Sane t.sheet × (real_day t.today ≡ true) }
     requires comes { Comes t.sheet t.today file.now o }
     requires words_value { t.words ≡ true }
     requires lines_len_bound { length lines.now ≤ 1024 }
-    ensures result_value { told result ≡ textAnswer (writtenIn (length out.old) (drafted (textIn t file.now o lines.now))) }
-    ensures out_after { out.new ≡ outputAfter out.old (drafted (textIn t file.now o lines.now)) }
+    ensures result_value { told result ≡ text_answer (written_in (length out.old) (drafted (text_in t file.now o lines.now))) }
+    ensures out_after { out.new ≡ output_after out.old (drafted (text_in t file.now o lines.now)) }
 {
     let n = text_len(t, file, o, lines);
     if out.len() < n {
@@ -112,10 +112,10 @@ fn put_whole(t: Telling, file: &[u8], o: Outcome, lines: &[u8], out: &mut [u8]) 
 
 // On the sheet sh, which the number names, on a real day. The sheets' lines are put aside first, so that no sheet judges the file twice.
 fn explain_that_day(file: &[u8], sheet: u64, sh: Sheet, today: u64, out: &mut [u8]) -> AboText
-    requires sane { Sane sh × (realDay today ≡ true) }
-    requires sheet_value { sheetOf sheet ≡ known.Sheet sh }
-    ensures result_value { told result ≡ textAnswer (writtenIn (length out.old) (drafted (textOn sh today file.now))) }
-    ensures out_after { out.new ≡ outputAfter out.old (drafted (textOn sh today file.now)) }
+    requires sane { Sane sh × (real_day today ≡ true) }
+    requires sheet_value { sheet_of sheet ≡ known.Sheet sh }
+    ensures result_value { told result ≡ text_answer (written_in (length out.old) (drafted (text_on sh today file.now))) }
+    ensures out_after { out.new ≡ output_after out.old (drafted (text_on sh today file.now)) }
 {
     let o = tracing::file::follow(file, sh, today);
     let v = verdict::verdict_of(o);
@@ -132,9 +132,9 @@ fn explain_that_day(file: &[u8], sheet: u64, sh: Sheet, today: u64, out: &mut [u
 // On the sheet sh: 2, or the text.
 fn explain_on(file: &[u8], sheet: u64, sh: Sheet, today: u64, out: &mut [u8]) -> AboText
     requires sane { Sane sh }
-    requires sheet_value { sheetOf sheet ≡ known.Sheet sh }
-    ensures result_value { told result ≡ textAnswer (writtenIn (length out.old) (explanationWith (known.Sheet sh) today file.now)) }
-    ensures out_after { out.new ≡ outputAfter out.old (explanationWith (known.Sheet sh) today file.now) }
+    requires sheet_value { sheet_of sheet ≡ known.Sheet sh }
+    ensures result_value { told result ≡ text_answer (written_in (length out.old) (explanation_with (known.Sheet sh) today file.now)) }
+    ensures out_after { out.new ≡ output_after out.old (explanation_with (known.Sheet sh) today file.now) }
 {
     if calendar::real_day(today) {
         return explain_that_day(file, sheet, sh, today, out);
@@ -151,8 +151,8 @@ fn no_text(number: u64) -> AboText
 
 // Explains a file on the sheet of that number, in the front of the output; where the text has no room, the output is left as it was.
 pub fn explain_file(file: &[u8], sheet: u64, today: u64, out: &mut [u8]) -> AboText
-    ensures result_value { told result ≡ textAnswer (writtenIn (length out.old) (explanation sheet today file.now)) }
-    ensures out_after { out.new ≡ outputAfter out.old (explanation sheet today file.now) }
+    ensures result_value { told result ≡ text_answer (written_in (length out.old) (explanation sheet today file.now)) }
+    ensures out_after { out.new ≡ output_after out.old (explanation sheet today file.now) }
 {
     match sheet::sheet_of(sheet) {
         Known::Sheet(sh) => explain_on(file, sheet, sh, today, out),

@@ -2,9 +2,9 @@
 ghost use Rattle.std.specs.Prelude.{◌≡◌, Bool, false, List, [], ◌∷◌, ℕ};
 ghost use Rattle.base.specs.Pick.{pick};
 ghost use Rattle.paper.specs.Bytes.{null};
-ghost use Rattle.why.specs.Rule.{rule, firstBroken};
-ghost use Rattle.why.specs.Forms.{areDigits, spelled, hasDash, isJoined, prefixBytes, baseBytes, isAccount};
-ghost use Rattle.why.specs.Fields.{prefixOk, baseOk, baseTwo, accountRules, payerRules};
+ghost use Rattle.why.specs.Rule.{rule, first_broken};
+ghost use Rattle.why.specs.Forms.{are_digits, spelled, has_dash, is_joined, prefix_bytes, base_bytes, is_account};
+ghost use Rattle.why.specs.Fields.{prefix_ok, base_ok, base_two, account_rules, payer_rules};
 ghost use Rattle.fault.specs.field.Ruled.{ruling};
 
 use crate::field::Ruling;
@@ -12,7 +12,7 @@ use numeral::Num;
 
 // The rule of an account's digits, of a prefix p and a base b: nothing is left of either by 11, and of the base two digits or more are not zero.
 fn check_rule(p: u64, b: u64) -> Ruling
-    ensures { (joined : Bool) (s : List ℕ) → spelled (prefixBytes joined s) ≡ p → spelled (baseBytes joined s) ≡ b → result ≡ ruling (firstBroken (rule 5 50 (prefixOk joined) ∷ rule 5 51 (baseOk joined) ∷ rule 5 52 (baseTwo joined) ∷ []) s) }
+    ensures { (joined : Bool) (s : List ℕ) → spelled (prefix_bytes joined s) ≡ p → spelled (base_bytes joined s) ≡ b → result ≡ ruling (first_broken (rule 5 50 (prefix_ok joined) ∷ rule 5 51 (base_ok joined) ∷ rule 5 52 (base_two joined) ∷ []) s) }
 {
     if account::doubled_sum(p) % 11 != 0 {
         return crate::field::broke(5, 50);
@@ -29,7 +29,7 @@ fn check_rule(p: u64, b: u64) -> Ruling
 
 // A prefix of 1 to 6 digits and a base of `few` to 10.
 fn check_two(p: &[u8], b: &[u8], few: usize) -> Ruling
-    ensures { (joined : Bool) (least : ℕ) (s : List ℕ) → prefixBytes joined s ≡ p.now → baseBytes joined s ≡ b.now → isAccount joined least s ≡ pick (areDigits 1 6 p.now) (areDigits few 10 b.now) false → result ≡ ruling (firstBroken (accountRules joined least) s) }
+    ensures { (joined : Bool) (least : ℕ) (s : List ℕ) → prefix_bytes joined s ≡ p.now → base_bytes joined s ≡ b.now → is_account joined least s ≡ pick (are_digits 1 6 p.now) (are_digits few 10 b.now) false → result ≡ ruling (first_broken (account_rules joined least) s) }
 {
     match numeral::read_digits(p, 1, 6) {
         Num::Value(prefix) => match numeral::read_digits(b, few, 10) {
@@ -42,9 +42,9 @@ fn check_two(p: &[u8], b: &[u8], few: usize) -> Ruling
 
 // A base alone.
 fn check_one(f: &[u8], joined: bool, least: usize) -> Ruling
-    requires f_value { hasDash f.now ≡ false }
-    requires f_value_2 { isJoined joined f.now ≡ false }
-    ensures { result ≡ ruling (firstBroken (accountRules joined least) f.now) }
+    requires f_value { has_dash f.now ≡ false }
+    requires f_value_2 { is_joined joined f.now ≡ false }
+    ensures { result ≡ ruling (first_broken (account_rules joined least) f.now) }
 {
     match numeral::read_digits(f, least, 10) {
         Num::Value(base) => check_rule(0, base),
@@ -54,7 +54,7 @@ fn check_one(f: &[u8], joined: bool, least: usize) -> Ruling
 
 // An account: with a dash, joined where the sheet takes that, or a base alone.
 pub fn check_account(f: &[u8], joined: bool, least: usize) -> Ruling
-    ensures { result ≡ ruling (firstBroken (accountRules joined least) f.now) }
+    ensures { result ≡ ruling (first_broken (account_rules joined least) f.now) }
 {
     let n = f.len();
     let d = scan::find::find_byte(f, 0, 45);
@@ -75,7 +75,7 @@ pub fn check_account(f: &[u8], joined: bool, least: usize) -> Ruling
 // A group's payer whose field is not empty, or may not be: zeros where they make the group single, else an account.
 fn check_stated(f: &[u8], empty: bool, allzero: bool, joined: bool, least: usize) -> Ruling
     requires { pick empty (null f.now) false ≡ false }
-    ensures { result ≡ ruling (firstBroken (payerRules empty allzero joined least) f.now) }
+    ensures { result ≡ ruling (first_broken (payer_rules empty allzero joined least) f.now) }
 {
     if account::only_zeros(f, allzero) {
         return Ruling::Kept;
@@ -85,7 +85,7 @@ fn check_stated(f: &[u8], empty: bool, allzero: bool, joined: bool, least: usize
 
 // A group's payer: none where the field is empty (`empty`) or has only zeros (`allzero`), else an account.
 pub fn check_payer(f: &[u8], empty: bool, allzero: bool, joined: bool, least: usize) -> Ruling
-    ensures { result ≡ ruling (firstBroken (payerRules empty allzero joined least) f.now) }
+    ensures { result ≡ ruling (first_broken (payer_rules empty allzero joined least) f.now) }
 {
     if empty {
         if f.len() == 0 {

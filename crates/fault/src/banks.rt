@@ -1,9 +1,9 @@
 // The rules of the bank field, tested in their order over the field's bytes.
 ghost use Rattle.std.specs.Prelude.{◌≡◌, true, List, [], ◌∷◌, ℕ, ◌/◌, eqb};
 ghost use Rattle.base.specs.Pick.{pick};
-ghost use Rattle.paper.specs.Days.{realDay};
-ghost use Rattle.why.specs.Rule.{within, firstBroken};
-ghost use Rattle.why.specs.Fields.{bankOf, bankRules, ownTerm, otherTerm, lastTerm};
+ghost use Rattle.paper.specs.Days.{real_day};
+ghost use Rattle.why.specs.Rule.{within, first_broken};
+ghost use Rattle.why.specs.Fields.{bank_of, bank_rules, own_term, other_term, last_term};
 ghost use Rattle.fault.specs.field.Ruled.{ruling};
 
 use crate::field::Ruling;
@@ -23,8 +23,8 @@ fn outside(cause: u64, today: u64, most: u64) -> Ruling
 
 // The end of a collection's term: one month ahead.
 fn check_last(today: u64, date: u64) -> Ruling
-    requires { realDay today ≡ true }
-    ensures { (s : List ℕ) → result ≡ ruling (firstBroken (within 11 114 today 1 (lastTerm true today date) ∷ []) s) }
+    requires { real_day today ≡ true }
+    ensures { (s : List ℕ) → result ≡ ruling (first_broken (within 11 114 today 1 (last_term true today date) ∷ []) s) }
 {
     if calendar::month_ahead(today) < date {
         return outside(114, today, 1);
@@ -34,8 +34,8 @@ fn check_last(today: u64, date: u64) -> Ruling
 
 // Which bank an item may be due from, where the group is a collection that is judged here.
 fn check_term(bank: u64, here: bool, own: u64, today: u64, date: u64) -> Ruling
-    requires { realDay today ≡ true }
-    ensures { (s : List ℕ) → bankOf s ≡ bank → result ≡ ruling (firstBroken (within 11 113 today 0 (ownTerm here own today date) ∷ within 11 113 today 1 (otherTerm here own today date) ∷ within 11 114 today 1 (lastTerm here today date) ∷ []) s) }
+    requires { real_day today ≡ true }
+    ensures { (s : List ℕ) → bank_of s ≡ bank → result ≡ ruling (first_broken (within 11 113 today 0 (own_term here own today date) ∷ within 11 113 today 1 (other_term here own today date) ∷ within 11 114 today 1 (last_term here today date) ∷ []) s) }
 {
     if here {
         if bank == own {
@@ -64,8 +64,8 @@ fn ninth_zero(ranked: bool, n: u64) -> bool
 
 // The bank field: eight to ten digits, a bank that is not 0000, the tenth digit 0, the ninth too but on K, and the bank's term.
 pub fn check_bank(f: &[u8], ranked: bool, here: bool, own: u64, today: u64, date: u64) -> Ruling
-    requires { realDay today ≡ true }
-    ensures { result ≡ ruling (firstBroken (bankRules ranked here own today date) f.now) }
+    requires { real_day today ≡ true }
+    ensures { result ≡ ruling (first_broken (bank_rules ranked here own today date) f.now) }
 {
     match numeral::read_digits(f, 8, 10) {
         Num::Value(n) => {

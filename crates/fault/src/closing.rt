@@ -1,7 +1,7 @@
 // The lines that close a group and an account file, walked: a plus at its place, and nothing behind it.
 ghost use Rattle.std.specs.Prelude.{◌≡◌, ◌≤◌, length, drop};
-ghost use Rattle.why.specs.Names.{Name, fieldNumber};
-ghost use Rattle.why.specs.Walk.{closingPlus, whyClose};
+ghost use Rattle.why.specs.Names.{Name, field_number};
+ghost use Rattle.why.specs.Walk.{closing_plus, why_close};
 ghost use Rattle.fault.specs.line.Walks.{walk};
 
 use crate::line::Walk;
@@ -9,7 +9,7 @@ use crate::line::Walk;
 // A plus at `at`, and nothing more.
 fn walk_plus(s: &[u8], at: usize, field: u64) -> Walk
     requires { at ≤ length s.now }
-    ensures { (name : Name) → fieldNumber name ≡ field → result ≡ walk (closingPlus name at (drop at s.now)) }
+    ensures { (name : Name) → field_number name ≡ field → result ≡ walk (closing_plus name at (drop at s.now)) }
 {
     let n = s.len();
     if n <= at {
@@ -28,7 +28,7 @@ fn walk_plus(s: &[u8], at: usize, field: u64) -> Walk
 // A line that was known as a closing one by its first byte: behind it a space and a plus, or, where `near`, a plus at once.
 pub fn walk_close(s: &[u8], near: bool, field: u64) -> Walk
     requires { 1 ≤ length s.now }
-    ensures { (name : Name) → fieldNumber name ≡ field → result ≡ walk (whyClose near name s.now) }
+    ensures { (name : Name) → field_number name ≡ field → result ≡ walk (why_close near name s.now) }
 {
     let n = s.len();
     if n < 2 {

@@ -2,11 +2,11 @@
 ghost use Rattle.std.specs.Prelude.{◌≡◌, Bool, true, false, List, [], ◌∷◌, ℕ};
 ghost use Rattle.base.specs.Pick.{pick};
 ghost use Rattle.paper.specs.Read.{value, fault};
-ghost use Rattle.paper.specs.Days.{realDay};
+ghost use Rattle.paper.specs.Days.{real_day};
 ghost use Rattle.numeral.specs.Told.{told};
-ghost use Rattle.why.specs.Rule.{within, firstBroken};
-ghost use Rattle.why.specs.Forms.{isLong, isDay, daySpelled};
-ghost use Rattle.why.specs.Fields.{dueRules, notEarly, notLate, firstDay, lastDay};
+ghost use Rattle.why.specs.Rule.{within, first_broken};
+ghost use Rattle.why.specs.Forms.{is_long, is_day, day_spelled};
+ghost use Rattle.why.specs.Fields.{due_rules, not_early, not_late, first_day, last_day};
 ghost use Rattle.fault.specs.field.Ruled.{ruling};
 
 use crate::field::Ruling;
@@ -14,7 +14,7 @@ use numeral::Num;
 
 // The day that is spelled, real or not; 4 where it has not its form.
 fn spelled_day(f: &[u8], long: bool) -> Num
-    ensures { told result ≡ pick (isDay long f.now) (value (daySpelled long f.now)) (fault 4) }
+    ensures { told result ≡ pick (is_day long f.now) (value (day_spelled long f.now)) (fault 4) }
 {
     if long {
         if f.len() == 8 {
@@ -27,8 +27,8 @@ fn spelled_day(f: &[u8], long: bool) -> Num
 
 // .. in its short form, DDMMRR
 fn short_day(f: &[u8], long: bool) -> Num
-    requires { isLong long f.now ≡ false }
-    ensures { told result ≡ pick (isDay long f.now) (value (daySpelled long f.now)) (fault 4) }
+    requires { is_long long f.now ≡ false }
+    ensures { told result ≡ pick (is_day long f.now) (value (day_spelled long f.now)) (fault 4) }
 {
     match numeral::read_digits(f, 6, 6) {
         Num::Value(n) => Num::Value((2000 + n % 100) * 10000 + n / 100 % 100 * 100 + n / 10000),
@@ -38,7 +38,7 @@ fn short_day(f: &[u8], long: bool) -> Num
 
 // From which day on: today, or any where past days are taken.
 fn first_day(early: bool, today: u64) -> u64
-    ensures { result ≡ firstDay early today }
+    ensures { result ≡ first_day early today }
 {
     if early {
         return 0;
@@ -48,7 +48,7 @@ fn first_day(early: bool, today: u64) -> u64
 
 // How many days ahead at most, or any.
 fn last_day(ahead: u64) -> u64
-    ensures { result ≡ lastDay ahead }
+    ensures { result ≡ last_day ahead }
 {
     if ahead < 36525 {
         return ahead;
@@ -58,9 +58,9 @@ fn last_day(ahead: u64) -> u64
 
 // A real day, where it is judged: not past unless the sheet takes that, and not too far ahead.
 fn check_term(d: u64, here: bool, early: bool, ahead: u64, today: u64) -> Ruling
-    requires today_value { realDay today ≡ true }
-    requires d_value { realDay d ≡ true }
-    ensures { (long : Bool) (s : List ℕ) → daySpelled long s ≡ d → result ≡ ruling (firstBroken (within 11 111 (firstDay early today) (lastDay ahead) (notEarly long here early today) ∷ within 11 112 (firstDay early today) (lastDay ahead) (notLate long here ahead today) ∷ []) s) }
+    requires today_value { real_day today ≡ true }
+    requires d_value { real_day d ≡ true }
+    ensures { (long : Bool) (s : List ℕ) → day_spelled long s ≡ d → result ≡ ruling (first_broken (within 11 111 (first_day early today) (last_day ahead) (not_early long here early today) ∷ within 11 112 (first_day early today) (last_day ahead) (not_late long here ahead today) ∷ []) s) }
 {
     if here {
         let n = calendar::day_number(d);
@@ -91,8 +91,8 @@ fn check_term(d: u64, here: bool, early: bool, ahead: u64, today: u64) -> Ruling
 
 // DATE: a day that is spelled, real, and among the sheet's days.
 pub fn check_due(f: &[u8], long: bool, here: bool, early: bool, ahead: u64, today: u64) -> Ruling
-    requires { realDay today ≡ true }
-    ensures { result ≡ ruling (firstBroken (dueRules long here early ahead today) f.now) }
+    requires { real_day today ≡ true }
+    ensures { result ≡ ruling (first_broken (due_rules long here early ahead today) f.now) }
 {
     match spelled_day(f, long) {
         Num::Value(d) => {

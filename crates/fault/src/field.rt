@@ -1,13 +1,13 @@
 // The rules of a field tested in their order, over the field's bytes.
 ghost use Rattle.std.specs.Prelude.{◌≡◌, true, List, [], ◌∷◌, ℕ, ◌≤◌, ◌<◌};
-ghost use Rattle.why.specs.Rule.{within, firstBroken};
+ghost use Rattle.why.specs.Rule.{within, first_broken};
 ghost use Rattle.paper.specs.Batch.{Header};
-ghost use Rattle.paper.specs.FirstLine.{restLength};
+ghost use Rattle.paper.specs.FirstLine.{rest_length};
 ghost use Rattle.paper.specs.FileLine.{series};
 ghost use Rattle.paper.specs.Spells.{after};
 ghost use Rattle.fileline.specs.seen.Bits.{Holds};
 ghost use Rattle.why.specs.Forms.{spelled};
-ghost use Rattle.why.specs.Fields.{digitRules, dayRules, name_rules, endRules, restRules, kindRules, numberRules, isInside, isUnused, codeRules, symbolRules, totalRules, amountRules};
+ghost use Rattle.why.specs.Fields.{digit_rules, day_rules, name_rules, end_rules, rest_rules, kind_rules, number_rules, is_inside, is_unused, code_rules, symbol_rules, total_rules, amount_rules};
 ghost use Rattle.fault.specs.field.Ruled.{ruling};
 
 use fileline::seen::Seen;
@@ -41,7 +41,7 @@ pub fn broke(number: u64, cause: u64) -> Ruling
 // `least` to `most` digits.
 pub fn check_digits(f: &[u8], least: usize, most: usize) -> Ruling
     requires { most ≤ 19 }
-    ensures { result ≡ ruling (firstBroken (digitRules least most) f.now) }
+    ensures { result ≡ ruling (first_broken (digit_rules least most) f.now) }
 {
     match numeral::read_digits(f, least, most) {
         Num::Value(_) => Ruling::Kept,
@@ -51,7 +51,7 @@ pub fn check_digits(f: &[u8], least: usize, most: usize) -> Ruling
 
 // KIND: four digits, one of the sheet's kinds.
 pub fn check_kind(f: &[u8], sh: Sheet) -> Ruling
-    ensures { result ≡ ruling (firstBroken (kindRules sh) f.now) }
+    ensures { result ≡ ruling (first_broken (kind_rules sh) f.now) }
 {
     match numeral::read_digits(f, 4, 4) {
         Num::Value(kind) => {
@@ -72,7 +72,7 @@ pub fn check_kind(f: &[u8], sh: Sheet) -> Ruling
 // The first three digits of an account file's number, where they are judged.
 fn check_series(first: u64, from: u64, to: u64, seen: Seen) -> Ruling
     requires { first < 1000 }
-    ensures { (l s : List ℕ) → Holds seen.words l → series (spelled s) ≡ first → result ≡ ruling (firstBroken (within 9 91 from to (isInside true from to) ∷ within 9 92 from to (isUnused true l) ∷ []) s) }
+    ensures { (l s : List ℕ) → Holds seen.words l → series (spelled s) ≡ first → result ≡ ruling (first_broken (within 9 91 from to (is_inside true from to) ∷ within 9 92 from to (is_unused true l) ∷ []) s) }
 {
     if first < from {
         return Ruling::Broke {
@@ -103,7 +103,7 @@ fn check_series(first: u64, from: u64, to: u64, seen: Seen) -> Ruling
 
 // NUMBER: six digits, of which on K (`interval`) the first three lie from `from` to `to` and are not in the set of earlier ones.
 pub fn check_number(f: &[u8], interval: bool, from: u64, to: u64, seen: Seen) -> Ruling
-    ensures { (h : Header) (l : List ℕ) → Holds seen.words l → h.from ≡ from → h.to ≡ to → result ≡ ruling (firstBroken (numberRules interval (after h l)) f.now) }
+    ensures { (h : Header) (l : List ℕ) → Holds seen.words l → h.from ≡ from → h.to ≡ to → result ≡ ruling (first_broken (number_rules interval (after h l)) f.now) }
 {
     match numeral::read_digits(f, 6, 6) {
         Num::Value(number) => {
@@ -118,7 +118,7 @@ pub fn check_number(f: &[u8], interval: bool, from: u64, to: u64, seen: Seen) ->
 
 // BANK: four digits, the sheet's bank.
 pub fn check_code(f: &[u8], sh: Sheet) -> Ruling
-    ensures { result ≡ ruling (firstBroken (codeRules sh) f.now) }
+    ensures { result ≡ ruling (first_broken (code_rules sh) f.now) }
 {
     match numeral::read_digits(f, 4, 4) {
         Num::Value(code) => {
@@ -138,7 +138,7 @@ pub fn check_code(f: &[u8], sh: Sheet) -> Ruling
 
 // The interval's end: three digits, on K (`ordered`) not below its start.
 pub fn check_end(f: &[u8], ordered: bool, start: u64) -> Ruling
-    ensures { result ≡ ruling (firstBroken (endRules ordered start) f.now) }
+    ensures { result ≡ ruling (first_broken (end_rules ordered start) f.now) }
 {
     match numeral::read_digits(f, 3, 3) {
         Num::Value(end) => {
@@ -172,7 +172,7 @@ pub fn not_real() -> Ruling
 
 // The creation date: six digits, a real day.
 pub fn check_day(f: &[u8]) -> Ruling
-    ensures { result ≡ ruling (firstBroken dayRules f.now) }
+    ensures { result ≡ ruling (first_broken day_rules f.now) }
 {
     match numeral::read_digits(f, 6, 6) {
         Num::Value(n) => {
@@ -188,7 +188,7 @@ pub fn check_day(f: &[u8]) -> Ruling
 
 // n bytes of text.
 pub fn check_name(f: &[u8], n: usize) -> Ruling
-    ensures { result ≡ ruling (firstBroken (name_rules n) f.now) }
+    ensures { result ≡ ruling (first_broken (name_rules n) f.now) }
 {
     if f.len() != n {
         return broke(4, 40);
@@ -201,7 +201,7 @@ pub fn check_name(f: &[u8], n: usize) -> Ruling
 
 // Whether the first line's rest may have n bytes: twelve, on K (`short`) also six or none.
 fn rest_length(short: bool, n: usize) -> bool
-    ensures { result ≡ restLength short n }
+    ensures { result ≡ rest_length short n }
 {
     if n == 12 {
         return true;
@@ -217,7 +217,7 @@ fn rest_length(short: bool, n: usize) -> bool
 
 // The first line's rest, of text bytes.
 pub fn check_rest(f: &[u8], short: bool) -> Ruling
-    ensures { result ≡ ruling (firstBroken (restRules short) f.now) }
+    ensures { result ≡ ruling (first_broken (rest_rules short) f.now) }
 {
     if rest_length(short, f.len()) {
         if scan::seek::all_text(f, 0) {
@@ -230,7 +230,7 @@ pub fn check_rest(f: &[u8], short: bool) -> Ruling
 
 // A symbol: 1 to 10 digits, on S (`none`) also nothing.
 pub fn check_symbol(f: &[u8], none: bool) -> Ruling
-    ensures { result ≡ ruling (firstBroken (symbolRules none) f.now) }
+    ensures { result ≡ ruling (first_broken (symbol_rules none) f.now) }
 {
     if none {
         if f.len() == 0 {
@@ -243,7 +243,7 @@ pub fn check_symbol(f: &[u8], none: bool) -> Ruling
 
 // TOTAL: an amount of up to 14 digits.
 pub fn check_total(f: &[u8], may: bool) -> Ruling
-    ensures { result ≡ ruling (firstBroken (totalRules may) f.now) }
+    ensures { result ≡ ruling (first_broken (total_rules may) f.now) }
 {
     match amount::at::read_amount(f, may, 14) {
         Num::Value(_) => Ruling::Kept,
@@ -254,7 +254,7 @@ pub fn check_total(f: &[u8], may: bool) -> Ruling
 // An item's amount: not zero, and not over its limit.
 pub fn check_amount(f: &[u8], may: bool, most: usize, max: u64) -> Ruling
     requires { most ≤ 19 }
-    ensures { result ≡ ruling (firstBroken (amountRules may most max) f.now) }
+    ensures { result ≡ ruling (first_broken (amount_rules may most max) f.now) }
 {
     match amount::at::read_amount(f, may, most) {
         Num::Value(v) => {

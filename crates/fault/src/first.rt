@@ -2,9 +2,9 @@
 ghost use Rattle.std.specs.Prelude.{◌≡◌, ℕ, ◌≤◌, length, take, drop};
 ghost use Rattle.paper.specs.Spells.{Context};
 ghost use Rattle.why.specs.Forms.{spelled};
-ghost use Rattle.why.specs.Walk.{whyFirst};
+ghost use Rattle.why.specs.Walk.{why_first};
 ghost use Rattle.fault.specs.line.Walks.{walk};
-ghost use Rattle.fault.specs.line.Stages.{fromDate, fromName, fromClient, fromStart, fromEnd, fromRest};
+ghost use Rattle.fault.specs.line.Stages.{from_date, from_name, from_client, from_start, from_end, from_rest};
 
 use crate::field::Ruling;
 use crate::line::{Walk, stopped};
@@ -14,7 +14,7 @@ use sheet::Sheet;
 // The rest of the line.
 fn walk_rest(s: &[u8], sh: Sheet) -> Walk
     requires { 46 ≤ length s.now }
-    ensures { (today : ℕ) (c : Context) → result ≡ walk (fromRest sh today c s.now 46 (drop 46 s.now)) }
+    ensures { (today : ℕ) (c : Context) → result ≡ walk (from_rest sh today c s.now 46 (drop 46 s.now)) }
 {
     let n = s.len();
     match crate::field::check_rest(&s[46..n], sh.short) {
@@ -31,7 +31,7 @@ fn walk_rest(s: &[u8], sh: Sheet) -> Walk
 // The interval's end, of an interval that begins at `start`, and the rest.
 fn walk_end(s: &[u8], sh: Sheet, start: u64) -> Walk
     requires { 43 ≤ length s.now }
-    ensures { (today : ℕ) (c : Context) → spelled (take 3 (drop 40 s.now)) ≡ start → result ≡ walk (fromEnd sh today c s.now 43 (drop 43 s.now)) }
+    ensures { (today : ℕ) (c : Context) → spelled (take 3 (drop 40 s.now)) ≡ start → result ≡ walk (from_end sh today c s.now 43 (drop 43 s.now)) }
 {
     let n = s.len();
     if n < 46 {
@@ -51,7 +51,7 @@ fn walk_end(s: &[u8], sh: Sheet, start: u64) -> Walk
 // The interval's start and what follows it.
 fn walk_start(s: &[u8], sh: Sheet) -> Walk
     requires { 40 ≤ length s.now }
-    ensures { (today : ℕ) (c : Context) → result ≡ walk (fromStart sh today c s.now 40 (drop 40 s.now)) }
+    ensures { (today : ℕ) (c : Context) → result ≡ walk (from_start sh today c s.now 40 (drop 40 s.now)) }
 {
     let n = s.len();
     if n < 43 {
@@ -66,7 +66,7 @@ fn walk_start(s: &[u8], sh: Sheet) -> Walk
 // The client number and what follows it.
 fn walk_client(s: &[u8], sh: Sheet) -> Walk
     requires { 30 ≤ length s.now }
-    ensures { (today : ℕ) (c : Context) → result ≡ walk (fromClient sh today c s.now 30 (drop 30 s.now)) }
+    ensures { (today : ℕ) (c : Context) → result ≡ walk (from_client sh today c s.now 30 (drop 30 s.now)) }
 {
     let n = s.len();
     if n < 40 {
@@ -86,7 +86,7 @@ fn walk_client(s: &[u8], sh: Sheet) -> Walk
 // The name and what follows it.
 fn walk_name(s: &[u8], sh: Sheet) -> Walk
     requires { 10 ≤ length s.now }
-    ensures { (today : ℕ) (c : Context) → result ≡ walk (fromName sh today c s.now 10 (drop 10 s.now)) }
+    ensures { (today : ℕ) (c : Context) → result ≡ walk (from_name sh today c s.now 10 (drop 10 s.now)) }
 {
     let n = s.len();
     if n < 30 {
@@ -106,7 +106,7 @@ fn walk_name(s: &[u8], sh: Sheet) -> Walk
 // The creation date and what follows it.
 fn walk_date(s: &[u8], sh: Sheet) -> Walk
     requires { 4 ≤ length s.now }
-    ensures { (today : ℕ) (c : Context) → result ≡ walk (fromDate sh today c s.now 4 (drop 4 s.now)) }
+    ensures { (today : ℕ) (c : Context) → result ≡ walk (from_date sh today c s.now 4 (drop 4 s.now)) }
 {
     let n = s.len();
     if n < 10 {
@@ -126,7 +126,7 @@ fn walk_date(s: &[u8], sh: Sheet) -> Walk
 // `UHL1` and its fields, of a line that begins so; where the sheet reads none (C), anything.
 pub fn walk_first(s: &[u8], sh: Sheet) -> Walk
     requires { 4 ≤ length s.now }
-    ensures { (today : ℕ) (c : Context) → result ≡ walk (whyFirst sh today c s.now) }
+    ensures { (today : ℕ) (c : Context) → result ≡ walk (why_first sh today c s.now) }
 {
     if sh.header {
         return walk_date(s, sh);

@@ -2,12 +2,12 @@
 ghost use Rattle.std.specs.Prelude.{◌≡◌, true, false, ℕ, ◌≤◌, length, drop};
 ghost use Rattle.base.specs.Pick.{pick};
 ghost use Rattle.paper.specs.Bytes.{field_of};
-ghost use Rattle.paper.specs.Days.{realDay};
+ghost use Rattle.paper.specs.Days.{real_day};
 ghost use Rattle.paper.specs.Spells.{Context};
-ghost use Rattle.why.specs.Forms.{areDigits};
-ghost use Rattle.why.specs.Walk.{whyBehind, whyOpen, whyPayee, whyItem};
+ghost use Rattle.why.specs.Forms.{are_digits};
+ghost use Rattle.why.specs.Walk.{why_behind, why_open, why_payee, why_item};
 ghost use Rattle.fault.specs.line.Walks.{walk};
-ghost use Rattle.fault.specs.item.Stages.{fromText, fromSymbol, fromFixed, fromTail, fromBank, fromVariable, fromAmount, fromSingle};
+ghost use Rattle.fault.specs.item.Stages.{from_text, from_symbol, from_fixed, from_tail, from_bank, from_variable, from_amount, from_single};
 
 use crate::field::Ruling;
 use crate::line::{Walk, malformed, stopped};
@@ -16,7 +16,7 @@ use sheet::Sheet;
 // A text to the line's end.
 fn walk_text(s: &[u8], at: usize, sh: Sheet) -> Walk
     requires { at ≤ length s.now }
-    ensures { (today : ℕ) (c : Context) → result ≡ walk (fromText sh today c s.now at (drop at s.now)) }
+    ensures { (today : ℕ) (c : Context) → result ≡ walk (from_text sh today c s.now at (drop at s.now)) }
 {
     let n = s.len();
     match crate::texts::check_text(&s[at..n], sh.text) {
@@ -33,7 +33,7 @@ fn walk_text(s: &[u8], at: usize, sh: Sheet) -> Walk
 // Behind a symbol: nothing, or a space and a text.
 fn walk_behind(s: &[u8], at: usize, sh: Sheet) -> Walk
     requires { at ≤ length s.now }
-    ensures { (today : ℕ) (c : Context) → result ≡ walk (whyBehind sh today c s.now at (drop at s.now)) }
+    ensures { (today : ℕ) (c : Context) → result ≡ walk (why_behind sh today c s.now at (drop at s.now)) }
 {
     if at < s.len() {
         return walk_text(s, at + 1, sh);
@@ -44,7 +44,7 @@ fn walk_behind(s: &[u8], at: usize, sh: Sheet) -> Walk
 // A symbol, and what follows it off S.
 fn walk_symbol(s: &[u8], at: usize, sh: Sheet) -> Walk
     requires { at ≤ length s.now }
-    ensures { (today : ℕ) (c : Context) → result ≡ walk (fromSymbol sh today c s.now at (drop at s.now)) }
+    ensures { (today : ℕ) (c : Context) → result ≡ walk (from_symbol sh today c s.now at (drop at s.now)) }
 {
     let end = scan::line::field_end(s, at);
     match crate::field::check_symbol(&s[at..end], sh.fixedtail) {
@@ -61,7 +61,7 @@ fn walk_symbol(s: &[u8], at: usize, sh: Sheet) -> Walk
 // A symbol or none, a space and a text (S).
 fn walk_fixed_symbol(s: &[u8], at: usize, sh: Sheet) -> Walk
     requires { at ≤ length s.now }
-    ensures { (today : ℕ) (c : Context) → result ≡ walk (fromFixed sh today c s.now at (drop at s.now)) }
+    ensures { (today : ℕ) (c : Context) → result ≡ walk (from_fixed sh today c s.now at (drop at s.now)) }
 {
     let end = scan::line::field_end(s, at);
     match crate::field::check_symbol(&s[at..end], sh.fixedtail) {
@@ -83,7 +83,7 @@ fn walk_fixed_symbol(s: &[u8], at: usize, sh: Sheet) -> Walk
 // Whether what stands at `at` is no symbol, where a text may stand for it (`bare`).
 fn no_symbol(s: &[u8], at: usize, bare: bool) -> bool
     requires { at ≤ length s.now }
-    ensures { result ≡ pick bare (pick (areDigits 1 10 (field_of (drop at s.now))) false true) false }
+    ensures { result ≡ pick bare (pick (are_digits 1 10 (field_of (drop at s.now))) false true) false }
 {
     if bare {
         let end = scan::line::field_end(s, at);
@@ -103,7 +103,7 @@ fn no_symbol(s: &[u8], at: usize, bare: bool) -> bool
 // The tail on K, C, E and P.
 fn walk_open(s: &[u8], at: usize, sh: Sheet) -> Walk
     requires { at ≤ length s.now }
-    ensures { (today : ℕ) (c : Context) → result ≡ walk (whyOpen sh today c s.now at (drop at s.now)) }
+    ensures { (today : ℕ) (c : Context) → result ≡ walk (why_open sh today c s.now at (drop at s.now)) }
 {
     if at < s.len() {
         let from = at + 1;
@@ -118,7 +118,7 @@ fn walk_open(s: &[u8], at: usize, sh: Sheet) -> Walk
 // The tail: on S a space always, elsewhere it may be missing.
 fn walk_tail(s: &[u8], at: usize, sh: Sheet) -> Walk
     requires { at ≤ length s.now }
-    ensures { (today : ℕ) (c : Context) → result ≡ walk (fromTail sh today c s.now at (drop at s.now)) }
+    ensures { (today : ℕ) (c : Context) → result ≡ walk (from_tail sh today c s.now at (drop at s.now)) }
 {
     let fixed = sh.fixedtail;
     if fixed {
@@ -133,8 +133,8 @@ fn walk_tail(s: &[u8], at: usize, sh: Sheet) -> Walk
 // The bank field, in an account file of that kind and a group of that date, and the tail.
 fn walk_bank(s: &[u8], at: usize, sh: Sheet, today: u64, kind: u64, date: u64) -> Walk
     requires at_in_bounds { at ≤ length s.now }
-    requires today_value { realDay today ≡ true }
-    ensures { (c : Context) → c.kind ≡ kind → c.date ≡ date → result ≡ walk (fromBank sh today c s.now at (drop at s.now)) }
+    requires today_value { real_day today ≡ true }
+    ensures { (c : Context) → c.kind ≡ kind → c.date ≡ date → result ≡ walk (from_bank sh today c s.now at (drop at s.now)) }
 {
     let end = scan::line::field_end(s, at);
     match crate::banks::check_bank(
@@ -158,8 +158,8 @@ fn walk_bank(s: &[u8], at: usize, sh: Sheet, today: u64, kind: u64, date: u64) -
 // The variable symbol and what follows it.
 fn walk_variable(s: &[u8], at: usize, sh: Sheet, today: u64, kind: u64, date: u64) -> Walk
     requires at_in_bounds { at ≤ length s.now }
-    requires today_value { realDay today ≡ true }
-    ensures { (c : Context) → c.kind ≡ kind → c.date ≡ date → result ≡ walk (fromVariable sh today c s.now at (drop at s.now)) }
+    requires today_value { real_day today ≡ true }
+    ensures { (c : Context) → c.kind ≡ kind → c.date ≡ date → result ≡ walk (from_variable sh today c s.now at (drop at s.now)) }
 {
     let end = scan::line::field_end(s, at);
     match crate::field::check_digits(&s[at..end], 1, 10) {
@@ -181,9 +181,9 @@ fn walk_variable(s: &[u8], at: usize, sh: Sheet, today: u64, kind: u64, date: u6
 // The amount and what follows it.
 fn walk_amount(s: &[u8], at: usize, sh: Sheet, today: u64, kind: u64, date: u64) -> Walk
     requires at_in_bounds { at ≤ length s.now }
-    requires today_value { realDay today ≡ true }
+    requires today_value { real_day today ≡ true }
     requires itemdigits_bound { sh.itemdigits ≤ 19 }
-    ensures { (c : Context) → c.kind ≡ kind → c.date ≡ date → result ≡ walk (fromAmount sh today c s.now at (drop at s.now)) }
+    ensures { (c : Context) → c.kind ≡ kind → c.date ≡ date → result ≡ walk (from_amount sh today c s.now at (drop at s.now)) }
 {
     let end = scan::line::field_end(s, at);
     match crate::field::check_amount(&s[at..end], sh.comma, sh.itemdigits, sh.itemmax) {
@@ -205,9 +205,9 @@ fn walk_amount(s: &[u8], at: usize, sh: Sheet, today: u64, kind: u64, date: u64)
 // The payee's account and what follows it.
 fn walk_payee(s: &[u8], at: usize, sh: Sheet, today: u64, kind: u64, date: u64) -> Walk
     requires at_in_bounds { at ≤ length s.now }
-    requires today_value { realDay today ≡ true }
+    requires today_value { real_day today ≡ true }
     requires itemdigits_bound { sh.itemdigits ≤ 19 }
-    ensures { (c : Context) → c.kind ≡ kind → c.date ≡ date → result ≡ walk (whyPayee sh today c s.now at (drop at s.now)) }
+    ensures { (c : Context) → c.kind ≡ kind → c.date ≡ date → result ≡ walk (why_payee sh today c s.now at (drop at s.now)) }
 {
     let end = scan::line::field_end(s, at);
     match crate::accounts::check_account(&s[at..end], sh.joined, sh.basemin) {
@@ -228,9 +228,9 @@ fn walk_payee(s: &[u8], at: usize, sh: Sheet, today: u64, kind: u64, date: u64) 
 
 // The payer's account of an item, and what follows it.
 fn walk_single(s: &[u8], sh: Sheet, today: u64, kind: u64, date: u64) -> Walk
-    requires today_value { realDay today ≡ true }
+    requires today_value { real_day today ≡ true }
     requires itemdigits_bound { sh.itemdigits ≤ 19 }
-    ensures { (c : Context) → c.kind ≡ kind → c.date ≡ date → result ≡ walk (fromSingle sh today c s.now 0 s.now) }
+    ensures { (c : Context) → c.kind ≡ kind → c.date ≡ date → result ≡ walk (from_single sh today c s.now 0 s.now) }
 {
     let end = scan::line::field_end(s, 0);
     match crate::accounts::check_account(&s[0..end], sh.joined, sh.basemin) {
@@ -251,9 +251,9 @@ fn walk_single(s: &[u8], sh: Sheet, today: u64, kind: u64, date: u64) -> Walk
 
 // An item: the payer's account comes first where the group is single.
 pub fn walk_item(s: &[u8], sh: Sheet, today: u64, kind: u64, date: u64, single: bool) -> Walk
-    requires today_value { realDay today ≡ true }
+    requires today_value { real_day today ≡ true }
     requires itemdigits_bound { sh.itemdigits ≤ 19 }
-    ensures { (c : Context) → c.kind ≡ kind → c.date ≡ date → c.single ≡ single → result ≡ walk (whyItem sh today c s.now) }
+    ensures { (c : Context) → c.kind ≡ kind → c.date ≡ date → c.single ≡ single → result ≡ walk (why_item sh today c s.now) }
 {
     if single {
         return walk_single(s, sh, today, kind, date);

@@ -1,9 +1,9 @@
 // A line of any kind, walked as what its first bytes say that it is.
 ghost use Rattle.std.specs.Prelude.{◌≡◌, true, ◌≤◌};
-ghost use Rattle.paper.specs.Days.{realDay};
+ghost use Rattle.paper.specs.Days.{real_day};
 ghost use Rattle.paper.specs.Entries.{kind_of};
 ghost use Rattle.paper.specs.Spells.{Context};
-ghost use Rattle.why.specs.Walk.{whyAs};
+ghost use Rattle.why.specs.Walk.{why_as};
 ghost use Rattle.fault.specs.line.Walks.{walk};
 ghost use Rattle.fault.specs.known.Bears.{Bears};
 
@@ -26,9 +26,9 @@ pub struct Bearing {
 
 // The line s, its end apart.
 pub fn walk_line(s: &[u8], sh: Sheet, today: u64, x: Bearing) -> Walk
-    requires today_value { realDay today ≡ true }
+    requires today_value { real_day today ≡ true }
     requires itemdigits_bound { sh.itemdigits ≤ 19 }
-    ensures { (c : Context) → Bears x c (kind_of s.now) → result ≡ walk (whyAs sh today c s.now (kind_of s.now)) }
+    ensures { (c : Context) → Bears x c (kind_of s.now) → result ≡ walk (why_as sh today c s.now (kind_of s.now)) }
 {
     match scan::kind::kind_of(s) {
         LineKind::Item => crate::item::walk_item(s, sh, today, x.kind, x.date, x.single),

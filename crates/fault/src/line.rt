@@ -1,13 +1,13 @@
 // The lines of an account file and of a group walked from their left: the first field whose rules are broken, or the line's form.
 ghost use Rattle.std.specs.Prelude.{◌≡◌, List, true, ℕ, ◌≤◌, length, drop};
-ghost use Rattle.paper.specs.Days.{realDay};
+ghost use Rattle.paper.specs.Days.{real_day};
 ghost use Rattle.paper.specs.Batch.{Header};
-ghost use Rattle.paper.specs.GroupLine.{hasPayer};
+ghost use Rattle.paper.specs.GroupLine.{has_payer};
 ghost use Rattle.paper.specs.Spells.{Context, after};
 ghost use Rattle.fileline.specs.seen.Bits.{Holds};
-ghost use Rattle.why.specs.Walk.{whyFile, whyTotal, whyGroup};
+ghost use Rattle.why.specs.Walk.{why_file, why_total, why_group};
 ghost use Rattle.fault.specs.line.Walks.{walk};
-ghost use Rattle.fault.specs.line.Stages.{fromCode, fromNumber, fromDay, fromPayer};
+ghost use Rattle.fault.specs.line.Stages.{from_code, from_number, from_day, from_payer};
 
 use crate::field::Ruling;
 use fileline::seen::Seen;
@@ -64,7 +64,7 @@ pub fn malformed(cause: u64, offset: usize, length: usize, field: u64) -> Walk
 // BANK, and nothing behind it.
 fn walk_code(s: &[u8], at: usize, sh: Sheet) -> Walk
     requires { at ≤ length s.now }
-    ensures { (today : ℕ) (c : Context) → result ≡ walk (fromCode sh today c s.now at (drop at s.now)) }
+    ensures { (today : ℕ) (c : Context) → result ≡ walk (from_code sh today c s.now at (drop at s.now)) }
 {
     let end = scan::line::field_end(s, at);
     match crate::field::check_code(&s[at..end], sh) {
@@ -86,7 +86,7 @@ fn walk_code(s: &[u8], at: usize, sh: Sheet) -> Walk
 // NUMBER and what follows it.
 fn walk_number(s: &[u8], at: usize, sh: Sheet, from: u64, to: u64, seen: Seen) -> Walk
     requires { at ≤ length s.now }
-    ensures { (today : ℕ) (c : Context) (h : Header) (l : List ℕ) → c.numbers ≡ after h l → Holds seen.words l → h.from ≡ from → h.to ≡ to → result ≡ walk (fromNumber sh today c s.now at (drop at s.now)) }
+    ensures { (today : ℕ) (c : Context) (h : Header) (l : List ℕ) → c.numbers ≡ after h l → Holds seen.words l → h.from ≡ from → h.to ≡ to → result ≡ walk (from_number sh today c s.now at (drop at s.now)) }
 {
     let end = scan::line::field_end(s, at);
     match crate::field::check_number(&s[at..end], sh.interval, from, to, seen) {
@@ -108,7 +108,7 @@ fn walk_number(s: &[u8], at: usize, sh: Sheet, from: u64, to: u64, seen: Seen) -
 // `1 KIND NUMBER BANK`, of a line that begins so.
 pub fn walk_file(s: &[u8], sh: Sheet, from: u64, to: u64, seen: Seen) -> Walk
     requires { 2 ≤ length s.now }
-    ensures { (today : ℕ) (c : Context) (h : Header) (l : List ℕ) → c.numbers ≡ after h l → Holds seen.words l → h.from ≡ from → h.to ≡ to → result ≡ walk (whyFile sh today c s.now) }
+    ensures { (today : ℕ) (c : Context) (h : Header) (l : List ℕ) → c.numbers ≡ after h l → Holds seen.words l → h.from ≡ from → h.to ≡ to → result ≡ walk (why_file sh today c s.now) }
 {
     let end = scan::line::field_end(s, 2);
     match crate::field::check_kind(&s[2..end], sh) {
@@ -132,8 +132,8 @@ pub fn walk_file(s: &[u8], sh: Sheet, from: u64, to: u64, seen: Seen) -> Walk
 // DATE, in an account file of that kind, and nothing behind it.
 fn walk_day(s: &[u8], at: usize, sh: Sheet, today: u64, kind: u64) -> Walk
     requires at_in_bounds { at ≤ length s.now }
-    requires today_value { realDay today ≡ true }
-    ensures { (c : Context) → c.kind ≡ kind → result ≡ walk (fromDay sh today c s.now at (drop at s.now)) }
+    requires today_value { real_day today ≡ true }
+    ensures { (c : Context) → c.kind ≡ kind → result ≡ walk (from_day sh today c s.now at (drop at s.now)) }
 {
     let end = scan::line::field_end(s, at);
     match crate::due::check_due(
@@ -162,8 +162,8 @@ fn walk_day(s: &[u8], at: usize, sh: Sheet, today: u64, kind: u64) -> Walk
 // TOTAL and what follows it.
 fn walk_total(s: &[u8], at: usize, sh: Sheet, today: u64, kind: u64) -> Walk
     requires at_in_bounds { at ≤ length s.now }
-    requires today_value { realDay today ≡ true }
-    ensures { (c : Context) → c.kind ≡ kind → result ≡ walk (whyTotal sh today c s.now at (drop at s.now)) }
+    requires today_value { real_day today ≡ true }
+    ensures { (c : Context) → c.kind ≡ kind → result ≡ walk (why_total sh today c s.now at (drop at s.now)) }
 {
     let end = scan::line::field_end(s, at);
     match crate::field::check_total(&s[at..end], sh.comma) {
@@ -184,7 +184,7 @@ fn walk_total(s: &[u8], at: usize, sh: Sheet, today: u64, kind: u64) -> Walk
 
 // Whether the line has its payer's field: always (`always`), or where it has three spaces or more.
 fn has_payer(s: &[u8], always: bool) -> bool
-    ensures { result ≡ hasPayer always s.now }
+    ensures { result ≡ has_payer always s.now }
 {
     if always {
         return true;
@@ -195,8 +195,8 @@ fn has_payer(s: &[u8], always: bool) -> bool
 // The payer's account of a group, and what follows it.
 fn walk_payer(s: &[u8], sh: Sheet, today: u64, kind: u64) -> Walk
     requires in_bounds { 2 ≤ length s.now }
-    requires today_value { realDay today ≡ true }
-    ensures { (c : Context) → c.kind ≡ kind → result ≡ walk (fromPayer sh today c s.now 2 (drop 2 s.now)) }
+    requires today_value { real_day today ≡ true }
+    ensures { (c : Context) → c.kind ≡ kind → result ≡ walk (from_payer sh today c s.now 2 (drop 2 s.now)) }
 {
     let end = scan::line::field_end(s, 2);
     match crate::accounts::check_payer(
@@ -224,8 +224,8 @@ fn walk_payer(s: &[u8], sh: Sheet, today: u64, kind: u64) -> Walk
 // `2 TOTAL DATE`, or with the payer's account before TOTAL, of a line that begins so.
 pub fn walk_group(s: &[u8], sh: Sheet, today: u64, kind: u64) -> Walk
     requires in_bounds { 2 ≤ length s.now }
-    requires today_value { realDay today ≡ true }
-    ensures { (c : Context) → c.kind ≡ kind → result ≡ walk (whyGroup sh today c s.now) }
+    requires today_value { real_day today ≡ true }
+    ensures { (c : Context) → c.kind ≡ kind → result ≡ walk (why_group sh today c s.now) }
 {
     if has_payer(s, sh.emptypayer) {
         return walk_payer(s, sh, today, kind);

@@ -3,8 +3,8 @@ ghost use Rattle.std.specs.Prelude.{◌≡◌, true, false, ◌-◌, ◌≤◌, 
 ghost use Rattle.base.specs.Pick.{pick};
 ghost use Rattle.paper.specs.Bytes.{null};
 ghost use Rattle.paper.specs.Texts.{divide, overs};
-ghost use Rattle.why.specs.Rule.{firstBroken};
-ghost use Rattle.why.specs.Texts.{unmarked, isMessage, isName, begins, markedRules, plainRules, textRules};
+ghost use Rattle.why.specs.Rule.{first_broken};
+ghost use Rattle.why.specs.Texts.{unmarked, is_message, is_name, begins, marked_rules, plain_rules, text_rules};
 ghost use Rattle.fault.specs.field.Ruled.{ruling};
 
 use crate::field::Ruling;
@@ -24,7 +24,7 @@ fn breaks(cause: u64, y: Style) -> Ruling
 
 // Whether the bytes are a text's: text bytes, and off S one or more, the first not a space.
 fn is_message(f: &[u8], y: Style) -> bool
-    ensures { result ≡ isMessage y f.now }
+    ensures { result ≡ is_message y f.now }
 {
     if scan::seek::all_text(f, 0) {
         let av = y.av;
@@ -51,7 +51,7 @@ fn is_short(n: usize, y: Style) -> bool
 
 // Its length, that it holds no `|`, and its bytes.
 fn check_plain(f: &[u8], y: Style) -> Ruling
-    ensures { result ≡ ruling (firstBroken (plainRules y) f.now) }
+    ensures { result ≡ ruling (first_broken (plain_rules y) f.now) }
 {
     if is_short(f.len(), y) {
         let at = scan::find::find_byte(f, 0, 124);
@@ -125,10 +125,10 @@ fn ends_short(y: Style, parts: bool, n: usize, end: usize) -> bool
 // A message from `from` on: how many parts it has, how long they and the name are, and the parts' bytes.
 fn check_message(f: &[u8], y: Style, from: usize) -> Ruling
     requires f_value { begins y f.now ≡ true }
-    requires f_value_2 { isName y f.now ≡ false }
+    requires f_value_2 { is_name y f.now ≡ false }
     requires f_value_3 { unmarked f.now ≡ drop from f.now }
     requires from_in_bounds { from ≤ length f.now }
-    ensures { result ≡ ruling (firstBroken (markedRules y) f.now) }
+    ensures { result ≡ ruling (first_broken (marked_rules y) f.now) }
 {
     let end = text::message_end(y, f, from);
     let m = measure_parts(&f[from..end]);
@@ -158,8 +158,8 @@ fn is_short_name(n: usize, y: Style) -> bool
 
 // `NP:` and a name alone: one part, which is empty, and how long the name is.
 fn check_named(f: &[u8], y: Style) -> Ruling
-    requires { isName y f.now ≡ true }
-    ensures { result ≡ ruling (firstBroken (markedRules y) f.now) }
+    requires { is_name y f.now ≡ true }
+    ensures { result ≡ ruling (first_broken (marked_rules y) f.now) }
 {
     let most = y.most;
     if most < 1 {
@@ -174,7 +174,7 @@ fn check_named(f: &[u8], y: Style) -> Ruling
 
 // Its start, and what follows that.
 fn check_marked(f: &[u8], y: Style) -> Ruling
-    ensures { result ≡ ruling (firstBroken (markedRules y) f.now) }
+    ensures { result ≡ ruling (first_broken (marked_rules y) f.now) }
 {
     if text::only_name(y, f, 0) {
         return check_named(f, y);
@@ -193,7 +193,7 @@ fn check_marked(f: &[u8], y: Style) -> Ruling
 
 // First its bytes, then by the style.
 pub fn check_text(f: &[u8], y: Style) -> Ruling
-    ensures { result ≡ ruling (firstBroken (textRules y) f.now) }
+    ensures { result ≡ ruling (first_broken (text_rules y) f.now) }
 {
     if is_message(f, y) {
         let av = y.av;

@@ -10,14 +10,14 @@ use Rattle.base.specs.Pick.{pick}
 use Rattle.base.specs.Seek.{seek}
 use Rattle.base.proofs.Seek.{never, seek-over}
 use Rattle.paper.specs.Read.{value}
-use Rattle.paper.specs.Bytes.{isDigit, space, field_of, null}
+use Rattle.paper.specs.Bytes.{is_digit, space, field_of, null}
 use Rattle.paper.specs.Numerals.{digits}
 use Rattle.numeral.specs.placed.Placed.{Placed}
 use Rattle.numeral.proofs.placed.Bytes.{placed-four}
 use Rattle.numeral.specs.field.At.{found, ending, field_at}
 use Rattle.numeral.specs.field.Digits.{Worth}
 use Rattle.numeral.proofs.field.Front.{field-ends}
-use Rattle.numeral.proofs.field.Turns.{is_digit}
+use Rattle.numeral.proofs.field.Turns.{is-digit}
 
 -- ---- the test: what each byte is worth
 
@@ -26,15 +26,15 @@ no-four s at e = never (sym e)
 
 module _ (s : List ℕ) (at : ℕ) (l : at + 4 ≤ length s) (a b c d : ℕ) where
   pub is-four : Worth (get_or s at 0) a → a ≤ 9 → Worth (get_or s (at + 1) 0) b → b ≤ 9 → Worth (get_or s (at + 2) 0) c → c ≤ 9 → Worth (get_or s (at + 3) 0) d → d ≤ 9 → Placed 4 s at
-  is-four f i g j h k m n = placed-four s at l (is_digit _ a f i) (is_digit _ b g j) (is_digit _ c h k) (is_digit _ d m n)
+  is-four f i g j h k m n = placed-four s at l (is-digit _ a f i) (is-digit _ b g j) (is-digit _ c h k) (is-digit _ d m n)
 
 -- ---- the field
 
 module _ (s : List ℕ) (at : ℕ) (p : Placed 4 s at) (h : null (field_of (drop (at + 4) s)) ≡ true) where
   four-long : seek space (drop at s) ≡ 4
-  unfolding isDigit pick
+  unfolding is_digit pick
   four-long =
-      let o = seek-over isDigit 32 refl 4 (drop at s) (omega (arith, length-drop at s, p.inside)) p.plain in
+      let o = seek-over is_digit 32 refl 4 (drop at s) (omega (arith, length-drop at s, p.inside)) p.plain in
       let d : seek space (drop 4 (drop at s)) ≡ 0 = rw (drop-drop 4 at s) (field-ends (drop (at + 4) s) h) in
       omega arith
 

@@ -4,10 +4,10 @@ use mathlib.Core.Bool.{Bool}
 use mathlib.Core.List.{List}
 use Prim.Native.Nat.{ℕ}
 use Rattle.paper.specs.Batch.{Header}
-use Rattle.paper.specs.FileLine.{series, numberFault}
+use Rattle.paper.specs.FileLine.{series, number_fault}
 use Rattle.fileline.specs.seen.Bits.{Holds}
-use Rattle.fileline.specs.Fault.{faultIn}
+use Rattle.fileline.specs.Fault.{fault_in}
 
-pub same-fault : (interval : Bool) (h : Header) (words seen : List ℕ) → Holds words seen → faultIn interval h.from h.to words ≡ numberFault interval h seen
-unfolding faultIn numberFault
+pub same-fault : (interval : Bool) (h : Header) (words seen : List ℕ) → Holds words seen → fault_in interval h.from h.to words ≡ number_fault interval h seen
+unfolding fault_in number_fault
 same-fault interval h words seen g = fun_ext (λ (n : ℕ). rw (g (series n)))

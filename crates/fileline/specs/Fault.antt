@@ -6,6 +6,6 @@ use Rattle.paper.specs.FileLine.{series}
 use Rattle.fileline.specs.seen.Bits.{bit}
 
 -- K (`interval`): 9 where the first three digits do not lie in the interval, or are in the set; else 0
-unfoldable pub faultIn : Bool → ℕ → ℕ → List ℕ → ℕ → ℕ
-faultIn interval from to words n =
+unfoldable pub fault_in : Bool → ℕ → ℕ → List ℕ → ℕ → ℕ
+fault_in interval from to words n =
     pick interval (pick (leb from (series n)) (pick (leb (series n) to) (pick (bit words (series n)) 9 0) 9) 9) 0

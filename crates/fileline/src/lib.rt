@@ -4,12 +4,12 @@ pub mod take;
 
 ghost use Rattle.std.specs.Prelude.{◌≡◌, true, ◌+◌, ◌≤◌, ◌<◌, length, drop};
 ghost use Rattle.paper.specs.Numerals.{digits};
-ghost use Rattle.paper.specs.FileLine.{readKind, readNumber, read_code, readFile};
+ghost use Rattle.paper.specs.FileLine.{read_kind, read_number, read_code, read_file};
 ghost use Rattle.numeral.specs.field.At.{field_at};
 ghost use Rattle.numeral.specs.field.Told as number;
 ghost use Rattle.numeral.specs.placed.Placed.{Placed};
-ghost use Rattle.fileline.specs.Fault.{faultIn};
-ghost use Rattle.fileline.specs.Ending.{codeAndEnd};
+ghost use Rattle.fileline.specs.Fault.{fault_in};
+ghost use Rattle.fileline.specs.Ending.{code_and_end};
 ghost use Rattle.fileline.specs.Told.{told};
 
 use crate::seen::Seen;
@@ -62,7 +62,7 @@ fn four_at(s: &[u8], at: usize) -> NumAt
 // KIND: four digits, one of the sheet's kinds.
 fn kind_at(s: &[u8], at: usize, sh: Sheet) -> NumAt
     requires { at ≤ length s.now }
-    ensures { number.told result ≡ field_at (readKind sh) s.now at }
+    ensures { number.told result ≡ field_at (read_kind sh) s.now at }
 {
     match four_at(s, at) {
         NumAt::Value(kind, end) => if sh.kind_allowed(kind) {
@@ -92,7 +92,7 @@ fn code_at(s: &[u8], at: usize, sh: Sheet) -> NumAt
 // The refusal that the number n gets, 0 if none: on K (`interval`) its first three digits lie in the interval and came in no earlier number.
 pub fn number_fault(interval: bool, from: u64, to: u64, seen: Seen, n: u64) -> u64
     requires { n < 1000000 }
-    ensures { result ≡ faultIn interval from to seen.words n }
+    ensures { result ≡ fault_in interval from to seen.words n }
 {
     if interval {
         let first = n / 1000;
@@ -113,7 +113,7 @@ pub fn number_fault(interval: bool, from: u64, to: u64, seen: Seen, n: u64) -> u
 // NUMBER: six digits, a number that is allowed.
 fn serial_at(s: &[u8], at: usize, interval: bool, from: u64, to: u64, seen: Seen) -> NumAt
     requires { at ≤ length s.now }
-    ensures { number.told result ≡ field_at (readNumber (faultIn interval from to seen.words)) s.now at }
+    ensures { number.told result ≡ field_at (read_number (fault_in interval from to seen.words)) s.now at }
 {
     match numeral::field::number_at(s, at, 6, 6) {
         NumAt::Value(n, end) => {
@@ -131,7 +131,7 @@ fn serial_at(s: &[u8], at: usize, interval: bool, from: u64, to: u64, seen: Seen
 // BANK at `at` and the line's end, behind KIND and NUMBER.
 fn code_and_end(s: &[u8], at: usize, sh: Sheet, kind: u64, number: u64) -> FileRead
     requires { at ≤ length s.now }
-    ensures { told result ≡ codeAndEnd sh kind number at (drop at s.now) }
+    ensures { told result ≡ code_and_end sh kind number at (drop at s.now) }
 {
     match code_at(s, at, sh) {
         NumAt::Refused(c) => FileRead::Refused(c, at),
@@ -147,7 +147,7 @@ fn code_and_end(s: &[u8], at: usize, sh: Sheet, kind: u64, number: u64) -> FileR
 // The whole line, which is known to begin with `1 `. The interval goes from `from` to `to`, and `seen` holds what came before.
 pub fn file_line(s: &[u8], sh: Sheet, from: u64, to: u64, seen: Seen) -> FileRead
     requires { 2 ≤ length s.now }
-    ensures { told result ≡ readFile sh (faultIn sh.interval from to seen.words) s.now }
+    ensures { told result ≡ read_file sh (fault_in sh.interval from to seen.words) s.now }
 {
     match kind_at(s, 2, sh) {
         NumAt::Refused(c) => FileRead::Refused(c, 2),

@@ -1,12 +1,12 @@
 // The second pass of reading: the rows of a file's lines, put into lent bytes.
 ghost use Rattle.std.specs.Prelude.{◌≡◌, true, false, ◌++◌, ◌+◌, ◌≤◌, ◌<◌, length, drop};
 ghost use Rattle.paper.specs.Batch.{most14};
-ghost use Rattle.paper.specs.Days.{realDay};
+ghost use Rattle.paper.specs.Days.{real_day};
 ghost use Rattle.paper.specs.Lines.{lines_of};
-ghost use Rattle.paper.specs.Spells.{readLine};
-ghost use Rattle.paper.specs.Words.{rowsBytes};
-ghost use Rattle.paper.specs.Rows.{accepted, lineRow, linesRows};
-ghost use Rattle.numeral.specs.placed.Said.{isSaid};
+ghost use Rattle.paper.specs.Spells.{read_line};
+ghost use Rattle.paper.specs.Words.{rows_bytes};
+ghost use Rattle.paper.specs.Rows.{accepted, line_row, lines_rows};
+ghost use Rattle.numeral.specs.placed.Said.{is_said};
 ghost use Rattle.fill.specs.file.Stepped.{Stepped};
 ghost use Rattle.fill.specs.file.Judged.{AllSaid};
 
@@ -32,10 +32,10 @@ fn fill_line(
     next: usize,
 ) -> Step
     requires most_bound { (sh.text.most ≤ 4) × (sh.itemdigits ≤ 19) × (sh.itemmax ≤ most14) }
-    requires s_value { isSaid (readLine sh today (accepted single) s.now) ≡ true }
+    requires s_value { is_said (read_line sh today (accepted single) s.now) ≡ true }
     requires s_bound { at + length s.now < 18446744073709551616 }
-    requires s_in_bounds { next + length (rowsBytes (lineRow at (readLine sh today (accepted single) s.now))) ≤ length rows.old }
-    ensures { Stepped rows.old next single at (readLine sh today (accepted single) s.now) rows.new result }
+    requires s_in_bounds { next + length (rows_bytes (line_row at (read_line sh today (accepted single) s.now))) ≤ length rows.old }
+    ensures { Stepped rows.old next single at (read_line sh today (accepted single) s.now) rows.new result }
 {
     match scan::kind::kind_of(s) {
         LineKind::Item => Step {
@@ -69,11 +69,11 @@ fn fill_line(
 
 // Puts the rows of the file's lines, in order, in front of the old bytes behind them. The file was judged: none of its lines is refused.
 pub fn fill_rows(f: &[u8], sh: Sheet, today: u64, rows: &mut [u8])
-    requires today_value { realDay today ≡ true }
+    requires today_value { real_day today ≡ true }
     requires most_bound { (sh.text.most ≤ 4) × (sh.itemdigits ≤ 19) × (sh.itemmax ≤ most14) }
     requires all_said { AllSaid sh today false (lines_of 0 f.now) }
-    requires f_in_bounds { length (rowsBytes (linesRows sh today false (lines_of 0 f.now))) ≤ length rows.old }
-    ensures { rows.new ≡ rowsBytes (linesRows sh today false (lines_of 0 f.now)) ++ drop (length (rowsBytes (linesRows sh today false (lines_of 0 f.now)))) rows.old }
+    requires f_in_bounds { length (rows_bytes (lines_rows sh today false (lines_of 0 f.now))) ≤ length rows.old }
+    ensures { rows.new ≡ rows_bytes (lines_rows sh today false (lines_of 0 f.now)) ++ drop (length (rows_bytes (lines_rows sh today false (lines_of 0 f.now)))) rows.old }
 {
     let mut at = 0;
     let mut next = 0;

@@ -2,11 +2,11 @@
 ghost use Rattle.std.specs.Prelude.{◌≡◌, List, ℕ, ◌+◌, ◌≤◌, ◌<◌, length};
 ghost use Rattle.base.specs.Put.{Wrote};
 ghost use Rattle.paper.specs.ItemLine.{places};
-ghost use Rattle.paper.specs.Words.{wordsBytes};
-ghost use Rattle.paper.specs.Rows.{itemRow, textSpots};
-ghost use Rattle.text.specs.span.Held.{textsAt, Held};
+ghost use Rattle.paper.specs.Words.{words_bytes};
+ghost use Rattle.paper.specs.Rows.{item_row, text_spots};
+ghost use Rattle.text.specs.span.Held.{texts_at, Held};
 ghost use Rattle.itemline.specs.Told.{item_at};
-ghost use Rattle.fill.specs.itemrow.Place.{placeWord, Reached};
+ghost use Rattle.fill.specs.itemrow.Place.{place_word, Reached};
 
 use itemline::Fields;
 use text::span::Span;
@@ -14,7 +14,7 @@ use text::span::Span;
 // The place in the file of a text of the line that starts at `start`; that of an empty one is 0.
 fn place_word(start: usize, p: Span) -> u64
     requires { start + p.at < 18446744073709551616 }
-    ensures { result ≡ placeWord start p }
+    ensures { result ≡ place_word start p }
 {
     if p.len == 0 {
         return 0;
@@ -26,7 +26,7 @@ fn place_word(start: usize, p: Span) -> u64
 pub fn put_item_row(rows: &mut [u8], at: usize, x: Fields, start: usize) -> usize
     requires at_in_bounds { at + 192 ≤ length rows.old }
     requires reached { Reached start x.texts }
-    ensures { (s : List ℕ) → Held s x.texts → Wrote rows.old at (wordsBytes (itemRow start (textSpots (places (textsAt s x.texts))) (item_at s x))) rows.new result }
+    ensures { (s : List ℕ) → Held s x.texts → Wrote rows.old at (words_bytes (item_row start (text_spots (places (texts_at s x.texts))) (item_at s x))) rows.new result }
 {
     let t = x.texts;
     let a = place_word(start, t.part1);

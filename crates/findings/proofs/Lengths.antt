@@ -10,7 +10,7 @@ use Rattle.out.proofs.word.Laws.{words-length}
 use Rattle.why.specs.declared.Finding.{Finding}
 use Rattle.sentences.proofs.Short.{sentence-short}
 use Rattle.listing.specs.Listed.{entry, spelled, listed}
-use Rattle.findings.specs.Findings.{in_words, inNumbers}
+use Rattle.findings.specs.Findings.{in_words, in_numbers}
 
 entry-long : (x : Finding) → length (entry x) ≡ 64
 unfolding entry
@@ -18,11 +18,11 @@ entry-long x = words-length (x.number ∷ x.cause ∷ x.line ∷ x.byte ∷ x.le
 
 module _ (sh : Sheet) (today : ℕ) (f : List ℕ) where
   -- 64 bytes a finding
-  pub numbers-long : (xs : List Finding) → length (listed (inNumbers sh today) f xs) ≡ 64 * length xs
+  pub numbers-long : (xs : List Finding) → length (listed (in_numbers sh today) f xs) ≡ 64 * length xs
   unfolding listed spelled pick
   numbers-long [] = refl
   numbers-long (x ∷ xs) =
-      omega (arith, length-append (entry x) (listed (inNumbers sh today) f xs), entry-long x, numbers-long xs)
+      omega (arith, length-append (entry x) (listed (in_numbers sh today) f xs), entry-long x, numbers-long xs)
 
   -- at most 1,024
   pub words_long : (xs : List Finding) → length (listed (in_words sh today) f xs) ≤ 1024 * length xs

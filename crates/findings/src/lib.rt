@@ -3,10 +3,10 @@ pub mod outcome;
 
 ghost use Rattle.std.specs.Prelude.{◌≡◌, true, ◌/◌, length};
 ghost use Rattle.sheet.specs.declared.Known.TheVariants as known;
-ghost use Rattle.sheet.specs.Sheets.{sheetOf};
+ghost use Rattle.sheet.specs.Sheets.{sheet_of};
 ghost use Rattle.sheet.proofs.Laws.{Sane};
-ghost use Rattle.paper.specs.Days.{realDay};
-ghost use Rattle.findings.specs.Lists.{noList, needsRoom, listIn, filledIn, listWith, filledWith, listAnswer, listAfter};
+ghost use Rattle.paper.specs.Days.{real_day};
+ghost use Rattle.findings.specs.Lists.{no_list, needs_room, list_in, filled_in, list_with, filled_with, list_answer, list_after};
 ghost use Rattle.findings.specs.Told.{told};
 
 use listing::Telling;
@@ -26,7 +26,7 @@ pub struct AboList {
 
 // No list: 1 or 2.
 fn no_list(number: u64) -> AboList
-    ensures { told result ≡ noList number }
+    ensures { told result ≡ no_list number }
 {
     AboList {
         number,
@@ -39,7 +39,7 @@ fn no_list(number: u64) -> AboList
 
 // There is no room: 16, and how many findings there are.
 fn no_room(needed: u64) -> AboList
-    ensures { told result ≡ needsRoom needed }
+    ensures { told result ≡ needs_room needed }
 {
     AboList {
         number: 16,
@@ -52,10 +52,10 @@ fn no_room(needed: u64) -> AboList
 
 // The list on the sheet sh, which the number names, on a real day.
 fn list_that_day(file: &[u8], sheet: u64, sh: Sheet, today: u64, out: &mut [u8]) -> AboList
-    requires sane { Sane sh × (realDay today ≡ true) }
-    requires sheet_value { sheetOf sheet ≡ known.Sheet sh }
-    ensures result_value { told result ≡ listIn (length out.old / 64) sh today file.now }
-    ensures out_after { out.new ≡ filledIn out.old sh today file.now }
+    requires sane { Sane sh × (real_day today ≡ true) }
+    requires sheet_value { sheet_of sheet ≡ known.Sheet sh }
+    ensures result_value { told result ≡ list_in (length out.old / 64) sh today file.now }
+    ensures out_after { out.new ≡ filled_in out.old sh today file.now }
 {
     let o = tracing::file::follow(file, sh, today);
     let count = crate::outcome::count_of(o);
@@ -83,9 +83,9 @@ fn list_that_day(file: &[u8], sheet: u64, sh: Sheet, today: u64, out: &mut [u8])
 // The list on the sheet sh: 2, or what is found.
 fn list_on(file: &[u8], sheet: u64, sh: Sheet, today: u64, out: &mut [u8]) -> AboList
     requires sane { Sane sh }
-    requires sheet_value { sheetOf sheet ≡ known.Sheet sh }
-    ensures result_value { told result ≡ listWith (known.Sheet sh) today file.now (length out.old / 64) }
-    ensures out_after { out.new ≡ filledWith (known.Sheet sh) today file.now out.old }
+    requires sheet_value { sheet_of sheet ≡ known.Sheet sh }
+    ensures result_value { told result ≡ list_with (known.Sheet sh) today file.now (length out.old / 64) }
+    ensures out_after { out.new ≡ filled_with (known.Sheet sh) today file.now out.old }
 {
     if calendar::real_day(today) {
         return list_that_day(file, sheet, sh, today, out);
@@ -95,8 +95,8 @@ fn list_on(file: &[u8], sheet: u64, sh: Sheet, today: u64, out: &mut [u8]) -> Ab
 
 // Lists what is found in a file on the sheet of that number, in the front of what is lent; a refusal leaves it as it was.
 pub fn list_file(file: &[u8], sheet: u64, today: u64, out: &mut [u8]) -> AboList
-    ensures result_value { told result ≡ listAnswer sheet today file.now out.old }
-    ensures out_after { out.new ≡ listAfter sheet today file.now out.old }
+    ensures result_value { told result ≡ list_answer sheet today file.now out.old }
+    ensures out_after { out.new ≡ list_after sheet today file.now out.old }
 {
     match sheet::sheet_of(sheet) {
         Known::Sheet(sh) => list_on(file, sheet, sh, today, out),

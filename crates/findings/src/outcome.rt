@@ -1,19 +1,19 @@
 // What a pass over a file came to: how many findings there are, and the findings themselves.
 ghost use Rattle.std.specs.Prelude.{◌≡◌, true};
 ghost use Rattle.sheet.proofs.Laws.{Sane};
-ghost use Rattle.paper.specs.Days.{realDay};
+ghost use Rattle.paper.specs.Days.{real_day};
 ghost use Rattle.numeral.specs.counted.Counted.{Counted};
 ghost use Rattle.listing.specs.Listed.{listed};
 ghost use Rattle.tracing.specs.file.Comes.{Comes};
 ghost use Rattle.findings.specs.Findings.{findings};
-ghost use Rattle.findings.specs.outcome.Counts.{countIn, refusedIn};
+ghost use Rattle.findings.specs.outcome.Counts.{count_in, refused_in};
 
 use listing::Telling;
 use tracing::file::Outcome;
 
 // How many findings there are: the one, or as many as there are warnings.
 pub fn count_of(o: Outcome) -> u64
-    ensures { result ≡ countIn o }
+    ensures { result ≡ count_in o }
 {
     match o {
         Outcome::Found(_) => 1,
@@ -23,7 +23,7 @@ pub fn count_of(o: Outcome) -> u64
 
 // 1 of a refused file, 0 of an accepted one.
 pub fn refused_of(o: Outcome) -> u64
-    ensures { result ≡ refusedIn o }
+    ensures { result ≡ refused_in o }
 {
     match o {
         Outcome::Found(_) => 1,
@@ -36,7 +36,7 @@ pub fn refused_of(o: Outcome) -> u64
 
 // The findings, one after the other. A file that warns of nothing is not gone over again.
 pub fn put_findings(out: &mut [u8], to: usize, t: Telling, f: &[u8], o: Outcome) -> usize
-    requires sane { Sane t.sheet × (realDay t.today ≡ true) }
+    requires sane { Sane t.sheet × (real_day t.today ≡ true) }
     requires comes { Comes t.sheet t.today f.now o }
     ensures { Counted out.old to (listed t f.now (findings t.sheet t.today f.now)) out.new result }
 {

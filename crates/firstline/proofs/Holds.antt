@@ -9,7 +9,7 @@ use lib.Seq.{drop-drop}
 use borrow.Author.Tests.{ltb-false}
 use Rattle.base.proofs.Cases.{either}
 use Rattle.paper.specs.Read.{Field, value, fault}
-use Rattle.paper.specs.Entries.{Said, got, no, onField, place}
+use Rattle.paper.specs.Entries.{Said, got, no, on_field, place}
 
 unfoldable pub Holds : {Z : Type 0} → (Z → Type 0) → (ℕ → ℕ → Type 0) → Said Z → Type 0
 Holds P Q (got x) = P x
@@ -35,8 +35,8 @@ module _ {Z : Type 0} (P : Z → Type 0) (Q : ℕ → ℕ → Type 0) where
 
   -- the places that a field may be refused at are good
   module _ {A : Type 0} (at : ℕ) (q : (c : ℕ) → Q c at) where
-    pub on-holds : (x : Field A) (k : A → Said Z) → ((v : A) → x ≡ value v → Holds P Q (k v)) → Holds P Q (onField at x k)
-    unfolding onField Holds
+    pub on-holds : (x : Field A) (k : A → Said Z) → ((v : A) → x ≡ value v → Holds P Q (k v)) → Holds P Q (on_field at x k)
+    unfolding on_field Holds
     on-holds (value v) k h = h v refl
     on-holds (fault c) k h = q c
 

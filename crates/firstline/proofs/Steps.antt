@@ -12,16 +12,16 @@ use Rattle.base.specs.Seek.{all}
 use Rattle.base.proofs.Cases.{pick_true, picks}
 use Rattle.base.proofs.Lists.{drop-none}
 use Rattle.paper.specs.Read.{Field, value, fault}
-use Rattle.paper.specs.Bytes.{isText}
-use Rattle.paper.specs.Days.{shortDay, readDay}
-use Rattle.paper.specs.Entries.{Said, no, onField, place}
-use Rattle.paper.specs.FirstLine.{textField, readRest, restLength}
+use Rattle.paper.specs.Bytes.{is_text}
+use Rattle.paper.specs.Days.{short_day, read_day}
+use Rattle.paper.specs.Entries.{Said, no, on_field, place}
+use Rattle.paper.specs.FirstLine.{text_field, read_rest, rest_length}
 use Rattle.numeral.specs.declared.Num.{Num}
 use Rattle.numeral.specs.declared.Num.TheVariants.{Value, Refused}
 use Rattle.numeral.specs.Told.{told}
 use Rattle.numeral.proofs.given.Steps.{steps}
 use Rattle.numeral.proofs.field.Steps.{step-place, step-no-place, step_given, step-fault}
-use Rattle.firstline.specs.Stages.{restTaken}
+use Rattle.firstline.specs.Stages.{rest_taken}
 
 -- a line that ends before the date does
 pub step-no-date : {Z : Type 0} {A : Type 0} (r : Said Z) (read : List ℕ → Field A) (s : List ℕ) (k : A → ℕ → List ℕ → Said Z) → length s < 10 → r ≡ no 4 4 → r ≡ place 6 read 4 (drop 4 s) k
@@ -29,14 +29,14 @@ unfolding place
 step-no-date r read s k h q = q ∙ sym (pick_true _ _ (lt-ltb (length (drop 4 s)) 6 (omega (arith, length-drop 4 s))))
 
 -- a date of six bytes: m is what the reader of dates answered
-module _ {Z : Type 0} (r : Said Z) (at : ℕ) (s : List ℕ) (k : ℕ → Said Z) (m : Num) (g : told m ≡ readDay false s) where
-  pub step-day : (v : ℕ) → m ≡ Value v → r ≡ k v → r ≡ onField at (shortDay s) k
-  unfolding readDay pick
-  step-day v f q = step_given r at (shortDay s) k m g v f q
+module _ {Z : Type 0} (r : Said Z) (at : ℕ) (s : List ℕ) (k : ℕ → Said Z) (m : Num) (g : told m ≡ read_day false s) where
+  pub step-day : (v : ℕ) → m ≡ Value v → r ≡ k v → r ≡ on_field at (short_day s) k
+  unfolding read_day pick
+  step-day v f q = step_given r at (short_day s) k m g v f q
 
-  pub step-no-day : (c : ℕ) → m ≡ Refused c → r ≡ no c at → r ≡ onField at (shortDay s) k
-  unfolding readDay pick
-  step-no-day c f q = step-fault r at (shortDay s) k m g c f q
+  pub step-no-day : (c : ℕ) → m ≡ Refused c → r ≡ no c at → r ≡ on_field at (short_day s) k
+  unfolding read_day pick
+  step-no-day c f q = step-fault r at (short_day s) k m g c f q
 
 -- two tests that must both pass
 both : {A : Type 0} (t u : Bool) (a b : A) → pick t (pick u a b) b ≡ pick (pick t u false) a b
@@ -44,28 +44,28 @@ unfolding pick
 both true u a b = refl
 both false u a b = refl
 
-pub rest-field : (short : Bool) (s : List ℕ) → readRest short s ≡ pick (restTaken short s) (value s) (fault 4)
-unfolding readRest textField restTaken
-rest-field short s = both (restLength short (length s)) (all isText s) (value s) (fault 4)
+pub rest-field : (short : Bool) (s : List ℕ) → read_rest short s ≡ pick (rest_taken short s) (value s) (fault 4)
+unfolding read_rest text_field rest_taken
+rest-field short s = both (rest_length short (length s)) (all is_text s) (value s) (fault 4)
 
 -- text bytes: t is what the code's test answered
 module _ {Z : Type 0} (r : Said Z) (at : ℕ) (s : List ℕ) (k : List ℕ → Said Z) (t : Bool) where
-  module _ (g : t ≡ all isText (drop 0 s)) where
-    pub step-text : t ≡ true → r ≡ k s → r ≡ onField at (textField s) k
-    unfolding textField onField pick
-    step-text e q = q ∙ rw (sym (ap (all isText) (drop-none s)) ∙ sym g ∙ e)
+  module _ (g : t ≡ all is_text (drop 0 s)) where
+    pub step-text : t ≡ true → r ≡ k s → r ≡ on_field at (text_field s) k
+    unfolding text_field on_field pick
+    step-text e q = q ∙ rw (sym (ap (all is_text) (drop-none s)) ∙ sym g ∙ e)
 
-    pub step-no-text : t ≡ false → r ≡ no 4 at → r ≡ onField at (textField s) k
-    unfolding textField onField pick
-    step-no-text e q = q ∙ rw (sym (ap (all isText) (drop-none s)) ∙ sym g ∙ e)
+    pub step-no-text : t ≡ false → r ≡ no 4 at → r ≡ on_field at (text_field s) k
+    unfolding text_field on_field pick
+    step-no-text e q = q ∙ rw (sym (ap (all is_text) (drop-none s)) ∙ sym g ∙ e)
 
-  module _ (short : Bool) (g : t ≡ restTaken short s) where
-    pub step-rest : t ≡ true → r ≡ k s → r ≡ onField at (readRest short s) k
-    unfolding onField pick
+  module _ (short : Bool) (g : t ≡ rest_taken short s) where
+    pub step-rest : t ≡ true → r ≡ k s → r ≡ on_field at (read_rest short s) k
+    unfolding on_field pick
     step-rest e q = q ∙ rw (rest-field short s, ← g, e)
 
-    pub step-no-rest : t ≡ false → r ≡ no 4 at → r ≡ onField at (readRest short s) k
-    unfolding onField pick
+    pub step-no-rest : t ≡ false → r ≡ no 4 at → r ≡ on_field at (read_rest short s) k
+    unfolding on_field pick
     step-no-rest e q = q ∙ rw (rest-field short s, ← g, e)
 
 pub ruleset fields = (step-no-date, step-place, step-no-place, step-day, step-no-day, step_given, step-fault, step-text, step-no-text, step-rest, step-no-rest)
@@ -87,13 +87,13 @@ module _ (ordered : Bool) (from to : ℕ) where
 
 -- ---- the rest: t is what the test of its length answered
 
-module _ (short : Bool) (s : List ℕ) (at : ℕ) (t : Bool) (g : t ≡ restLength short (length s - at)) where
-  pub rest-on : (r : Bool) → t ≡ true → r ≡ all isText (drop at s) → r ≡ restTaken short (drop at s)
-  unfolding restTaken pick
+module _ (short : Bool) (s : List ℕ) (at : ℕ) (t : Bool) (g : t ≡ rest_length short (length s - at)) where
+  pub rest-on : (r : Bool) → t ≡ true → r ≡ all is_text (drop at s) → r ≡ rest_taken short (drop at s)
+  unfolding rest_taken pick
   rest-on r e q = q ∙ rw (length-drop, ← g, e)
 
-  pub rest-not : t ≡ false → false ≡ restTaken short (drop at s)
-  unfolding restTaken pick
+  pub rest-not : t ≡ false → false ≡ rest_taken short (drop at s)
+  unfolding rest_taken pick
   rest-not e = rw (length-drop, ← g, e)
 
 pub ruleset rests = (to_below, to-above, to_free, rest-on, rest-not, steps, picks)

@@ -1,8 +1,8 @@
 // The first line of a file: its fields by place, from left to right.
 ghost use Rattle.std.specs.Prelude.{◌≡◌, ◌≤◌, length, drop};
 ghost use Rattle.numeral.specs.Told as num;
-ghost use Rattle.paper.specs.FirstLine.{restLength, readTo, read_first};
-ghost use Rattle.firstline.specs.Stages.{nameIn, onDate, onName, onClient, onFrom, onTo, restTaken};
+ghost use Rattle.paper.specs.FirstLine.{rest_length, read_to, read_first};
+ghost use Rattle.firstline.specs.Stages.{name_in, on_date, on_name, on_client, on_from, on_to, rest_taken};
 ghost use Rattle.firstline.specs.Told.{told, Sound};
 
 use numeral::Num;
@@ -35,7 +35,7 @@ pub fn first_line(s: &[u8], sh: Sheet) -> FirstRead
 
 // The creation date, and what follows it.
 fn read_date(s: &[u8], ordered: bool, short: bool) -> FirstRead
-    ensures { told s.now result ≡ onDate ordered short 4 (drop 4 s.now) }
+    ensures { told s.now result ≡ on_date ordered short 4 (drop 4 s.now) }
 {
     if s.len() < 10 {
         return FirstRead::Refused(4, 4);
@@ -49,7 +49,7 @@ fn read_date(s: &[u8], ordered: bool, short: bool) -> FirstRead
 // The name, and what follows it.
 fn read_name(s: &[u8], ordered: bool, short: bool, date: u64) -> FirstRead
     requires { 10 ≤ length s.now }
-    ensures { told s.now result ≡ onName ordered short date 10 (drop 10 s.now) }
+    ensures { told s.now result ≡ on_name ordered short date 10 (drop 10 s.now) }
 {
     if s.len() < 30 {
         return FirstRead::Refused(4, 10);
@@ -63,7 +63,7 @@ fn read_name(s: &[u8], ordered: bool, short: bool, date: u64) -> FirstRead
 // The client number, and what follows it.
 fn read_client(s: &[u8], ordered: bool, short: bool, date: u64) -> FirstRead
     requires { 30 ≤ length s.now }
-    ensures { told s.now result ≡ onClient ordered short date (nameIn s.now) 30 (drop 30 s.now) }
+    ensures { told s.now result ≡ on_client ordered short date (name_in s.now) 30 (drop 30 s.now) }
 {
     if s.len() < 40 {
         return FirstRead::Refused(4, 30);
@@ -77,7 +77,7 @@ fn read_client(s: &[u8], ordered: bool, short: bool, date: u64) -> FirstRead
 // The interval's start, and what follows it.
 fn read_start(s: &[u8], ordered: bool, short: bool, date: u64, client: u64) -> FirstRead
     requires { 40 ≤ length s.now }
-    ensures { told s.now result ≡ onFrom ordered short date (nameIn s.now) client 40 (drop 40 s.now) }
+    ensures { told s.now result ≡ on_from ordered short date (name_in s.now) client 40 (drop 40 s.now) }
 {
     if s.len() < 43 {
         return FirstRead::Refused(4, 40);
@@ -91,7 +91,7 @@ fn read_start(s: &[u8], ordered: bool, short: bool, date: u64, client: u64) -> F
 // The interval's end, and the rest.
 fn read_stop(s: &[u8], ordered: bool, short: bool, date: u64, client: u64, from: u64) -> FirstRead
     requires { 43 ≤ length s.now }
-    ensures { told s.now result ≡ onTo ordered short date (nameIn s.now) client from 43 (drop 43 s.now) }
+    ensures { told s.now result ≡ on_to ordered short date (name_in s.now) client from 43 (drop 43 s.now) }
 {
     if s.len() < 46 {
         return FirstRead::Refused(4, 43);
@@ -114,7 +114,7 @@ fn read_stop(s: &[u8], ordered: bool, short: bool, date: u64, client: u64, from:
 
 // The interval's end by itself: where `ordered`, it is not below the start.
 fn last_number(f: &[u8], ordered: bool, from: u64) -> Num
-    ensures { num.told result ≡ readTo ordered from f.now }
+    ensures { num.told result ≡ read_to ordered from f.now }
 {
     match numeral::read_digits(f, 3, 3) {
         Num::Value(to) => {
@@ -132,7 +132,7 @@ fn last_number(f: &[u8], ordered: bool, from: u64) -> Num
 // May the line have as many bytes as it has, and are those behind byte 46 text?
 fn rest_taken(s: &[u8], short: bool) -> bool
     requires { 46 ≤ length s.now }
-    ensures { result ≡ restTaken short (drop 46 s.now) }
+    ensures { result ≡ rest_taken short (drop 46 s.now) }
 {
     if rest_length(s.len() - 46, short) {
         return scan::seek::all_text(s, 46);
@@ -142,7 +142,7 @@ fn rest_taken(s: &[u8], short: bool) -> bool
 
 // May the rest have n bytes?
 fn rest_length(n: usize, short: bool) -> bool
-    ensures { result ≡ restLength short n }
+    ensures { result ≡ rest_length short n }
 {
     if n == 12 {
         return true;

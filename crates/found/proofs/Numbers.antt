@@ -4,7 +4,7 @@ use Rattle.sheet.specs.declared.Sheet.{Sheet}
 use Rattle.paper.specs.Batch.{sum}
 use Rattle.paper.specs.Lines.{Line}
 use Rattle.paper.specs.Entries.{Kind}
-use Rattle.paper.specs.Judge.{State, atFirst, atFile, atGroup, atItem, stop, revOn}
+use Rattle.paper.specs.Judge.{State, at_first, at_file, at_group, at_item, stop, rev_on}
 use Rattle.paper.proofs.Lists.{empty-null, sum-rev}
 use Rattle.tally.specs.Abs.{abs}
 use Rattle.tally.proofs.Same.{contexts, dues, fulls}
@@ -13,36 +13,36 @@ use Rattle.found.specs.Numbers as numbers
 
 -- 3, 15 and 10, by cases of the state
 
-due-causes : (st : State) → why.dueCause st ≡ numbers.dueCause (abs st)
-unfolding abs why.dueCause numbers.dueCause
-due-causes atFirst = refl
-due-causes (atFile x) = rw (← (empty-null x.files))
-due-causes (atGroup x) = rw (← (empty-null x.groups))
-due-causes (atItem x) = rw (← (empty-null x.items))
+due-causes : (st : State) → why.due_cause st ≡ numbers.due_cause (abs st)
+unfolding abs why.due_cause numbers.due_cause
+due-causes at_first = refl
+due-causes (at_file x) = rw (← (empty-null x.files))
+due-causes (at_group x) = rw (← (empty-null x.groups))
+due-causes (at_item x) = rw (← (empty-null x.items))
 due-causes (stop a) = refl
 
-full-causes : (st : State) → why.fullCause st ≡ numbers.fullCause (abs st)
-unfolding abs why.fullCause numbers.fullCause
-full-causes atFirst = refl
-full-causes (atFile x) = refl
-full-causes (atGroup x) = refl
-full-causes (atItem x) = refl
+full-causes : (st : State) → why.full_cause st ≡ numbers.full_cause (abs st)
+unfolding abs why.full_cause numbers.full_cause
+full-causes at_first = refl
+full-causes (at_file x) = refl
+full-causes (at_group x) = refl
+full-causes (at_item x) = refl
 full-causes (stop a) = refl
 
-full-limits : (sh : Sheet) (st : State) → why.fullLimit sh st ≡ numbers.fullLimit sh (abs st)
-unfolding abs why.fullLimit numbers.fullLimit
-full-limits sh atFirst = refl
-full-limits sh (atFile x) = refl
-full-limits sh (atGroup x) = refl
-full-limits sh (atItem x) = refl
+full-limits : (sh : Sheet) (st : State) → why.full_limit sh st ≡ numbers.full_limit sh (abs st)
+unfolding abs why.full_limit numbers.full_limit
+full-limits sh at_first = refl
+full-limits sh (at_file x) = refl
+full-limits sh (at_group x) = refl
+full-limits sh (at_item x) = refl
 full-limits sh (stop a) = refl
 
-totals : (f : List ℕ) (st : State) → why.atTotal f st ≡ numbers.atTotal f (abs st)
-unfolding abs why.atTotal why.totalFound numbers.atTotal numbers.totalFound sum
-totals f atFirst = refl
-totals f (atFile x) = refl
-totals f (atGroup x) = refl
-totals f (atItem x) = let s : sum (revOn x.items []) ≡ sum x.items = omega (arith, sum-rev x.items []) in rw s
+totals : (f : List ℕ) (st : State) → why.at_total f st ≡ numbers.at_total f (abs st)
+unfolding abs why.at_total why.total_found numbers.at_total numbers.total_found sum
+totals f at_first = refl
+totals f (at_file x) = refl
+totals f (at_group x) = refl
+totals f (at_item x) = let s : sum (rev_on x.items []) ≡ sum x.items = omega (arith, sum-rev x.items []) in rw s
 totals f (stop a) = refl
 
 -- at the file's end
@@ -53,6 +53,6 @@ earlies n k st = rw (due-causes st)
 -- in a line
 pub blames : (sh : Sheet) (today : ℕ) (f : List ℕ) (k : ℕ) (t : Line) (kind : Kind) (st : State)
     → why.blame sh today f k t kind st ≡ numbers.blame sh today f k t kind (abs st)
-unfolding why.blame numbers.blame why.notDue numbers.notDue why.tooMany numbers.tooMany
+unfolding why.blame numbers.blame why.not_due numbers.not_due why.too_many numbers.too_many
 blames sh today f k t kind st =
     rw (due-causes st, full-causes st, full-limits sh st, totals f st, contexts st, dues kind st, fulls sh kind st)

@@ -8,20 +8,20 @@ use Rattle.paper.specs.Judge.{code}
 use Rattle.scan.specs.declared.kind.LineKind.{LineKind}
 use Rattle.scan.specs.kind.Told.{told}
 use Rattle.fileline.specs.declared.seen.Seen.{Seen}
-use Rattle.tally.specs.Tally.{isDue, isFull}
+use Rattle.tally.specs.Tally.{is_due, is_full}
 use Rattle.judge.specs.declared.group.Counts.{Counts}
 use Rattle.judge.specs.declared.group.Shelf.{Shelf}
 use Rattle.judge.specs.declared.group.Held.{Held}
-use Rattle.judge.specs.group.Stands.{openOf}
+use Rattle.judge.specs.group.Stands.{open_of}
 use Rattle.why.specs.declared.Finding.{Finding}
-use Rattle.why.specs.Names.{groupTotal}
+use Rattle.why.specs.Names.{group_total}
 use Rattle.why.specs.Finding.{finding}
 use Rattle.fault.specs.declared.known.Bearing.{Bearing}
 use Rattle.course.specs.declared.Stage.{Stage}
 use Rattle.course.specs.declared.Stage.TheVariants as stage
-use Rattle.course.specs.Stands.{numbersOf}
-use Rattle.found.specs.Numbers.{dueCause, fullCause, fullLimit, totalFound, atTotal}
-use Rattle.found.specs.Bearings.{bearing, bearingAt}
+use Rattle.course.specs.Stands.{numbers_of}
+use Rattle.found.specs.Numbers.{due_cause, full_cause, full_limit, total_found, at_total}
+use Rattle.found.specs.Bearings.{bearing, bearing_at}
 
 -- the kind of a line as a number: r is what was found, v its name
 pub coded : (w : List ℕ) (r : LineKind) → told r ≡ kind_of w → (v : LineKind) → r ≡ v → (n : ℕ) → n ≡ code (told v) → n ≡ code (kind_of w)
@@ -31,126 +31,126 @@ module _ (s : Stage) where
   module _ (h : Header) (l : List ℕ) where
     -- ---- what is due, and when it is full: m is the number of the kind k
     module _ (m : ℕ) (k : Kind) (q : m ≡ code k) where
-      pub due-first : s ≡ stage.First → eqb 0 m ≡ isDue (numbersOf h l s) k
-      unfolding isDue
+      pub due-first : s ≡ stage.First → eqb 0 m ≡ is_due (numbers_of h l s) k
+      unfolding is_due
       due-first e = rw (e, q)
 
-      pub due-file : (c : Counts) → s ≡ stage.File c → eqb 1 m ≡ isDue (numbersOf h l s) k
-      unfolding isDue
+      pub due-file : (c : Counts) → s ≡ stage.File c → eqb 1 m ≡ is_due (numbers_of h l s) k
+      unfolding is_due
       due-file c e = rw (e, q)
 
       pub due-group : (c : Counts) (x : Shelf) → s ≡ stage.Group c x → (r : Bool)
-          → r ≡ pick (eqb 2 m) true (pick (eqb 5 m) (pick (eqb x.groups 0) false true) false) → r ≡ isDue (numbersOf h l s) k
-      unfolding isDue
+          → r ≡ pick (eqb 2 m) true (pick (eqb 5 m) (pick (eqb x.groups 0) false true) false) → r ≡ is_due (numbers_of h l s) k
+      unfolding is_due
       due-group c x e r f = f ∙ rw (e, q)
 
       pub due-item : (x : Held) → s ≡ stage.Item x → (r : Bool)
-          → r ≡ pick (eqb 3 m) true (pick (eqb 4 m) (pick (eqb x.opened.count 0) false true) false) → r ≡ isDue (numbersOf h l s) k
-      unfolding isDue
+          → r ≡ pick (eqb 3 m) true (pick (eqb 4 m) (pick (eqb x.opened.count 0) false true) false) → r ≡ is_due (numbers_of h l s) k
+      unfolding is_due
       due-item x e r f = f ∙ rw (e, q)
 
       module _ (sh : Sheet) where
-        pub full-first : s ≡ stage.First → false ≡ isFull sh (numbersOf h l s) k
-        unfolding isFull
+        pub full-first : s ≡ stage.First → false ≡ is_full sh (numbers_of h l s) k
+        unfolding is_full
         full-first e = rw e
 
-        pub full-file : (c : Counts) → s ≡ stage.File c → leb 1000 c.files ≡ isFull sh (numbersOf h l s) k
-        unfolding isFull
+        pub full-file : (c : Counts) → s ≡ stage.File c → leb 1000 c.files ≡ is_full sh (numbers_of h l s) k
+        unfolding is_full
         full-file c e = rw e
 
-        pub full-group : (c : Counts) (x : Shelf) → s ≡ stage.Group c x → false ≡ isFull sh (numbersOf h l s) k
-        unfolding isFull
+        pub full-group : (c : Counts) (x : Shelf) → s ≡ stage.Group c x → false ≡ is_full sh (numbers_of h l s) k
+        unfolding is_full
         full-group c x e = rw e
 
         pub full-item : (x : Held) → s ≡ stage.Item x → (r : Bool)
-            → r ≡ pick (eqb 3 m) (pick (leb 99999 x.shelf.items) true (leb sh.fileitems x.counts.items)) false → r ≡ isFull sh (numbersOf h l s) k
-        unfolding isFull
+            → r ≡ pick (eqb 3 m) (pick (leb 99999 x.shelf.items) true (leb sh.fileitems x.counts.items)) false → r ≡ is_full sh (numbers_of h l s) k
+        unfolding is_full
         full-item x e r f = f ∙ rw (e, q)
 
     -- ---- the causes
 
-    pub cause-first : s ≡ stage.First → 30 ≡ dueCause (numbersOf h l s)
-    unfolding dueCause
+    pub cause-first : s ≡ stage.First → 30 ≡ due_cause (numbers_of h l s)
+    unfolding due_cause
     cause-first e = rw e
 
-    pub cause-file : (c : Counts) → s ≡ stage.File c → (r : ℕ) → r ≡ pick (eqb c.files 0) 31 36 → r ≡ dueCause (numbersOf h l s)
-    unfolding dueCause
+    pub cause-file : (c : Counts) → s ≡ stage.File c → (r : ℕ) → r ≡ pick (eqb c.files 0) 31 36 → r ≡ due_cause (numbers_of h l s)
+    unfolding due_cause
     cause-file c e r f = f ∙ rw e
 
-    pub cause-group : (c : Counts) (x : Shelf) → s ≡ stage.Group c x → (r : ℕ) → r ≡ pick (eqb x.groups 0) 32 35 → r ≡ dueCause (numbersOf h l s)
-    unfolding dueCause
+    pub cause-group : (c : Counts) (x : Shelf) → s ≡ stage.Group c x → (r : ℕ) → r ≡ pick (eqb x.groups 0) 32 35 → r ≡ due_cause (numbers_of h l s)
+    unfolding due_cause
     cause-group c x e r f = f ∙ rw e
 
-    pub cause-item : (x : Held) → s ≡ stage.Item x → (r : ℕ) → r ≡ pick (eqb x.opened.count 0) 33 34 → r ≡ dueCause (numbersOf h l s)
-    unfolding dueCause
+    pub cause-item : (x : Held) → s ≡ stage.Item x → (r : ℕ) → r ≡ pick (eqb x.opened.count 0) 33 34 → r ≡ due_cause (numbers_of h l s)
+    unfolding due_cause
     cause-item x e r f = f ∙ rw e
 
-    pub limit-first : s ≡ stage.First → 150 ≡ fullCause (numbersOf h l s)
-    unfolding fullCause
+    pub limit-first : s ≡ stage.First → 150 ≡ full_cause (numbers_of h l s)
+    unfolding full_cause
     limit-first e = rw e
 
-    pub limit-file : (c : Counts) → s ≡ stage.File c → 150 ≡ fullCause (numbersOf h l s)
-    unfolding fullCause
+    pub limit-file : (c : Counts) → s ≡ stage.File c → 150 ≡ full_cause (numbers_of h l s)
+    unfolding full_cause
     limit-file c e = rw e
 
-    pub limit-group : (c : Counts) (x : Shelf) → s ≡ stage.Group c x → 150 ≡ fullCause (numbersOf h l s)
-    unfolding fullCause
+    pub limit-group : (c : Counts) (x : Shelf) → s ≡ stage.Group c x → 150 ≡ full_cause (numbers_of h l s)
+    unfolding full_cause
     limit-group c x e = rw e
 
-    pub limit-item : (x : Held) → s ≡ stage.Item x → (r : ℕ) → r ≡ pick (leb 99999 x.shelf.items) 151 152 → r ≡ fullCause (numbersOf h l s)
-    unfolding fullCause
+    pub limit-item : (x : Held) → s ≡ stage.Item x → (r : ℕ) → r ≡ pick (leb 99999 x.shelf.items) 151 152 → r ≡ full_cause (numbers_of h l s)
+    unfolding full_cause
     limit-item x e r f = f ∙ rw e
 
     module _ (sh : Sheet) where
-      pub most-first : s ≡ stage.First → 1000 ≡ fullLimit sh (numbersOf h l s)
-      unfolding fullLimit
+      pub most-first : s ≡ stage.First → 1000 ≡ full_limit sh (numbers_of h l s)
+      unfolding full_limit
       most-first e = rw e
 
-      pub most-file : (c : Counts) → s ≡ stage.File c → 1000 ≡ fullLimit sh (numbersOf h l s)
-      unfolding fullLimit
+      pub most-file : (c : Counts) → s ≡ stage.File c → 1000 ≡ full_limit sh (numbers_of h l s)
+      unfolding full_limit
       most-file c e = rw e
 
-      pub most-group : (c : Counts) (x : Shelf) → s ≡ stage.Group c x → 1000 ≡ fullLimit sh (numbersOf h l s)
-      unfolding fullLimit
+      pub most-group : (c : Counts) (x : Shelf) → s ≡ stage.Group c x → 1000 ≡ full_limit sh (numbers_of h l s)
+      unfolding full_limit
       most-group c x e = rw e
 
       pub most-item : (x : Held) → s ≡ stage.Item x → (r : ℕ) → r ≡ pick (leb 99999 x.shelf.items) 99999 sh.fileitems
-          → r ≡ fullLimit sh (numbersOf h l s)
-      unfolding fullLimit
+          → r ≡ full_limit sh (numbers_of h l s)
+      unfolding full_limit
       most-item x e r f = f ∙ rw e
 
     -- ---- the total
 
     module _ (f : List ℕ) (r : Finding) where
-      pub total_first : s ≡ stage.First → r ≡ finding 10 100 0 0 0 groupTotal 0 0 → r ≡ atTotal f (numbersOf h l s)
-      unfolding atTotal
+      pub total_first : s ≡ stage.First → r ≡ finding 10 100 0 0 0 group_total 0 0 → r ≡ at_total f (numbers_of h l s)
+      unfolding at_total
       total_first e g = g ∙ rw e
 
-      pub total-file : (c : Counts) → s ≡ stage.File c → r ≡ finding 10 100 0 0 0 groupTotal 0 0 → r ≡ atTotal f (numbersOf h l s)
-      unfolding atTotal
+      pub total-file : (c : Counts) → s ≡ stage.File c → r ≡ finding 10 100 0 0 0 group_total 0 0 → r ≡ at_total f (numbers_of h l s)
+      unfolding at_total
       total-file c e g = g ∙ rw e
 
-      pub total-group : (c : Counts) (x : Shelf) → s ≡ stage.Group c x → r ≡ finding 10 100 0 0 0 groupTotal 0 0 → r ≡ atTotal f (numbersOf h l s)
-      unfolding atTotal
+      pub total-group : (c : Counts) (x : Shelf) → s ≡ stage.Group c x → r ≡ finding 10 100 0 0 0 group_total 0 0 → r ≡ at_total f (numbers_of h l s)
+      unfolding at_total
       total-group c x e g = g ∙ rw e
 
-      pub total-item : (x : Held) → s ≡ stage.Item x → r ≡ totalFound f (openOf x.opened) → r ≡ atTotal f (numbersOf h l s)
-      unfolding atTotal
+      pub total-item : (x : Held) → s ≡ stage.Item x → r ≡ total_found f (open_of x.opened) → r ≡ at_total f (numbers_of h l s)
+      unfolding at_total
       total-item x e g = g ∙ rw e
 
   -- ---- what is known of a line
 
   module _ (from to : ℕ) (seen : Seen) (r : Bearing) where
-    pub bear-first : s ≡ stage.First → r ≡ bearing 0 0 false from to seen → r ≡ bearingAt s from to seen
+    pub bear-first : s ≡ stage.First → r ≡ bearing 0 0 false from to seen → r ≡ bearing_at s from to seen
     bear-first e g = g ∙ rw e
 
-    pub bear-file : (c : Counts) → s ≡ stage.File c → r ≡ bearing 0 0 false from to seen → r ≡ bearingAt s from to seen
+    pub bear-file : (c : Counts) → s ≡ stage.File c → r ≡ bearing 0 0 false from to seen → r ≡ bearing_at s from to seen
     bear-file c e g = g ∙ rw e
 
-    pub bear-group : (c : Counts) (x : Shelf) → s ≡ stage.Group c x → r ≡ bearing x.kind 0 false from to seen → r ≡ bearingAt s from to seen
+    pub bear-group : (c : Counts) (x : Shelf) → s ≡ stage.Group c x → r ≡ bearing x.kind 0 false from to seen → r ≡ bearing_at s from to seen
     bear-group c x e g = g ∙ rw e
 
-    pub bear-item : (x : Held) → s ≡ stage.Item x → r ≡ bearing x.shelf.kind x.opened.date x.opened.single from to seen → r ≡ bearingAt s from to seen
+    pub bear-item : (x : Held) → s ≡ stage.Item x → r ≡ bearing x.shelf.kind x.opened.date x.opened.single from to seen → r ≡ bearing_at s from to seen
     bear-item x e g = g ∙ rw e
 
 pub ruleset dues = (due-first, due-file, due-group, due-item)

@@ -3,18 +3,18 @@ ghost use Rattle.std.specs.Prelude.{◌≡◌, ℕ, ◌+◌, ◌-◌, ◌%◌, �
 ghost use Rattle.base.specs.Pick.{pick};
 ghost use Rattle.sheet.proofs.Laws.{Sane};
 ghost use Rattle.paper.specs.Bytes.{field_of};
-ghost use Rattle.paper.specs.Days.{realDay};
+ghost use Rattle.paper.specs.Days.{real_day};
 ghost use Rattle.paper.specs.Batch.{Header};
 ghost use Rattle.paper.specs.Lines.{line as line'};
 ghost use Rattle.paper.specs.Entries.{Kind, kind_of};
 ghost use Rattle.paper.specs.Judge.{State, code};
-ghost use Rattle.tally.specs.Tally.{isDue, isFull};
-ghost use Rattle.judge.specs.group.Stands.{openOf, lineIn};
-ghost use Rattle.why.specs.Names.{groupTotal, wholeLine};
+ghost use Rattle.tally.specs.Tally.{is_due, is_full};
+ghost use Rattle.judge.specs.group.Stands.{open_of, line_in};
+ghost use Rattle.why.specs.Names.{group_total, whole_line};
 ghost use Rattle.why.specs.Finding.{finding, blame, early};
-ghost use Rattle.course.specs.Stands.{numbersOf, Stands};
-ghost use Rattle.found.specs.Numbers.{dueCause, notDue, fullCause, fullLimit, tooMany, totalFound, atTotal};
-ghost use Rattle.found.specs.Bearings.{bearing, bearingAt, Faults};
+ghost use Rattle.course.specs.Stands.{numbers_of, Stands};
+ghost use Rattle.found.specs.Numbers.{due_cause, not_due, full_cause, full_limit, too_many, total_found, at_total};
+ghost use Rattle.found.specs.Bearings.{bearing, bearing_at, Faults};
 
 use course::{Course, Stage};
 use fault::known::Bearing;
@@ -59,7 +59,7 @@ fn more_or_end(kind: u64, more: u64, end: u64, some: u64) -> bool
 
 // Is a line of this kind due?
 fn is_due(stage: Stage, kind: u64) -> bool
-    ensures { (h : Header) (l : List ℕ) (k : Kind) → kind ≡ code k → result ≡ isDue (numbersOf h l stage) k }
+    ensures { (h : Header) (l : List ℕ) (k : Kind) → kind ≡ code k → result ≡ is_due (numbers_of h l stage) k }
 {
     match stage {
         Stage::First => 0 == kind,
@@ -84,7 +84,7 @@ fn items_full(kind: u64, inside: u64, items: u64, most: u64) -> bool
 
 // Is there no room for one line more of this kind?
 fn is_full(sh: Sheet, stage: Stage, kind: u64) -> bool
-    ensures { (h : Header) (l : List ℕ) (k : Kind) → kind ≡ code k → result ≡ isFull sh (numbersOf h l stage) k }
+    ensures { (h : Header) (l : List ℕ) (k : Kind) → kind ≡ code k → result ≡ is_full sh (numbers_of h l stage) k }
 {
     match stage {
         Stage::First => false,
@@ -97,7 +97,7 @@ fn is_full(sh: Sheet, stage: Stage, kind: u64) -> bool
 // All of the line from `at` to `stop` was found.
 fn whole_line(number: u64, cause: u64, at: usize, stop: usize, line: u64, most: u64) -> Finding
     requires { at ≤ stop }
-    ensures { result ≡ finding number cause line at (stop - at) wholeLine 0 most }
+    ensures { result ≡ finding number cause line at (stop - at) whole_line 0 most }
 {
     Finding {
         number,
@@ -125,7 +125,7 @@ fn by_count(n: u64, none: u64, some: u64) -> u64
 
 // The cause where another line was due.
 fn due_cause(stage: Stage) -> u64
-    ensures { (h : Header) (l : List ℕ) → result ≡ dueCause (numbersOf h l stage) }
+    ensures { (h : Header) (l : List ℕ) → result ≡ due_cause (numbers_of h l stage) }
 {
     match stage {
         Stage::First => 30,
@@ -138,7 +138,7 @@ fn due_cause(stage: Stage) -> u64
 // The line from `at` to `stop`, which is not due.
 fn not_due(stage: Stage, at: usize, stop: usize, line: u64) -> Finding
     requires { at ≤ stop }
-    ensures { (f : List ℕ) → stop ≤ length f → (h : Header) (l : List ℕ) → result ≡ notDue line (lineIn f at stop) (numbersOf h l stage) }
+    ensures { (f : List ℕ) → stop ≤ length f → (h : Header) (l : List ℕ) → result ≡ not_due line (line_in f at stop) (numbers_of h l stage) }
 {
     whole_line(3, due_cause(stage), at, stop, line, 0)
 }
@@ -157,7 +157,7 @@ fn by_limit(inside: u64, here: u64, whole: u64) -> u64
 
 // The cause, by how many items the account file has.
 fn full_cause(stage: Stage) -> u64
-    ensures { (h : Header) (l : List ℕ) → result ≡ fullCause (numbersOf h l stage) }
+    ensures { (h : Header) (l : List ℕ) → result ≡ full_cause (numbers_of h l stage) }
 {
     match stage {
         Stage::First => 150,
@@ -169,7 +169,7 @@ fn full_cause(stage: Stage) -> u64
 
 // So many were allowed.
 fn full_limit(sh: Sheet, stage: Stage) -> u64
-    ensures { (h : Header) (l : List ℕ) → result ≡ fullLimit sh (numbersOf h l stage) }
+    ensures { (h : Header) (l : List ℕ) → result ≡ full_limit sh (numbers_of h l stage) }
 {
     match stage {
         Stage::First => 1000,
@@ -182,7 +182,7 @@ fn full_limit(sh: Sheet, stage: Stage) -> u64
 // The line from `at` to `stop`, which is one too many.
 fn too_many(sh: Sheet, stage: Stage, at: usize, stop: usize, line: u64) -> Finding
     requires { at ≤ stop }
-    ensures { (f : List ℕ) → stop ≤ length f → (h : Header) (l : List ℕ) → result ≡ tooMany sh line (lineIn f at stop) (numbersOf h l stage) }
+    ensures { (f : List ℕ) → stop ≤ length f → (h : Header) (l : List ℕ) → result ≡ too_many sh line (line_in f at stop) (numbers_of h l stage) }
 {
     whole_line(15, full_cause(stage), at, stop, line, full_limit(sh, stage))
 }
@@ -202,7 +202,7 @@ fn field_length(f: &[u8], byte: u64) -> u64
 
 // 10, at a total.
 fn refused_total(cause: u64, line: u64, byte: u64, length: u64, least: u64, most: u64) -> Finding
-    ensures { result ≡ finding 10 cause line byte length groupTotal least most }
+    ensures { result ≡ finding 10 cause line byte length group_total least most }
 {
     Finding {
         number: 10,
@@ -218,7 +218,7 @@ fn refused_total(cause: u64, line: u64, byte: u64, length: u64, least: u64, most
 
 // The total of the open group: the sum passes 14 digits, or is another.
 fn total_found(f: &[u8], x: Open) -> Finding
-    ensures { result ≡ totalFound f.now (openOf x) }
+    ensures { result ≡ total_found f.now (open_of x) }
 {
     let length = field_length(f, x.byte);
     let sum = x.sum;
@@ -230,7 +230,7 @@ fn total_found(f: &[u8], x: Open) -> Finding
 
 // What is refused behind a line that has no fault.
 fn at_total(f: &[u8], stage: Stage) -> Finding
-    ensures { (h : Header) (l : List ℕ) → result ≡ atTotal f.now (numbersOf h l stage) }
+    ensures { (h : Header) (l : List ℕ) → result ≡ at_total f.now (numbers_of h l stage) }
 {
     match stage {
         Stage::First => refused_total(100, 0, 0, 0, 0, 0),
@@ -258,7 +258,7 @@ fn bearing_of(kind: u64, date: u64, single: bool, from: u64, to: u64, seen: Seen
 
 // What is known of a line where the pass stands.
 fn bearing_at(stage: Stage, from: u64, to: u64, seen: Seen) -> Bearing
-    ensures { result ≡ bearingAt stage from to seen }
+    ensures { result ≡ bearing_at stage from to seen }
 {
     match stage {
         Stage::First => bearing_of(0, 0, false, from, to, seen),
@@ -286,7 +286,7 @@ fn fault_in(
     x: Course,
     seen: Seen,
 ) -> Finding
-    requires sane { Sane sh × (realDay today ≡ true) }
+    requires sane { Sane sh × (real_day today ≡ true) }
     requires at_le_stop { (at ≤ stop) × (stop ≤ length f.now) }
     ensures { Faults sh today f.now at stop line x seen.words result }
 {
@@ -328,7 +328,7 @@ pub fn blame_line(
     x: Course,
     seen: Seen,
 ) -> Finding
-    requires sane { Sane sh × (realDay today ≡ true) }
+    requires sane { Sane sh × (real_day today ≡ true) }
     requires at_le_stop { (at ≤ stop) × (stop ≤ length f.now) }
     ensures { (st : State) → Stands x seen.words st → result ≡ blame sh today f.now line (line' at (take (stop - at) (drop at f.now))) (kind_of (take (stop - at) (drop at f.now))) st }
 {

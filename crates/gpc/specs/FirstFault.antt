@@ -1,8 +1,8 @@
 -- The first rule that records break, declared: refusals 50 to 53. Document 02, W-204. Assumes nothing.
 use Rattle.std.specs.Prelude.{ℕ, ◌≡◌, List, [], ◌∷◌, ◌++◌, length}
 use Rattle.paper.specs.Entries.{Said, no}
-use Rattle.gpc.specs.Records.{Head, Movement, Thing, aHead, Record, headIs, movementIs, noRecord, saids}
-use Rattle.gpc.specs.Statements.{Statement, statement, things, movementThings, Agrees, Spots, closed}
+use Rattle.gpc.specs.Records.{Head, Movement, Thing, a_head, Record, head_is, movement_is, no_record, saids}
+use Rattle.gpc.specs.Statements.{Statement, statement, things, movement_things, Agrees, Spots, closed}
 use Rattle.gpc.specs.Spelled.{AllAgree}
 
 -- the statement that is not over yet, if there is one
@@ -11,14 +11,14 @@ pub data Open : Type 0 where
   begun : Head → List Movement → Open
 
 -- its things
-unfoldable pub openThings : Open → List Thing
-openThings none = []
-openThings (begun h ms) = aHead h ∷ movementThings ms []
+unfoldable pub open_things : Open → List Thing
+open_things none = []
+open_things (begun h ms) = a_head h ∷ movement_things ms []
 
 -- it is over where no record follows, or a head
 pub data Over : List Record → Type 0 where
   ends : Over []
-  goes : {x : Said Head} {rs : List Record} → Over (headIs x ∷ rs)
+  goes : {x : Said Head} {rs : List Record} → Over (head_is x ∷ rs)
 
 -- there is none, or its sums agree
 abbrev pub Settled : Open → Type 0
@@ -29,15 +29,15 @@ Settled (begun h ms) = Agrees (statement h ms)
 pub data Broken (p : Spots) (h n : ℕ) : Open → List Record → ℕ → ℕ → ℕ → Type 0 where
   -- 50: a record is missing, or is none
   missing : Broken p h n none [] 50 n 0
-  strange : {o : Open} {rs : List Record} → Broken p h n o (noRecord ∷ rs) 50 n 0
+  strange : {o : Open} {rs : List Record} → Broken p h n o (no_record ∷ rs) 50 n 0
   -- 50: a movement before any head
-  early : {x : Said Movement} {rs : List Record} → Broken p h n none (movementIs x ∷ rs) 50 n 0
+  early : {x : Said Movement} {rs : List Record} → Broken p h n none (movement_is x ∷ rs) 50 n 0
   -- 51: a field of a movement
-  movement : {g : Head} {ms : List Movement} {m off : ℕ} {rs : List Record} → Broken p h n (begun g ms) (movementIs (no m off) ∷ rs) m n off
+  movement : {g : Head} {ms : List Movement} {m off : ℕ} {rs : List Record} → Broken p h n (begun g ms) (movement_is (no m off) ∷ rs) m n off
   -- 52, 53: the open statement is over, and its sums do not agree
   sums : {g : Head} {ms : List Movement} {m off : ℕ} {rs : List Record} → Over rs → closed p g ms ≡ no m off → Broken p h n (begun g ms) rs m h off
   -- 51: a field of a head, whose forerunner's sums agree
-  head : {o : Open} {m off : ℕ} {rs : List Record} → Settled o → Broken p h n o (headIs (no m off) ∷ rs) m n off
+  head : {o : Open} {m off : ℕ} {rs : List Record} → Settled o → Broken p h n o (head_is (no m off) ∷ rs) m n off
 
 -- The refusal with number m, behind k records, at the place `off`, is for the first fault: the records before it are read as statements
 -- whose sums agree and perhaps one that is open, and what follows them breaks that rule.
@@ -45,8 +45,8 @@ pub record FirstFault (p : Spots) (rs : List Record) (m k off : ℕ) : Type 0 wh
   pub done : List Statement
   pub last : Open
   pub after : List Record
-  pub split : rs ≡ saids (things done ++ openThings last) ++ after
+  pub split : rs ≡ saids (things done ++ open_things last) ++ after
   pub lawful : AllAgree done
   -- no statement is open only before the first head
   pub first : last ≡ none → done ≡ []
-  pub broken : Broken p (length (things done)) (length (things done ++ openThings last)) last after m k off
+  pub broken : Broken p (length (things done)) (length (things done ++ open_things last)) last after m k off

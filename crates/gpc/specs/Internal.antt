@@ -29,13 +29,13 @@ unfoldable pub edited : List ℕ → List ℕ
 edited d = taken outside d
 
 -- the account of sixteen edited digits: the first six are its prefix, the last ten its base
-unfoldable pub accountOf : List ℕ → Field Account
-accountOf e = given (digits 6 6 (take 6 e)) λ prefix. given (digits 10 10 (drop 6 e)) λ base. value (account prefix base)
+unfoldable pub account_of : List ℕ → Field Account
+account_of e = given (digits 6 6 (take 6 e)) λ prefix. given (digits 10 10 (drop 6 e)) λ base. value (account prefix base)
 
 -- sixteen digits and nothing else, which are the account of their edited order; that it keeps the rule of accounts is not asked
-unfoldable pub readInternal : List ℕ → Field Account
-readInternal s = or51 (given (digits 16 16 s) λ _. accountOf (edited s))
+unfoldable pub read_internal : List ℕ → Field Account
+read_internal s = or51 (given (digits 16 16 s) λ _. account_of (edited s))
 
 -- the prefix in six digits and the base in ten, in the internal order
-unfoldable pub spellInternal : Account → List ℕ
-spellInternal a = internal (fixed 6 a.prefix ++ fixed 10 a.base)
+unfoldable pub spell_internal : Account → List ℕ
+spell_internal a = internal (fixed 6 a.prefix ++ fixed 10 a.base)

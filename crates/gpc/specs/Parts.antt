@@ -16,10 +16,10 @@ or51 (fault n) = fault 51
 -- ---- bytes cut into pieces of one size: records of a file, rows of lent bytes
 
 -- k pieces of n bytes, and what is left over, if anything is, as one more
-unfoldable pub piecesOn : ℕ → ℕ → List ℕ → List (List ℕ)
-piecesOn n zero s = pick (null s) [] (s ∷ [])
-piecesOn n (suc k) s = take n s ∷ piecesOn n k (drop n s)
+unfoldable pub pieces_on : ℕ → ℕ → List ℕ → List (List ℕ)
+pieces_on n zero s = pick (null s) [] (s ∷ [])
+pieces_on n (suc k) s = take n s ∷ pieces_on n k (drop n s)
 
 -- all pieces of n bytes
 unfoldable pub pieces : ℕ → List ℕ → List (List ℕ)
-pieces n s = piecesOn n (length s / n) s
+pieces n s = pieces_on n (length s / n) s

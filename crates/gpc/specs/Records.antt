@@ -7,10 +7,10 @@ use Rattle.paper.specs.Read.{Field, value, fault}
 use Rattle.paper.specs.Bytes.{bytes}
 use Rattle.paper.specs.Numerals.{fixed}
 use Rattle.paper.specs.Accounts.{Account}
-use Rattle.paper.specs.Entries.{Said, got, onField}
+use Rattle.paper.specs.Entries.{Said, got, on_field}
 use Rattle.gpc.specs.Parts.{slice, pieces}
-use Rattle.gpc.specs.Internal.{readInternal, spellInternal}
-use Rattle.gpc.specs.Signed.{Signed, readDigits, balancePlus, turnoverPlus, onSigned, spellSigned}
+use Rattle.gpc.specs.Internal.{read_internal, spell_internal}
+use Rattle.gpc.specs.Signed.{Signed, read_digits, balance_plus, turnover_plus, on_signed, spell_signed}
 use Rattle.gpc.specs.Turnovers.{is_code}
 
 -- ---- what a record says
@@ -39,21 +39,21 @@ pub record Movement : Type 0 where
 
 -- one thing of a list of statements; `strange` is what neither a head nor a movement says
 pub data Thing : Type 0 where
-  aHead : Head → Thing
-  aMovement : Movement → Thing
+  a_head : Head → Thing
+  a_movement : Movement → Thing
   strange : Thing
 
 -- What stands where a record is due: a head or a movement, which is read or refused with a number and a place in it; or no record.
 pub data Record : Type 0 where
-  headIs : Said Head → Record
-  movementIs : Said Movement → Record
-  noRecord : Record
+  head_is : Said Head → Record
+  movement_is : Said Movement → Record
+  no_record : Record
 
 -- a thing that is read as it is
 unfoldable pub said : Thing → Record
-said (aHead h) = headIs (got h)
-said (aMovement m) = movementIs (got m)
-said strange = noRecord
+said (a_head h) = head_is (got h)
+said (a_movement m) = movement_is (got m)
+said strange = no_record
 
 -- all of them
 unfoldable pub saids : List Thing → List Record
@@ -70,22 +70,22 @@ read_code (x ∷ s) = pick (is_code (x - 48)) (value (x - 48)) (fault 51)
 -- a head's bytes
 unfoldable pub read_head : List ℕ → Said Head
 read_head s =
-    onField 3 (readInternal (slice 3 16 s)) λ account.
-    onSigned balancePlus 45 s λ old.
-    onSigned balancePlus 60 s λ new.
-    onSigned turnoverPlus 75 s λ debit.
-    onSigned turnoverPlus 90 s λ credit.
+    on_field 3 (read_internal (slice 3 16 s)) λ account.
+    on_signed balance_plus 45 s λ old.
+    on_signed balance_plus 60 s λ new.
+    on_signed turnover_plus 75 s λ debit.
+    on_signed turnover_plus 90 s λ credit.
     got
     record { account = account; before = slice 19 26 s; old = old; new = new; debit = debit; credit = credit; behind = slice 105 23 s }
 
 -- a movement's bytes
-unfoldable pub readMovement : List ℕ → Said Movement
-readMovement s =
-    onField 3 (readInternal (slice 3 16 s)) λ account.
-    onField 19 (readInternal (slice 19 16 s)) λ other.
-    onField 48 (readDigits 12 (slice 48 12 s)) λ amount.
-    onField 60 (read_code (slice 60 1 s)) λ code.
-    onField 61 (readDigits 10 (slice 61 10 s)) λ variable.
+unfoldable pub read_movement : List ℕ → Said Movement
+read_movement s =
+    on_field 3 (read_internal (slice 3 16 s)) λ account.
+    on_field 19 (read_internal (slice 19 16 s)) λ other.
+    on_field 48 (read_digits 12 (slice 48 12 s)) λ amount.
+    on_field 60 (read_code (slice 60 1 s)) λ code.
+    on_field 61 (read_digits 10 (slice 61 10 s)) λ variable.
     got
     record {
       account = account;
@@ -102,49 +102,49 @@ abbrev pub crlf : List ℕ
 crlf = 13 ∷ 10 ∷ []
 
 -- a record with its line end is so long
-abbrev pub recordSize : ℕ
-recordSize = 130
+abbrev pub record_size : ℕ
+record_size = 130
 
 -- bytes where a record is due: whole, and of one of the two types
-unfoldable pub readRecord : List ℕ → Record
-readRecord s =
+unfoldable pub read_record : List ℕ → Record
+read_record s =
     pick (starts crlf (drop 128 s))
-    (pick (starts (bytes "074") s) (headIs (read_head s)) (pick (starts (bytes "075") s) (movementIs (readMovement s)) noRecord))
-    noRecord
+    (pick (starts (bytes "074") s) (head_is (read_head s)) (pick (starts (bytes "075") s) (movement_is (read_movement s)) no_record))
+    no_record
 
 -- several pieces of bytes
-unfoldable pub readRecords : List (List ℕ) → List Record
-readRecords [] = []
-readRecords (s ∷ ss) = readRecord s ∷ readRecords ss
+unfoldable pub read_records : List (List ℕ) → List Record
+read_records [] = []
+read_records (s ∷ ss) = read_record s ∷ read_records ss
 
 -- the records of a file; nothing but the count of bytes tells where one ends, and bytes that are left over are no record
-unfoldable pub recordsIn : List ℕ → List Record
-recordsIn f = readRecords (pieces recordSize f)
+unfoldable pub records_in : List ℕ → List Record
+records_in f = read_records (pieces record_size f)
 
 -- ---- its one spelling
 
 -- a head
-unfoldable pub spellHead : Head → List ℕ
-spellHead h =
+unfoldable pub spell_head : Head → List ℕ
+spell_head h =
     bytes "074"
-    ++ (spellInternal h.account
+    ++ (spell_internal h.account
     ++ (h.before
-    ++ (spellSigned balancePlus h.old
-    ++ (spellSigned balancePlus h.new
-    ++ (spellSigned turnoverPlus h.debit ++ (spellSigned turnoverPlus h.credit ++ (h.behind ++ crlf)))))))
+    ++ (spell_signed balance_plus h.old
+    ++ (spell_signed balance_plus h.new
+    ++ (spell_signed turnover_plus h.debit ++ (spell_signed turnover_plus h.credit ++ (h.behind ++ crlf)))))))
 
 -- a movement
-unfoldable pub spellMovement : Movement → List ℕ
-spellMovement m =
+unfoldable pub spell_movement : Movement → List ℕ
+spell_movement m =
     bytes "075"
-    ++ (spellInternal m.account
-    ++ (spellInternal m.other
+    ++ (spell_internal m.account
+    ++ (spell_internal m.other
     ++ (m.before ++ (fixed 12 m.amount ++ (fixed 1 m.code ++ (fixed 10 m.variable ++ (m.behind ++ crlf)))))))
 
 -- .. of a thing
 unfoldable pub spell : Thing → List ℕ
-spell (aHead h) = spellHead h
-spell (aMovement m) = spellMovement m
+spell (a_head h) = spell_head h
+spell (a_movement m) = spell_movement m
 spell strange = []
 
 -- .. of several

@@ -4,7 +4,7 @@ use Rattle.base.specs.Pick.{pick}
 use Rattle.paper.specs.Read.{Field, value, fault}
 use Rattle.paper.specs.Numerals.{digits, fixed}
 use Rattle.paper.specs.Batch.{most14}
-use Rattle.paper.specs.Entries.{Said, onField}
+use Rattle.paper.specs.Entries.{Said, on_field}
 use Rattle.gpc.specs.Parts.{slice, or51}
 
 -- a size, and whether it is below nothing
@@ -24,8 +24,8 @@ pub record Fourteen (x : Signed) : Type 0 where
 -- ---- in an equation
 
 -- is it `up - down`?
-unfoldable pub isDifference : ℕ → ℕ → Signed → Bool
-isDifference up down x = pick x.minus (eqb (up + x.size) down) (eqb up (x.size + down))
+unfoldable pub is_difference : ℕ → ℕ → Signed → Bool
+is_difference up down x = pick x.minus (eqb (up + x.size) down) (eqb up (x.size + down))
 
 -- what it adds to its own side of an equation
 unfoldable pub above : Signed → ℕ
@@ -42,32 +42,32 @@ side a b c d = above a + above b + (below c + below d)
 -- ---- in a field: fourteen digits, and the sign behind them as a field of its own
 
 -- exactly k digits: 51 otherwise
-unfoldable pub readDigits : ℕ → List ℕ → Field ℕ
-readDigits k s = or51 (digits k k s)
+unfoldable pub read_digits : ℕ → List ℕ → Field ℕ
+read_digits k s = or51 (digits k k s)
 
 -- the byte that says plus: `+` for a balance
-abbrev pub balancePlus : ℕ
-balancePlus = 43
+abbrev pub balance_plus : ℕ
+balance_plus = 43
 
 -- .. and `0` for a turnover
-abbrev pub turnoverPlus : ℕ
-turnoverPlus = 48
+abbrev pub turnover_plus : ℕ
+turnover_plus = 48
 
 -- is there a minus, or the byte that says plus? 51 otherwise
-unfoldable pub readMinus : ℕ → List ℕ → Field Bool
-readMinus plus [] = fault 51
-readMinus plus (x ∷ s) = pick (eqb x 45) (value true) (pick (eqb x plus) (value false) (fault 51))
+unfoldable pub read_minus : ℕ → List ℕ → Field Bool
+read_minus plus [] = fault 51
+read_minus plus (x ∷ s) = pick (eqb x 45) (value true) (pick (eqb x plus) (value false) (fault 51))
 
 -- the fifteen bytes from a place on: the digits are tested before the sign, and each is refused at its own first byte
-unfoldable pub onSigned : {B : Type 0} → ℕ → ℕ → List ℕ → (Signed → Said B) → Said B
-onSigned plus at s k =
-    onField at (readDigits 14 (slice at 14 s)) λ n.
-    onField (at + 14) (readMinus plus (slice (at + 14) 1 s)) λ minus.
+unfoldable pub on_signed : {B : Type 0} → ℕ → ℕ → List ℕ → (Signed → Said B) → Said B
+on_signed plus at s k =
+    on_field at (read_digits 14 (slice at 14 s)) λ n.
+    on_field (at + 14) (read_minus plus (slice (at + 14) 1 s)) λ minus.
     k (signed minus n)
 
 -- its one spelling; zero is no minus, so it has the byte that says plus
-unfoldable pub spellSigned : ℕ → Signed → List ℕ
-spellSigned plus x = fixed 14 x.size ++ (pick x.minus 45 plus ∷ [])
+unfoldable pub spell_signed : ℕ → Signed → List ℕ
+spell_signed plus x = fixed 14 x.size ++ (pick x.minus 45 plus ∷ [])
 
 -- ---- in a word: two's complement
 
@@ -76,9 +76,9 @@ unfoldable pub negative : ℕ → ℕ
 negative n = (18446744073709551616 - n) % 18446744073709551616
 
 -- as a word of a row
-unfoldable pub signedWord : Signed → ℕ
-signedWord x = pick x.minus (negative x.size) x.size
+unfoldable pub signed_word : Signed → ℕ
+signed_word x = pick x.minus (negative x.size) x.size
 
 -- what a word of a row says; none says minus zero
-unfoldable pub wordSigned : ℕ → Signed
-wordSigned w = pick (ltb w 9223372036854775808) (record { minus = false; size = w }) (signed true (negative w))
+unfoldable pub word_signed : ℕ → Signed
+word_signed w = pick (ltb w 9223372036854775808) (record { minus = false; size = w }) (signed true (negative w))

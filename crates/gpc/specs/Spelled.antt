@@ -1,6 +1,6 @@
 -- Which file spells which statements. A file is accepted exactly when it spells statements. Document 02, W-204. Assumes nothing.
 use Rattle.std.specs.Prelude.{ℕ, ◌≤◌, ◌≡◌, List, [], ◌∷◌, length}
-use Rattle.gpc.specs.Records.{Record, saids, recordsIn}
+use Rattle.gpc.specs.Records.{Record, saids, records_in}
 use Rattle.gpc.specs.Statements.{Statement, things, Agrees}
 
 -- the sums of every statement agree
@@ -16,4 +16,4 @@ pub record Say (rs : List Record) (ss : List Statement) : Type 0 where
 
 -- a file spells statements
 abbrev pub Spells : List ℕ → List Statement → Type 0
-Spells f ss = Say (recordsIn f) ss
+Spells f ss = Say (records_in f) ss

@@ -3,8 +3,8 @@
 use Rattle.std.specs.Prelude.{ℕ, zero, suc, ◌≡◌, true, List, [], ◌∷◌, ◌++◌}
 use Rattle.base.specs.Pick.{pick}
 use Rattle.paper.specs.Entries.{Said, got, no}
-use Rattle.gpc.specs.Turnovers.{Moved, moved, isDebit, isCredit, balanced}
-use Rattle.gpc.specs.Records.{Head, Movement, Thing, aHead, aMovement, Record, headIs, movementIs, noRecord}
+use Rattle.gpc.specs.Turnovers.{Moved, moved, is_debit, is_credit, balanced}
+use Rattle.gpc.specs.Records.{Head, Movement, Thing, a_head, a_movement, Record, head_is, movement_is, no_record}
 
 -- one 074 and its 075 records, in their order; it may have none
 pub record Statement : Type 0 where
@@ -18,14 +18,14 @@ statement h ms = record { head = h; movements = ms }
 -- ---- as one list: a head, then its movements
 
 -- movements, in front of what follows
-unfoldable pub movementThings : List Movement → List Thing → List Thing
-movementThings [] r = r
-movementThings (m ∷ ms) r = aMovement m ∷ movementThings ms r
+unfoldable pub movement_things : List Movement → List Thing → List Thing
+movement_things [] r = r
+movement_things (m ∷ ms) r = a_movement m ∷ movement_things ms r
 
 -- statements, each head in front of its movements
 unfoldable pub things : List Statement → List Thing
 things [] = []
-things (s ∷ ss) = aHead s.head ∷ movementThings s.movements (things ss)
+things (s ∷ ss) = a_head s.head ∷ movement_things s.movements (things ss)
 
 -- ---- the sums
 
@@ -36,8 +36,8 @@ moves_of (m ∷ ms) = moved m.code m.amount ∷ moves_of ms
 
 -- a head's turnovers are those of its movements, and the new balance is old − debit + credit
 pub record Agrees (s : Statement) : Type 0 where
-  pub debit : isDebit (moves_of s.movements) s.head.debit ≡ true
-  pub credit : isCredit (moves_of s.movements) s.head.credit ≡ true
+  pub debit : is_debit (moves_of s.movements) s.head.debit ≡ true
+  pub credit : is_credit (moves_of s.movements) s.head.credit ≡ true
   pub new : balanced s.head.old s.head.new s.head.debit s.head.credit ≡ true
 
 -- where a head has the fields that sums are refused at
@@ -47,18 +47,18 @@ pub record Spots : Type 0 where
   pub credit : ℕ
 
 -- in a record: the first digit of each
-abbrev pub recordSpots : Spots
-recordSpots = record { new = 60; debit = 75; credit = 90 }
+abbrev pub record_spots : Spots
+record_spots = record { new = 60; debit = 75; credit = 90 }
 
 -- in a row: the word of each
-abbrev pub rowSpots : Spots
-rowSpots = record { new = 4; debit = 5; credit = 6 }
+abbrev pub row_spots : Spots
+row_spots = record { new = 4; debit = 5; credit = 6 }
 
 -- a statement that is over: 52 a turnover differs, debit first; 53 the new balance differs
 unfoldable pub closed : Spots → Head → List Movement → Said Statement
 closed p h ms =
-    pick (isDebit (moves_of ms) h.debit)
-    (pick (isCredit (moves_of ms) h.credit)
+    pick (is_debit (moves_of ms) h.debit)
+    (pick (is_credit (moves_of ms) h.credit)
     (pick (balanced h.old h.new h.debit h.credit) (got (statement h ms)) (no 53 p.new))
     (no 52 p.credit))
     (no 52 p.debit)
@@ -71,9 +71,9 @@ pub data Judged : Type 0 where
   refused : ℕ → ℕ → ℕ → Judged
 
 -- what was read goes on, a refusal is that of the record behind k others
-unfoldable pub onSaid : {A : Type 0} → ℕ → Said A → (A → Judged) → Judged
-onSaid k (got a) f = f a
-onSaid k (no n off) f = refused n k off
+unfoldable pub on_said : {A : Type 0} → ℕ → Said A → (A → Judged) → Judged
+on_said k (got a) f = f a
+on_said k (no n off) f = refused n k off
 
 -- one statement more, in front
 unfoldable pub with : Statement → Judged → Judged
@@ -87,17 +87,17 @@ pub data Stage : Type 0 where
 
 -- The records behind k others. 50: a record is missing, is none, or is a movement before any head. When the next is known to be a head, or
 -- there is none, the statement above is over: its sums are tested before the head's fields.
-unfoldable pub judgeOn : Spots → ℕ → Stage → List Record → Judged
-judgeOn p k top [] = refused 50 k 0
-judgeOn p k top (noRecord ∷ rs) = refused 50 k 0
-judgeOn p k top (movementIs x ∷ rs) = refused 50 k 0
-judgeOn p k top (headIs x ∷ rs) = onSaid k x λ h. judgeOn p (suc k) (within k h []) rs
-judgeOn p k (within j h ms) [] = onSaid j (closed p h ms) λ s. accepted (s ∷ [])
-judgeOn p k (within j h ms) (noRecord ∷ rs) = refused 50 k 0
-judgeOn p k (within j h ms) (movementIs x ∷ rs) = onSaid k x λ m. judgeOn p (suc k) (within j h (ms ++ (m ∷ []))) rs
-judgeOn p k (within j h ms) (headIs x ∷ rs) =
-    onSaid j (closed p h ms) λ s. with s (onSaid k x λ g. judgeOn p (suc k) (within k g []) rs)
+unfoldable pub judge_on : Spots → ℕ → Stage → List Record → Judged
+judge_on p k top [] = refused 50 k 0
+judge_on p k top (no_record ∷ rs) = refused 50 k 0
+judge_on p k top (movement_is x ∷ rs) = refused 50 k 0
+judge_on p k top (head_is x ∷ rs) = on_said k x λ h. judge_on p (suc k) (within k h []) rs
+judge_on p k (within j h ms) [] = on_said j (closed p h ms) λ s. accepted (s ∷ [])
+judge_on p k (within j h ms) (no_record ∷ rs) = refused 50 k 0
+judge_on p k (within j h ms) (movement_is x ∷ rs) = on_said k x λ m. judge_on p (suc k) (within j h (ms ++ (m ∷ []))) rs
+judge_on p k (within j h ms) (head_is x ∷ rs) =
+    on_said j (closed p h ms) λ s. with s (on_said k x λ g. judge_on p (suc k) (within k g []) rs)
 
 -- from the first record on
 unfoldable pub judge : Spots → List Record → Judged
-judge p rs = judgeOn p zero top rs
+judge p rs = judge_on p zero top rs

@@ -1,7 +1,7 @@
 -- What a statement's movements add up to, and the rule of its balance. Document 02, W-204. Assumes nothing.
 use Rattle.std.specs.Prelude.{ℕ, ◌+◌, Bool, true, List, [], ◌∷◌, eqb}
 use Rattle.base.specs.Pick.{pick}
-use Rattle.gpc.specs.Signed.{Signed, isDifference, side}
+use Rattle.gpc.specs.Signed.{Signed, is_difference, side}
 
 -- a movement: its posting code, 1 debit, 2 credit, 4 reversed debit, 5 reversed credit, and its amount in haléř
 pub record Moved : Type 0 where
@@ -30,12 +30,12 @@ total c [] = 0
 total c (m ∷ ms) = part c m + total c ms
 
 -- is this the debit turnover, the sum of code 1 less code 4?
-unfoldable pub isDebit : List Moved → Signed → Bool
-isDebit ms x = isDifference (total 1 ms) (total 4 ms) x
+unfoldable pub is_debit : List Moved → Signed → Bool
+is_debit ms x = is_difference (total 1 ms) (total 4 ms) x
 
 -- is this the credit turnover, code 2 less code 5?
-unfoldable pub isCredit : List Moved → Signed → Bool
-isCredit ms x = isDifference (total 2 ms) (total 5 ms) x
+unfoldable pub is_credit : List Moved → Signed → Bool
+is_credit ms x = is_difference (total 2 ms) (total 5 ms) x
 
 -- new balance = old − debit + credit: new + debit = old + credit, each minus carried over to the other side
 unfoldable pub balanced : Signed → Signed → Signed → Signed → Bool

@@ -10,7 +10,7 @@ use lib.ListN.{length, take, drop, length-append, length-drop, take-append-drop}
 use lib.Seq.{take_at, drop_at, length-take-le}
 use Rattle.base.specs.Pick.{pick}
 use Rattle.paper.specs.Bytes.{null}
-use Rattle.gpc.specs.Parts.{piecesOn, pieces}
+use Rattle.gpc.specs.Parts.{pieces_on, pieces}
 use Rattle.gpcback.proofs.Segments.{joined}
 
 -- all but the last of these texts have n bytes, and that has some of them or all
@@ -32,17 +32,17 @@ module _ (n : ℕ) where
   cut-tail s [] c = tt
   cut-tail s (t ∷ ss) (e, c) = c
 
-  on-cut : (k : ℕ) (s : List ℕ) → k * n ≤ length s → length s < k * n + n → Cut n (piecesOn n k s)
-  unfolding piecesOn null pick
+  on-cut : (k : ℕ) (s : List ℕ) → k * n ≤ length s → length s < k * n + n → Cut n (pieces_on n k s)
+  unfolding pieces_on null pick
   on-cut zero [] h l = tt
   on-cut zero (x ∷ s) h l = omega arith
   on-cut (suc k) s h l =
       let m : suc k * n ≡ k * n + n = suc-mul k n in
       let d : length (drop n s) ≡ length s - n = length-drop n s in
-      cut-cons (take n s) (piecesOn n k (drop n s)) (length-take-le n s (omega arith)) (on-cut k (drop n s) (omega arith) (omega arith))
+      cut-cons (take n s) (pieces_on n k (drop n s)) (length-take-le n s (omega arith)) (on-cut k (drop n s) (omega arith) (omega arith))
 
-  on-whole : (k : ℕ) (s : List ℕ) → joined (piecesOn n k s) [] ≡ s
-  unfolding piecesOn null pick
+  on-whole : (k : ℕ) (s : List ℕ) → joined (pieces_on n k s) [] ≡ s
+  unfolding pieces_on null pick
   on-whole zero [] = refl
   on-whole zero (x ∷ s) = append-nil (x ∷ s)
   on-whole (suc k) s = rw (on-whole k (drop n s)) (take-append-drop n s)
@@ -59,12 +59,12 @@ module _ (n : ℕ) (p : 0 < n) where
   pieces-cut s = on-cut n (length s / n) s (div-mul-le_self (length s) n) (lt-div-mul-add p)
 
   pub pieces_none : pieces n [] ≡ []
-  unfolding pieces piecesOn null pick
+  unfolding pieces pieces_on null pick
   pieces_none = rw (zero-div n)
 
   -- as many bytes as a piece has, or more, begin with one
   pub pieces-one : (s : List ℕ) → n ≤ length s → pieces n s ≡ take n s ∷ pieces n (drop n s)
-  unfolding pieces piecesOn
+  unfolding pieces pieces_on
   pieces-one s h =
       let e : length s / n ≡ suc (length (drop n s) / n) = rw length-drop (div-eq-sub-div p h ∙ add-one _) in
       rw e

@@ -9,15 +9,15 @@ use lib.Seq.{length-take-le}
 use Rattle.paper.specs.Read.{Field, value, fault}
 use Rattle.paper.specs.Numerals.{digits}
 use Rattle.paper.specs.Accounts.{Account}
-use Rattle.paper.specs.Entries.{Said, got, no, onField}
+use Rattle.paper.specs.Entries.{Said, got, no, on_field}
 use Rattle.numeral.proofs.Sound.{digits-sound}
 use Rattle.numeral.proofs.given.Given.{value-fault, passed}
 use Rattle.internal.proofs.Parts.{accepted-by}
 use Rattle.internal.proofs.Laws.{sound}
 use Rattle.turnover.proofs.Laws.{read-fourteen}
 use Rattle.gpc.specs.Parts.{slice}
-use Rattle.gpc.specs.Internal.{readInternal}
-use Rattle.gpc.specs.Signed.{Signed, signed, Fourteen, readDigits, readMinus, onSigned}
+use Rattle.gpc.specs.Internal.{read_internal}
+use Rattle.gpc.specs.Signed.{Signed, signed, Fourteen, read_digits, read_minus, on_signed}
 use Rattle.gpc.specs.Turnovers.{is_code}
 use Rattle.gpc.specs.Records.{read_code}
 use Rattle.gpcback.specs.Proper.{ProperAccount}
@@ -32,8 +32,8 @@ pub no-got : {A P : Type 0} {n at : ℕ} {b : A} → no n at ≡ got b → P
 no-got e = absurd (let z : ◌≡◌ {A = ℕ} 0 1 = cc in omega arith)
 
 -- the field had a value, with which it went on
-pub on-got : {A B : Type 0} (at : ℕ) (x : Field A) (k : A → Said B) (b : B) → onField at x k ≡ got b → (v : A) × (x ≡ value v) × (k v ≡ got b)
-unfolding onField
+pub on-got : {A B : Type 0} (at : ℕ) (x : Field A) (k : A → Said B) (b : B) → on_field at x k ≡ got b → (v : A) × (x ≡ value v) × (k v ≡ got b)
+unfolding on_field
 on-got at (value v) k b e = (v, refl, e)
 on-got at (fault n) k b e = no-got e
 
@@ -45,13 +45,13 @@ slice-length at n s h = length-take-le n (drop at s) (omega (arith, length-drop 
 
 -- ---- an account
 
-pub account-proper : (s : List ℕ) (a : Account) → readInternal s ≡ value a → ProperAccount a
+pub account-proper : (s : List ℕ) (a : Account) → read_internal s ≡ value a → ProperAccount a
 account-proper s a e = let p = sound s a e in record { prefix = p.0; base = p.1 }
 
 -- ---- a number
 
-pub digits_value : (k : ℕ) (s : List ℕ) (v : ℕ) → readDigits k s ≡ value v → digits k k s ≡ value v
-unfolding readDigits
+pub digits_value : (k : ℕ) (s : List ℕ) (v : ℕ) → read_digits k s ≡ value v → digits k k s ≡ value v
+unfolding read_digits
 digits_value k s v e = accepted-by (digits k k s) v e
 
 -- ---- a posting code
@@ -67,17 +67,17 @@ code-proper (x ∷ s) c e = let p = passed (is_code (x - 48)) (x - 48) c 51 e in
 pub record SignedSaid (plus : ℕ) (d c : List ℕ) (x : Signed) : Type 0 where
   pub minus : Bool
   pub size : digits 14 14 d ≡ value x.size
-  pub sign : readMinus plus c ≡ value minus
+  pub sign : read_minus plus c ≡ value minus
   pub both : signed minus x.size ≡ x
 
 pub signed-fourteen : {plus : ℕ} {d c : List ℕ} {x : Signed} → SignedSaid plus d c x → Fourteen x
 signed-fourteen {d = d} {x = x} h =
     rw h.both at (read-fourteen h.minus x.size (omega (arith, digits-sound 14 14 d x.size h.size)))
 
-pub signed-got : {B : Type 0} (plus at : ℕ) (s : List ℕ) (k : Signed → Said B) (b : B) → onSigned plus at s k ≡ got b
+pub signed-got : {B : Type 0} (plus at : ℕ) (s : List ℕ) (k : Signed → Said B) (b : B) → on_signed plus at s k ≡ got b
     → (x : Signed) × SignedSaid plus (slice at 14 s) (slice (at + 14) 1 s) x × (k x ≡ got b)
-unfolding onSigned signed
+unfolding on_signed signed
 signed-got plus at s k b e =
-    let n = on-got at (readDigits 14 (slice at 14 s)) _ b e in
-    let m = on-got (at + 14) (readMinus plus (slice (at + 14) 1 s)) _ b n.2 in
+    let n = on-got at (read_digits 14 (slice at 14 s)) _ b e in
+    let m = on-got (at + 14) (read_minus plus (slice (at + 14) 1 s)) _ b n.2 in
     (signed m.0 n.0, record { minus = m.0; size = digits_value 14 (slice at 14 s) n.0 n.1; sign = m.1; both = refl }, m.2)

@@ -9,14 +9,14 @@ use borrow.Author.Tests.{ltb-false}
 use Rattle.base.proofs.Cases.{either}
 use Rattle.turnover.proofs.Laws.{word-fourteen}
 use Rattle.gpc.specs.Records.{Thing, strange, said}
-use Rattle.gpc.specs.StatementRows.{statementRow, word_in, headIn, movementIn, thingIn, tested}
+use Rattle.gpc.specs.StatementRows.{statement_row, word_in, head_in, movement_in, thing_in, tested}
 use Rattle.gpcback.specs.Proper.{ProperHead, ProperMovement, Proper}
 use Rattle.gpcback.proofs.ReadFields.{slice-length}
 use Rattle.gpcback.proofs.Tests.{HeadPasses, MovementPasses, Passes, tested-same}
 
 module _ (r : List ℕ) where
-  head-proper : statementRow ≤ length r → HeadPasses (headIn r) → ProperHead (headIn r)
-  unfolding headIn
+  head-proper : statement_row ≤ length r → HeadPasses (head_in r) → ProperHead (head_in r)
+  unfolding head_in
   head-proper l p =
       record {
         account = p.account;
@@ -28,8 +28,8 @@ module _ (r : List ℕ) where
         behind = slice-length 90 23 r (omega arith);
       }
 
-  movement-proper : statementRow ≤ length r → MovementPasses (movementIn r) → ProperMovement (movementIn r)
-  unfolding movementIn
+  movement-proper : statement_row ≤ length r → MovementPasses (movement_in r) → ProperMovement (movement_in r)
+  unfolding movement_in
   movement-proper l p =
       record {
         account = p.account;
@@ -42,15 +42,15 @@ module _ (r : List ℕ) where
       }
 
   -- a row that is cut short holds nothing, so no length is asked
-  row-proper : Passes (thingIn r) → Proper (thingIn r)
-  unfolding thingIn
+  row-proper : Passes (thing_in r) → Proper (thing_in r)
+  unfolding thing_in
   row-proper =
-      either (λ (g : Thing). Passes g → Proper g) (ltb (length r) statementRow) (λ e z. absurd z)
-      (λ e. either (λ (g : Thing). Passes g → Proper g) (eqb (word_in r 0) 74) (λ a p. head-proper (ltb-false (length r) statementRow e) p)
-      (λ a. either (λ (g : Thing). Passes g → Proper g) (eqb (word_in r 0) 75) (λ b p. movement-proper (ltb-false (length r) statementRow e) p)
+      either (λ (g : Thing). Passes g → Proper g) (ltb (length r) statement_row) (λ e z. absurd z)
+      (λ e. either (λ (g : Thing). Passes g → Proper g) (eqb (word_in r 0) 74) (λ a p. head-proper (ltb-false (length r) statement_row e) p)
+      (λ a. either (λ (g : Thing). Passes g → Proper g) (eqb (word_in r 0) 75) (λ b p. movement-proper (ltb-false (length r) statement_row e) p)
       (λ b z. absurd z)))
 
-  pub tested-proper : (t : Thing) → tested (thingIn r) ≡ said t → (t ≡ strange → ⊥) → (thingIn r ≡ t) × Proper t
+  pub tested-proper : (t : Thing) → tested (thing_in r) ≡ said t → (t ≡ strange → ⊥) → (thing_in r ≡ t) × Proper t
   tested-proper t e n =
-      let p = tested-same (thingIn r) t e n in
+      let p = tested-same (thing_in r) t e n in
       (p.1, subst Proper p.1 (row-proper p.0))

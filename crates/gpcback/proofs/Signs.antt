@@ -14,22 +14,22 @@ use Rattle.base.proofs.Cases.{by-test, by-eq}
 use Rattle.base.proofs.Put.{put-seam}
 use Rattle.base.proofs.Seek.{all_head, all_tail}
 use Rattle.paper.specs.Read.{value}
-use Rattle.paper.specs.Bytes.{isDigit}
-use Rattle.paper.specs.Numerals.{digitsOn, digits, fixedOn, fixed}
+use Rattle.paper.specs.Bytes.{is_digit}
+use Rattle.paper.specs.Numerals.{digits_on, digits, fixed_on, fixed}
 use Rattle.numeral.proofs.Sound.{same, read-on, digits-least, digits-most}
 use Rattle.numeral.proofs.given.Given.{value-fault, value_same, passed}
 use Rattle.internal.proofs.Numbers.{digits-spelled}
-use Rattle.gpc.specs.Signed.{Signed, signed, readMinus, spellSigned}
+use Rattle.gpc.specs.Signed.{Signed, signed, read_minus, spell_signed}
 use Rattle.gpc.specs.Turnovers.{is_code}
 use Rattle.gpc.specs.Records.{read_code}
-use Rattle.gpc.specs.Canonical.{isNought, plainSign}
+use Rattle.gpc.specs.Canonical.{is_nought, plain_sign}
 use Rattle.gpcback.proofs.Fields.{code-digit}
 use Rattle.gpcback.proofs.ReadFields.{SignedSaid}
 
 -- ---- a posting code
 
 pub code-spelled : (s : List ℕ) (c : ℕ) → length s ≡ 1 → read_code s ≡ value c → fixed 1 c ≡ s
-unfolding read_code fixed fixedOn
+unfolding read_code fixed fixed_on
 code-spelled [] c l e = absurd (omega arith)
 code-spelled (x ∷ y ∷ s) c l e = absurd (omega arith)
 code-spelled (x ∷ []) c l e =
@@ -40,24 +40,24 @@ code-spelled (x ∷ []) c l e =
 
 -- ---- zeros
 
-noughts-read : (d : List ℕ) → all isNought d ≡ true → digitsOn 0 d ≡ value 0
-unfolding digitsOn isDigit isNought pick
+noughts-read : (d : List ℕ) → all is_nought d ≡ true → digits_on 0 d ≡ value 0
+unfolding digits_on is_digit is_nought pick
 noughts-read [] h = refl
-noughts-read (x ∷ d) h = rw (eqb-true x 48 (all_head isNought x d h)) (noughts-read d (all_tail isNought x d h))
+noughts-read (x ∷ d) h = rw (eqb-true x 48 (all_head is_nought x d h)) (noughts-read d (all_tail is_nought x d h))
 
 module _ (d : List ℕ) (v : ℕ) (e : digits 14 14 d ≡ value v) where
   -- zeros are zero, and nothing else is
-  noughts : v ≡ 0 → all isNought d ≡ true
-  unfolding fixed fixedOn isNought all pick
+  noughts : v ≡ 0 → all is_nought d ≡ true
+  unfolding fixed fixed_on is_nought all pick
   noughts z = rw (← (digits-spelled 14 d v e), z) refl
 
-  no-noughts : (v ≡ 0 → ⊥) → all isNought d ≡ false
-  no-noughts n = by-test (all isNought d) (λ t. absurd (n (same v 0 (sym (read-on 14 14 d v e) ∙ noughts-read d t)))) (λ t. t)
+  no-noughts : (v ≡ 0 → ⊥) → all is_nought d ≡ false
+  no-noughts n = by-test (all is_nought d) (λ t. absurd (n (same v 0 (sym (read-on 14 14 d v e) ∙ noughts-read d t)))) (λ t. t)
 
 -- ---- the sign
 
-sign-spelled : (plus : ℕ) (c : List ℕ) (minus : Bool) → length c ≡ 1 → readMinus plus c ≡ value minus → pick minus 45 plus ∷ [] ≡ c
-unfolding readMinus pick
+sign-spelled : (plus : ℕ) (c : List ℕ) (minus : Bool) → length c ≡ 1 → read_minus plus c ≡ value minus → pick minus 45 plus ∷ [] ≡ c
+unfolding read_minus pick
 sign-spelled plus [] minus l e = absurd (omega arith)
 sign-spelled plus (b ∷ x ∷ c) minus l e = absurd (omega arith)
 sign-spelled plus (b ∷ []) minus l e =
@@ -78,8 +78,8 @@ module _ (plus : ℕ) (d c : List ℕ) (x : Signed) (h : SignedSaid plus d c x) 
   unfolding signed
   sign_of t e = sym (ap (λ (y : Signed). y.minus) h.both) ∙ ap (λ (u : Bool). pick u false h.minus) e
 
-  plain_of : plainSign plus 0 (d ++ c) ≡ d ++ (pick x.minus 45 plus ∷ [])
-  unfolding plainSign pick
+  plain_of : plain_sign plus 0 (d ++ c) ≡ d ++ (pick x.minus 45 plus ∷ [])
+  unfolding plain_sign pick
   plain_of =
       by-eq x.size 0
       (λ z.
@@ -93,6 +93,6 @@ module _ (plus : ℕ) (d c : List ℕ) (x : Signed) (h : SignedSaid plus d c x) 
       rw (take_at d c 14 long, no-noughts d x.size h.size n)
       (ap (λ (l : List ℕ). d ++ l) (sym (sign-spelled plus c h.minus one h.sign) ∙ ap (λ (m : Bool). pick m 45 plus ∷ []) (sym minus))))
 
-  pub sign-plain : plainSign plus 0 (d ++ c) ≡ spellSigned plus x
-  unfolding spellSigned
+  pub sign-plain : plain_sign plus 0 (d ++ c) ≡ spell_signed plus x
+  unfolding spell_signed
   sign-plain = plain_of ∙ ap (λ (l : List ℕ). l ++ (pick x.minus 45 plus ∷ [])) (sym (digits-spelled 14 d x.size h.size))

@@ -4,7 +4,7 @@ use Rattle.std.specs.Prelude.{◌≤◌, ◌<◌, ◌≡◌, true, List, [], ◌
 use Rattle.paper.specs.Accounts.{Account}
 use Rattle.gpc.specs.Signed.{Fourteen}
 use Rattle.gpc.specs.Turnovers.{is_code, most12}
-use Rattle.gpc.specs.Records.{Head, Movement, Thing, aHead, aMovement, strange}
+use Rattle.gpc.specs.Records.{Head, Movement, Thing, a_head, a_movement, strange}
 
 -- six digits and ten
 pub record ProperAccount (a : Account) : Type 0 where
@@ -33,8 +33,8 @@ pub record ProperMovement (m : Movement) : Type 0 where
 
 -- one thing
 abbrev pub Proper : Thing → Type 0
-Proper (aHead h) = ProperHead h
-Proper (aMovement m) = ProperMovement m
+Proper (a_head h) = ProperHead h
+Proper (a_movement m) = ProperMovement m
 Proper strange = ⊥
 
 -- all of them

@@ -3,10 +3,10 @@ use mathlib.Core.List.{List, [], ◌∷◌}
 use Prim.Native.Nat.{ℕ, suc, ◌≤◌}
 use native.Mathlib.Omega.{arith}
 use Rattle.paper.specs.Entries.{Said}
-use Rattle.gpc.specs.Records.{Head, Movement, Record, headIs, movementIs, noRecord}
-use Rattle.gpc.specs.Statements.{Statement, Spots, Judged, accepted, refused, onSaid, with, Stage, top, within, judgeOn, judge}
+use Rattle.gpc.specs.Records.{Head, Movement, Record, head_is, movement_is, no_record}
+use Rattle.gpc.specs.Statements.{Statement, Spots, Judged, accepted, refused, on_said, with, Stage, top, within, judge_on, judge}
 use Rattle.gpcexact.proofs.Closing.{Differs, debit, credit, balance, Closed, agree, differ, closing}
-use Rattle.gpcexact.proofs.Fields.{Only, is_read, is-wrong}
+use Rattle.gpcexact.proofs.Fields.{Only, is_read, is_wrong}
 
 -- `At k off`: the place `off` in the record behind k others is one to point at. In a whole record these are the places up to `most`.
 module _ (At : ℕ → ℕ → Type 0) (most : ℕ) where
@@ -15,9 +15,9 @@ module _ (At : ℕ → ℕ → Type 0) (most : ℕ) where
 
   -- a record behind k others: its fields are read or refused with 51, at such a place
   pub data Fits (k : ℕ) : Record → Type 0 where
-    a-head : {x : Said Head} → Whole k → Only most x → Fits k (headIs x)
-    a-movement : {x : Said Movement} → Whole k → Only most x → Fits k (movementIs x)
-    no_record : At k 0 → Fits k noRecord
+    a-head : {x : Said Head} → Whole k → Only most x → Fits k (head_is x)
+    a-movement : {x : Said Movement} → Whole k → Only most x → Fits k (movement_is x)
+    no-record : At k 0 → Fits k no_record
 
   abbrev pub AllFit : ℕ → List Record → Type 0
   AllFit k [] = Unit {0}
@@ -37,10 +37,10 @@ module _ (At : ℕ → ℕ → Type 0) (most : ℕ) where
   with-named s (refuses n b c) = refuses n b c
 
   -- a record's fields
-  said-named : {A : Type 0} (k : ℕ) {x : Said A} {f : A → Judged} → Whole k → Only most x → ((a : A) → Named (f a)) → Named (onSaid k x f)
-  unfolding onSaid
+  said-named : {A : Type 0} (k : ℕ) {x : Said A} {f : A → Judged} → Whole k → Only most x → ((a : A) → Named (f a)) → Named (on_said k x f)
+  unfolding on_said
   said-named k w (is_read {a = a}) f = f a
-  said-named k w (is-wrong {off = off} h) f = refuses 51 (omega arith) (w off h)
+  said-named k w (is_wrong {off = off} h) f = refuses 51 (omega arith) (w off h)
 
   module _ (p : Spots) (new : p.new ≤ most) (debits : p.debit ≤ most) (credits : p.credit ≤ most) where
     differs-named : (k : ℕ) {n off : ℕ} → Whole k → Differs p n off → Named (refused n k off)
@@ -50,8 +50,8 @@ module _ (At : ℕ → ℕ → Type 0) (most : ℕ) where
 
     -- a statement's sums
     closed-named : (k : ℕ) {h : Head} {ms : List Movement} {x : Said Statement} {f : Statement → Judged} → Whole k → Closed p h ms x
-        → ((s : Statement) → Named (f s)) → Named (onSaid k x f)
-    unfolding onSaid
+        → ((s : Statement) → Named (f s)) → Named (on_said k x f)
+    unfolding on_said
     closed-named k w (agree _) f = f _
     closed-named k w (differ d) f = differs-named k w d
 
@@ -60,16 +60,16 @@ module _ (At : ℕ → ℕ → Type 0) (most : ℕ) where
     Stands k top = At k 0
     Stands k (within j h ms) = Whole j
 
-    named-on : (rs : List Record) (k : ℕ) (st : Stage) → Stands k st → AllFit k rs → Named (judgeOn p k st rs)
-    unfolding judgeOn
+    named-on : (rs : List Record) (k : ℕ) (st : Stage) → Stands k st → AllFit k rs → Named (judge_on p k st rs)
+    unfolding judge_on
     named-on [] k top a fits = refuses 50 (omega arith) a
-    named-on (noRecord ∷ rs) k top a fits = refuses 50 (omega arith) a
-    named-on (movementIs x ∷ rs) k top a fits = refuses 50 (omega arith) a
-    named-on (headIs x ∷ rs) k top a (a-head w o, fits) = said-named k w o λ h. named-on rs (suc k) (within k h []) w fits
+    named-on (no_record ∷ rs) k top a fits = refuses 50 (omega arith) a
+    named-on (movement_is x ∷ rs) k top a fits = refuses 50 (omega arith) a
+    named-on (head_is x ∷ rs) k top a (a-head w o, fits) = said-named k w o λ h. named-on rs (suc k) (within k h []) w fits
     named-on [] k (within j h ms) v fits = closed-named j v (closing p h ms) λ s. accepts
-    named-on (noRecord ∷ rs) k (within j h ms) v (no_record a, fits) = refuses 50 (omega arith) a
-    named-on (movementIs x ∷ rs) k (within j h ms) v (a-movement w o, fits) = said-named k w o λ m. named-on rs (suc k) (within j h _) v fits
-    named-on (headIs x ∷ rs) k (within j h ms) v (a-head w o, fits) =
+    named-on (no_record ∷ rs) k (within j h ms) v (no-record a, fits) = refuses 50 (omega arith) a
+    named-on (movement_is x ∷ rs) k (within j h ms) v (a-movement w o, fits) = said-named k w o λ m. named-on rs (suc k) (within j h _) v fits
+    named-on (head_is x ∷ rs) k (within j h ms) v (a-head w o, fits) =
         closed-named j v (closing p h ms) λ s. with-named s (said-named k w o λ g. named-on rs (suc k) (within k g []) w fits)
 
     pub judge-named : (rs : List Record) → At 0 0 → AllFit 0 rs → Named (judge p rs)

@@ -7,7 +7,7 @@ use native.Mathlib.Omega.{arith}
 use lib.ListN.{length}
 use lib.Seq.{append_snoc}
 use Rattle.gpc.specs.Records.{Head, Movement, Thing, Record, said, saids}
-use Rattle.gpc.specs.Statements.{Statement, statement, movementThings, things, Agrees, Spots, Judged, accepted, refused, onSaid, with, top, within, judgeOn}
+use Rattle.gpc.specs.Statements.{Statement, statement, movement_things, things, Agrees, Spots, Judged, accepted, refused, on_said, with, top, within, judge_on}
 use Rattle.gpc.specs.Spelled.{AllAgree}
 use Rattle.gpc.specs.FirstFault.{Over, ends, goes}
 use Rattle.gpcexact.proofs.Things.{movements-length}
@@ -37,13 +37,13 @@ module _ (p : Spots) where
   -- behind a statement: nothing more, or what begins with its first record
   unfoldable pub behind : ℕ → List Record → Judged
   behind k [] = accepted []
-  behind k (r ∷ rs) = judgeOn p k top (r ∷ rs)
+  behind k (r ∷ rs) = judge_on p k top (r ∷ rs)
 
   -- movements are read one after the other
   pub over-movements : (more : List Movement) (r : List Thing) (after : List Record) (k j : ℕ) (h : Head) (ms : List Movement)
-      → judgeOn p k (within j h ms) (saids (movementThings more r) ++ after)
-      ≡ judgeOn p (k + length more) (within j h (ms ++ more)) (saids r ++ after)
-  unfolding judgeOn onSaid saids said movementThings
+      → judge_on p k (within j h ms) (saids (movement_things more r) ++ after)
+      ≡ judge_on p (k + length more) (within j h (ms ++ more)) (saids r ++ after)
+  unfolding judge_on on_said saids said movement_things
   over-movements [] r after k j h ms = rw (add-zero k, append-nil ms)
   over-movements (m ∷ more) r after k j h ms =
       let e : suc k + length more ≡ k + suc (length more) = omega arith in
@@ -51,8 +51,8 @@ module _ (p : Spots) where
 
   -- a statement that is over is taken
   pub over-end : (k j : ℕ) (h : Head) (ms : List Movement) {rs : List Record} → Agrees (statement h ms) → Over rs
-      → judgeOn p k (within j h ms) rs ≡ with (statement h ms) (behind k rs)
-  unfolding judgeOn onSaid with behind
+      → judge_on p k (within j h ms) rs ≡ with (statement h ms) (behind k rs)
+  unfolding judge_on on_said with behind
   over-end k j h ms a ends = rw (agrees-closed p h ms a)
   over-end k j h ms a goes = rw (agrees-closed p h ms a)
 
@@ -65,10 +65,10 @@ module _ (p : Spots) where
   -- statements are taken one after the other
   pub over-statements : (ss : List Statement) (rs : List Record) (k : ℕ) → AllAgree ss → Over rs
       → behind k (saids (things ss) ++ rs) ≡ withs ss (behind (k + length (things ss)) rs)
-  unfolding behind withs judgeOn onSaid saids things said
+  unfolding behind withs judge_on on_said saids things said
   over-statements [] rs k a o = rw (add-zero k)
   over-statements (s ∷ ss) rs k (a, b) o =
-      let e : suc k + length s.movements + length (things ss) ≡ k + suc (length (movementThings s.movements (things ss)))
+      let e : suc k + length s.movements + length (things ss) ≡ k + suc (length (movement_things s.movements (things ss)))
       = omega (arith, movements-length s.movements (things ss)) in
       over-movements s.movements (things ss) rs (suc k) k s.head []
       ∙ over-end (suc k + length s.movements) k s.head s.movements a (over-statements-next ss rs o)

@@ -7,8 +7,8 @@ use Rattle.paper.specs.Writing.{drafted}
 use Rattle.gpc.specs.Statements.{Statement, things}
 use Rattle.gpc.specs.Spelled.{Spells}
 use Rattle.gpc.specs.Canonical.{canon, plain, kept}
-use Rattle.gpc.specs.StatementRows.{statementRow}
-use Rattle.gpc.specs.Answers.{rowCount, statementRows, statementDraft}
+use Rattle.gpc.specs.StatementRows.{statement_row}
+use Rattle.gpc.specs.Answers.{row_count, statement_rows, statement_draft}
 use Rattle.gpcback.proofs.ManySound.{things-known}
 use Rattle.gpcback.proofs.ManyAgain.{records-again, records-kept, plain-length}
 use Rattle.gpcwhole.specs.Outcomes.{Hold}
@@ -23,13 +23,13 @@ module _ (f : List ℕ) (ss : List Statement) (s : Spells f ss) where
   again = records-again f (things ss) s.read (things-known ss)
 
   -- and just that is drafted of rows that hold it,
-  pub rewritten : (rows : List ℕ) → Hold rows ss → statementDraft rows ≡ drafted (plain f)
+  pub rewritten : (rows : List ℕ) → Hold rows ss → statement_draft rows ≡ drafted (plain f)
   rewritten rows held = drafts-held rows f ss held s ∙ ap drafted again
 
   -- as the rows do that reading leaves.
-  pub read-then-written : (lent : List ℕ) → rowCount ss ≤ length lent / statementRow
-      → statementDraft (take (statementRow * rowCount ss) (statementRows f lent)) ≡ drafted (plain f)
-  read-then-written lent l = rewritten (take (statementRow * rowCount ss) (statementRows f lent)) ((reads f lent ss l).1 s).holds
+  pub read-then-written : (lent : List ℕ) → row_count ss ≤ length lent / statement_row
+      → statement_draft (take (statement_row * row_count ss) (statement_rows f lent)) ≡ drafted (plain f)
+  read-then-written lent l = rewritten (take (statement_row * row_count ss) (statement_rows f lent)) ((reads f lent ss l).1 s).holds
 
   -- Every kept byte stays,
   pub kept-bytes : kept (canon ss) ≡ kept f

@@ -7,21 +7,21 @@ use Prim.Native.String.{String}
 use Rattle.base.specs.Pick.{pick}
 use Rattle.base.specs.Seek.{starts}
 use Rattle.paper.specs.Read.{given}
-use Rattle.paper.specs.Bytes.{bytes, isDigit, null}
-use Rattle.paper.specs.Numerals.{digits, digitsOn, fixed, fixedOn}
+use Rattle.paper.specs.Bytes.{bytes, is_digit, null}
+use Rattle.paper.specs.Numerals.{digits, digits_on, fixed, fixed_on}
 use Rattle.paper.specs.Accounts.{account}
-use Rattle.paper.specs.Entries.{onField}
-use Rattle.paper.specs.Words.{word_of, word_bytes, blanks, wordsBytes}
+use Rattle.paper.specs.Entries.{on_field}
+use Rattle.paper.specs.Words.{word_of, word_bytes, blanks, words_bytes}
 use Rattle.paper.specs.Writing.{refusal}
-use Rattle.gpc.specs.Parts.{or51, piecesOn, pieces}
-use Rattle.gpc.specs.Internal.{taken, internal, edited, accountOf, readInternal, spellInternal}
-use Rattle.gpc.specs.Signed.{signed, isDifference, above, below, side, readDigits, readMinus, onSigned, spellSigned, negative, signedWord, wordSigned}
-use Rattle.gpc.specs.Turnovers.{is_code, part, total, isDebit, isCredit, balanced}
-use Rattle.gpc.specs.Records.{read_code, read_head, readMovement, crlf, readRecord, readRecords, recordsIn, spellHead, spellMovement, spell, spells}
-use Rattle.gpc.specs.Statements.{movementThings, things, moves_of, closed, onSaid, with, judgeOn, judge}
+use Rattle.gpc.specs.Parts.{or51, pieces_on, pieces}
+use Rattle.gpc.specs.Internal.{taken, internal, edited, account_of, read_internal, spell_internal}
+use Rattle.gpc.specs.Signed.{signed, is_difference, above, below, side, read_digits, read_minus, on_signed, spell_signed, negative, signed_word, word_signed}
+use Rattle.gpc.specs.Turnovers.{is_code, part, total, is_debit, is_credit, balanced}
+use Rattle.gpc.specs.Records.{read_code, read_head, read_movement, crlf, read_record, read_records, records_in, spell_head, spell_movement, spell, spells}
+use Rattle.gpc.specs.Statements.{movement_things, things, moves_of, closed, on_said, with, judge_on, judge}
 use Rattle.gpc.specs.Canonical.{canon}
-use Rattle.gpc.specs.StatementRows.{headIn, movementIn, thingIn, thingsOn, thingsIn, test, accountTest, signedTest, headTested, movementTested, tested, testeds, headRow, movementRow}
-use Rattle.gpc.specs.Answers.{refusedAt, acceptedAs, answered, judgeFile, statementAnswer, draftOf, judgeRows, statementDraft}
+use Rattle.gpc.specs.StatementRows.{head_in, movement_in, thing_in, things_on, things_in, test, account_test, signed_test, head_tested, movement_tested, tested, testeds, head_row, movement_row}
+use Rattle.gpc.specs.Answers.{refused_at, accepted_as, answered, judge_file, statement_answer, draft_of, judge_rows, statement_draft}
 
 -- 128 bytes and their line end
 abbrev record_of : String → List ℕ
@@ -73,34 +73,34 @@ abbrev room : List ℕ
 room = blanks 816
 
 -- sums that agree: by debit and credit, by a reversal, and of two statements, each begun anew
-pub worked : (statementAnswer (good ++ (debit ++ credit)) room ≡ acceptedAs 3)
-    × (statementAnswer (less ++ (debit ++ reversed)) room ≡ acceptedAs 3)
-    × (statementAnswer (good ++ (debit ++ (credit ++ (less ++ (debit ++ reversed))))) room ≡ acceptedAs 6)
-unfolding or51 piecesOn pieces taken internal edited accountOf readInternal spellInternal signed isDifference above below side readDigits readMinus onSigned spellSigned negative signedWord wordSigned is_code part total isDebit isCredit balanced read_code read_head readMovement readRecord readRecords recordsIn spellHead spellMovement spell spells movementThings things moves_of closed onSaid with judgeOn judge canon headIn movementIn thingIn thingsOn thingsIn test accountTest signedTest headTested movementTested tested testeds headRow movementRow answered judgeFile statementAnswer draftOf judgeRows statementDraft word_of word_bytes wordsBytes blanks digits digitsOn fixed fixedOn given onField isDigit null starts pick
+pub worked : (statement_answer (good ++ (debit ++ credit)) room ≡ accepted_as 3)
+    × (statement_answer (less ++ (debit ++ reversed)) room ≡ accepted_as 3)
+    × (statement_answer (good ++ (debit ++ (credit ++ (less ++ (debit ++ reversed))))) room ≡ accepted_as 6)
+unfolding or51 pieces_on pieces taken internal edited account_of read_internal spell_internal signed is_difference above below side read_digits read_minus on_signed spell_signed negative signed_word word_signed is_code part total is_debit is_credit balanced read_code read_head read_movement read_record read_records records_in spell_head spell_movement spell spells movement_things things moves_of closed on_said with judge_on judge canon head_in movement_in thing_in things_on things_in test account_test signed_test head_tested movement_tested tested testeds head_row movement_row answered judge_file statement_answer draft_of judge_rows statement_draft word_of word_bytes words_bytes blanks digits digits_on fixed fixed_on given on_field is_digit null starts pick
 worked = (refl, refl, refl)
 
 -- the place of what differs: debit first, then credit, then the new balance; and of the second statement
-pub differing : (statementAnswer (debit-off ++ (debit ++ credit)) room ≡ refusedAt 52 0 75)
-    × (statementAnswer (credit-off ++ (debit ++ credit)) room ≡ refusedAt 52 0 90)
-    × (statementAnswer (new-off ++ (debit ++ credit)) room ≡ refusedAt 53 0 60)
-    × (statementAnswer (all-off ++ (debit ++ credit)) room ≡ refusedAt 52 0 75)
-    × (statementAnswer (good ++ (debit ++ (credit ++ (credit-off ++ (debit ++ credit))))) room ≡ refusedAt 52 3 90)
-unfolding or51 piecesOn pieces taken internal edited accountOf readInternal spellInternal signed isDifference above below side readDigits readMinus onSigned spellSigned negative signedWord wordSigned is_code part total isDebit isCredit balanced read_code read_head readMovement readRecord readRecords recordsIn spellHead spellMovement spell spells movementThings things moves_of closed onSaid with judgeOn judge canon headIn movementIn thingIn thingsOn thingsIn test accountTest signedTest headTested movementTested tested testeds headRow movementRow answered judgeFile statementAnswer draftOf judgeRows statementDraft word_of word_bytes wordsBytes blanks digits digitsOn fixed fixedOn given onField isDigit null starts pick
+pub differing : (statement_answer (debit-off ++ (debit ++ credit)) room ≡ refused_at 52 0 75)
+    × (statement_answer (credit-off ++ (debit ++ credit)) room ≡ refused_at 52 0 90)
+    × (statement_answer (new-off ++ (debit ++ credit)) room ≡ refused_at 53 0 60)
+    × (statement_answer (all-off ++ (debit ++ credit)) room ≡ refused_at 52 0 75)
+    × (statement_answer (good ++ (debit ++ (credit ++ (credit-off ++ (debit ++ credit))))) room ≡ refused_at 52 3 90)
+unfolding or51 pieces_on pieces taken internal edited account_of read_internal spell_internal signed is_difference above below side read_digits read_minus on_signed spell_signed negative signed_word word_signed is_code part total is_debit is_credit balanced read_code read_head read_movement read_record read_records records_in spell_head spell_movement spell spells movement_things things moves_of closed on_said with judge_on judge canon head_in movement_in thing_in things_on things_in test account_test signed_test head_tested movement_tested tested testeds head_row movement_row answered judge_file statement_answer draft_of judge_rows statement_draft word_of word_bytes words_bytes blanks digits digits_on fixed fixed_on given on_field is_digit null starts pick
 differing = (refl, refl, refl, refl, refl)
 
 -- sums come before the next head's fields and behind its length; a line end is CR LF; a movement before any head, and no record
-pub order : (statementAnswer (new-off ++ (debit ++ (credit ++ unread))) room ≡ refusedAt 53 0 60)
-    × (statementAnswer (good ++ (debit ++ (credit ++ unread))) room ≡ refusedAt 51 3 60)
-    × (statementAnswer (new-off ++ (debit ++ (credit ++ bytes "074"))) room ≡ refusedAt 50 3 0)
-    × (statementAnswer (good ++ (bytes "0759010000000000019570000000000000000000000000010000000035001000000004200000005580000000000310126ICE                 00203310126" ++ (10 ∷ 13 ∷ []))) room ≡ refusedAt 50 1 0)
-    × (statementAnswer (debit ++ good) room ≡ refusedAt 50 0 0)
-    × (statementAnswer [] room ≡ refusedAt 50 0 0)
-unfolding or51 piecesOn pieces taken internal edited accountOf readInternal spellInternal signed isDifference above below side readDigits readMinus onSigned spellSigned negative signedWord wordSigned is_code part total isDebit isCredit balanced read_code read_head readMovement readRecord readRecords recordsIn spellHead spellMovement spell spells movementThings things moves_of closed onSaid with judgeOn judge canon headIn movementIn thingIn thingsOn thingsIn test accountTest signedTest headTested movementTested tested testeds headRow movementRow answered judgeFile statementAnswer draftOf judgeRows statementDraft word_of word_bytes wordsBytes blanks digits digitsOn fixed fixedOn given onField isDigit null starts pick
+pub order : (statement_answer (new-off ++ (debit ++ (credit ++ unread))) room ≡ refused_at 53 0 60)
+    × (statement_answer (good ++ (debit ++ (credit ++ unread))) room ≡ refused_at 51 3 60)
+    × (statement_answer (new-off ++ (debit ++ (credit ++ bytes "074"))) room ≡ refused_at 50 3 0)
+    × (statement_answer (good ++ (bytes "0759010000000000019570000000000000000000000000010000000035001000000004200000005580000000000310126ICE                 00203310126" ++ (10 ∷ 13 ∷ []))) room ≡ refused_at 50 1 0)
+    × (statement_answer (debit ++ good) room ≡ refused_at 50 0 0)
+    × (statement_answer [] room ≡ refused_at 50 0 0)
+unfolding or51 pieces_on pieces taken internal edited account_of read_internal spell_internal signed is_difference above below side read_digits read_minus on_signed spell_signed negative signed_word word_signed is_code part total is_debit is_credit balanced read_code read_head read_movement read_record read_records records_in spell_head spell_movement spell spells movement_things things moves_of closed on_said with judge_on judge canon head_in movement_in thing_in things_on things_in test account_test signed_test head_tested movement_tested tested testeds head_row movement_row answered judge_file statement_answer draft_of judge_rows statement_draft word_of word_bytes words_bytes blanks digits digits_on fixed fixed_on given on_field is_digit null starts pick
 order = (refl, refl, refl, refl, refl, refl)
 
 -- of two faults in a record the left one is told
-pub leftmost : (statementAnswer twice room ≡ refusedAt 51 0 59) × (statementAnswer (good ++ twice-moved) room ≡ refusedAt 51 1 19)
-unfolding or51 piecesOn pieces taken internal edited accountOf readInternal spellInternal signed isDifference above below side readDigits readMinus onSigned spellSigned negative signedWord wordSigned is_code part total isDebit isCredit balanced read_code read_head readMovement readRecord readRecords recordsIn spellHead spellMovement spell spells movementThings things moves_of closed onSaid with judgeOn judge canon headIn movementIn thingIn thingsOn thingsIn test accountTest signedTest headTested movementTested tested testeds headRow movementRow answered judgeFile statementAnswer draftOf judgeRows statementDraft word_of word_bytes wordsBytes blanks digits digitsOn fixed fixedOn given onField isDigit null starts pick
+pub leftmost : (statement_answer twice room ≡ refused_at 51 0 59) × (statement_answer (good ++ twice-moved) room ≡ refused_at 51 1 19)
+unfolding or51 pieces_on pieces taken internal edited account_of read_internal spell_internal signed is_difference above below side read_digits read_minus on_signed spell_signed negative signed_word word_signed is_code part total is_debit is_credit balanced read_code read_head read_movement read_record read_records records_in spell_head spell_movement spell spells movement_things things moves_of closed on_said with judge_on judge canon head_in movement_in thing_in things_on things_in test account_test signed_test head_tested movement_tested tested testeds head_row movement_row answered judge_file statement_answer draft_of judge_rows statement_draft word_of word_bytes words_bytes blanks digits digits_on fixed fixed_on given on_field is_digit null starts pick
 leftmost = (refl, refl)
 
 -- ---- rows
@@ -108,7 +108,7 @@ leftmost = (refl, refl)
 -- a head of 19-19 with these balances and turnovers, and the two movements
 abbrev head-row : ℕ → ℕ → ℕ → List ℕ
 head-row new debit credit =
-    headRow
+    head_row
     record {
       account = account 19 19;
       before = blanks 26;
@@ -121,7 +121,7 @@ head-row new debit credit =
 
 abbrev movement-row : ℕ → ℕ → List ℕ
 movement-row code amount =
-    movementRow
+    movement_row
     record {
       account = account 19 19;
       other = account 0 705;
@@ -136,11 +136,11 @@ abbrev both : List ℕ
 both = movement-row 1 3500 ++ movement-row 2 1000
 
 -- the words of a row that are refused, in the same order
-pub refused-rows : (statementDraft (head-row 97500 3501 1000 ++ both) ≡ refusal 52 1 5)
-    × (statementDraft (head-row 97500 3500 1001 ++ both) ≡ refusal 52 1 6)
-    × (statementDraft (head-row 97501 3500 1000 ++ both) ≡ refusal 53 1 4)
-    × (statementDraft (head-row 97500 3500 100000000000000 ++ both) ≡ refusal 51 1 6)
-    × (statementDraft (head-row 97500 3500 1000 ++ movement-row 3 3500) ≡ refusal 51 2 6)
-    × (statementDraft both ≡ refusal 50 1 0)
-unfolding or51 piecesOn pieces taken internal edited accountOf readInternal spellInternal signed isDifference above below side readDigits readMinus onSigned spellSigned negative signedWord wordSigned is_code part total isDebit isCredit balanced read_code read_head readMovement readRecord readRecords recordsIn spellHead spellMovement spell spells movementThings things moves_of closed onSaid with judgeOn judge canon headIn movementIn thingIn thingsOn thingsIn test accountTest signedTest headTested movementTested tested testeds headRow movementRow answered judgeFile statementAnswer draftOf judgeRows statementDraft word_of word_bytes wordsBytes blanks digits digitsOn fixed fixedOn given onField isDigit null starts pick
+pub refused-rows : (statement_draft (head-row 97500 3501 1000 ++ both) ≡ refusal 52 1 5)
+    × (statement_draft (head-row 97500 3500 1001 ++ both) ≡ refusal 52 1 6)
+    × (statement_draft (head-row 97501 3500 1000 ++ both) ≡ refusal 53 1 4)
+    × (statement_draft (head-row 97500 3500 100000000000000 ++ both) ≡ refusal 51 1 6)
+    × (statement_draft (head-row 97500 3500 1000 ++ movement-row 3 3500) ≡ refusal 51 2 6)
+    × (statement_draft both ≡ refusal 50 1 0)
+unfolding or51 pieces_on pieces taken internal edited account_of read_internal spell_internal signed is_difference above below side read_digits read_minus on_signed spell_signed negative signed_word word_signed is_code part total is_debit is_credit balanced read_code read_head read_movement read_record read_records records_in spell_head spell_movement spell spells movement_things things moves_of closed on_said with judge_on judge canon head_in movement_in thing_in things_on things_in test account_test signed_test head_tested movement_tested tested testeds head_row movement_row answered judge_file statement_answer draft_of judge_rows statement_draft word_of word_bytes words_bytes blanks digits digits_on fixed fixed_on given on_field is_digit null starts pick
 refused-rows = (refl, refl, refl, refl, refl, refl)

@@ -3,19 +3,19 @@ use mathlib.Core.Path.{◌≡◌, refl, sym}
 use mathlib.Core.List.{List, [], ◌∷◌}
 use Prim.Native.Nat.{ℕ}
 use native.Mathlib.Omega.{arith}
-use Rattle.gpc.specs.Records.{Head, Movement, Thing, aMovement}
-use Rattle.gpc.specs.Statements.{Statement, statement, movementThings, things}
+use Rattle.gpc.specs.Records.{Head, Movement, Thing, a_movement}
+use Rattle.gpc.specs.Statements.{Statement, statement, movement_things, things}
 
 -- statements begin with a head
-head_first : {P : Type 0} (ss : List Statement) (m : Movement) (ts : List Thing) → things ss ≡ aMovement m ∷ ts → P
+head_first : {P : Type 0} (ss : List Statement) (m : Movement) (ts : List Thing) → things ss ≡ a_movement m ∷ ts → P
 unfolding things
 head_first [] m ts e = absurd (let z : ◌≡◌ {A = ℕ} 0 1 = cc in omega arith)
 head_first (s ∷ ss) m ts e = absurd (let z : ◌≡◌ {A = ℕ} 0 1 = cc in omega arith)
 
 -- so movements end where the next head stands, or nothing
-movements-same : (ms ms' : List Movement) (ss ss' : List Statement) → movementThings ms (things ss) ≡ movementThings ms' (things ss')
+movements-same : (ms ms' : List Movement) (ss ss' : List Statement) → movement_things ms (things ss) ≡ movement_things ms' (things ss')
     → (ms ≡ ms') × (things ss ≡ things ss')
-unfolding movementThings
+unfolding movement_things
 movements-same [] [] ss ss' e = (refl, e)
 movements-same [] (m ∷ ms') ss ss' e = head_first ss m _ e
 movements-same (m ∷ ms) [] ss ss' e = head_first ss' m _ (sym e)

@@ -3,9 +3,9 @@ pub mod take;
 
 ghost use Rattle.std.specs.Prelude.{◌≡◌, true, ◌≤◌, ltb, leb, length, drop};
 ghost use Rattle.paper.specs.Accounts.{Account};
-ghost use Rattle.paper.specs.Days.{realDay};
+ghost use Rattle.paper.specs.Days.{real_day};
 ghost use Rattle.paper.specs.Entries.{counted};
-ghost use Rattle.paper.specs.GroupLine.{spaceCount, hasPayer, totalAndDate, readGroup};
+ghost use Rattle.paper.specs.GroupLine.{space_count, has_payer, total_and_date, read_group};
 ghost use Rattle.groupline.specs.Spaced.{spaced};
 ghost use Rattle.groupline.specs.Told.{told, Marked, Tells, Low};
 
@@ -44,7 +44,7 @@ fn is_spaced(s: &[u8]) -> bool
 // Does a space stand before `stop`, from the third byte on? It is looked for from the right, as a total is shorter than an account.
 fn space_inside(s: &[u8], stop: usize) -> bool
     requires { (2 ≤ stop) × (stop ≤ length s.now) }
-    ensures { result ≡ ltb (spaceCount (drop stop s.now)) (spaceCount (drop 2 s.now)) }
+    ensures { result ≡ ltb (space_count (drop stop s.now)) (space_count (drop 2 s.now)) }
 {
     let mut i = stop;
     while 2 < i {
@@ -60,7 +60,7 @@ fn space_inside(s: &[u8], stop: usize) -> bool
 // Has a line that is spaced so a third space?
 fn third_space(s: &[u8]) -> bool
     requires { spaced s.now ≡ true }
-    ensures { result ≡ leb 3 (spaceCount s.now) }
+    ensures { result ≡ leb 3 (space_count s.now) }
 {
     let stop = s.len() - 7;
     if space_inside(s, stop) {
@@ -74,7 +74,7 @@ fn third_space(s: &[u8]) -> bool
 
 // Does the payer's field stand in the line? Where it does not stand always, the line's spaces tell.
 fn has_payer(s: &[u8], always: bool) -> bool
-    ensures { result ≡ hasPayer always s.now }
+    ensures { result ≡ has_payer always s.now }
 {
     if always {
         return true;
@@ -87,9 +87,9 @@ fn has_payer(s: &[u8], always: bool) -> bool
 
 // TOTAL, at `at`, and DATE, behind the payer; the day may be judged here.
 fn total_and_date(s: &[u8], at: usize, sh: Sheet, today: u64, here: bool, single: bool) -> GroupRead
-    requires today_value { realDay today ≡ true }
+    requires today_value { real_day today ≡ true }
     requires at_in_bounds { at ≤ length s.now }
-    ensures result_value { (payer : Account) → told payer result ≡ counted (totalAndDate sh today here payer at (drop at s.now)) }
+    ensures result_value { (payer : Account) → told payer result ≡ counted (total_and_date sh today here payer at (drop at s.now)) }
     ensures marked { Marked single result }
     ensures low { Low result }
 {
@@ -123,9 +123,9 @@ fn total_and_date(s: &[u8], at: usize, sh: Sheet, today: u64, here: bool, single
 
 // The whole line, which is known to begin with `2 `; its day is judged here, or elsewhere.
 pub fn group_line(s: &[u8], sh: Sheet, today: u64, here: bool) -> GroupRead
-    requires today_value { realDay today ≡ true }
+    requires today_value { real_day today ≡ true }
     requires in_bounds { 2 ≤ length s.now }
-    ensures tells { Tells (readGroup sh today here s.now) result }
+    ensures tells { Tells (read_group sh today here s.now) result }
     ensures low { Low result }
 {
     if has_payer(s, sh.emptypayer) {

@@ -1,9 +1,9 @@
 // The line that begins a group, judged before: its values are taken and nothing is tested.
 ghost use Rattle.std.specs.Prelude.{◌≡◌, true, drop};
 ghost use Rattle.paper.specs.Accounts.{account};
-ghost use Rattle.paper.specs.Terms.{dayHere};
-ghost use Rattle.paper.specs.GroupLine.{hasPayer, totalAndDate, readGroup};
-ghost use Rattle.numeral.specs.placed.Said.{isSaid};
+ghost use Rattle.paper.specs.Terms.{day_here};
+ghost use Rattle.paper.specs.GroupLine.{has_payer, total_and_date, read_group};
+ghost use Rattle.numeral.specs.placed.Said.{is_said};
 ghost use Rattle.groupline.specs.take.Taken.{Opens};
 
 use sheet::Sheet;
@@ -18,8 +18,8 @@ pub struct Group {
 
 // TOTAL, at `at`, and DATE, behind the payer. The date ends the line: with six digits a space stands before them.
 fn with_date(s: &[u8], at: usize, sh: Sheet, today: u64, prefix: u64, base: u64) -> Group
-    requires { isSaid (totalAndDate sh today (dayHere sh 0) (account prefix base) at (drop at s.now)) ≡ true }
-    ensures { Opens (totalAndDate sh today (dayHere sh 0) (account prefix base) at (drop at s.now)) result }
+    requires { is_said (total_and_date sh today (day_here sh 0) (account prefix base) at (drop at s.now)) ≡ true }
+    ensures { Opens (total_and_date sh today (day_here sh 0) (account prefix base) at (drop at s.now)) result }
 {
     let n = s.len();
     if s[n - 7] == 32 {
@@ -38,8 +38,8 @@ fn with_date(s: &[u8], at: usize, sh: Sheet, today: u64, prefix: u64, base: u64)
 
 // Does the payer's field stand in the line? Where it does not stand always, it is missing if the date follows the first field.
 fn has_payer(s: &[u8], sh: Sheet, today: u64) -> bool
-    requires { isSaid (readGroup sh today (dayHere sh 0) s.now) ≡ true }
-    ensures { result ≡ hasPayer sh.emptypayer s.now }
+    requires { is_said (read_group sh today (day_here sh 0) s.now) ≡ true }
+    ensures { result ≡ has_payer sh.emptypayer s.now }
 {
     if sh.emptypayer {
         return true;
@@ -54,8 +54,8 @@ fn has_payer(s: &[u8], sh: Sheet, today: u64) -> bool
 
 // The whole line, which is known to begin with `2 `.
 pub fn take_group(s: &[u8], sh: Sheet, today: u64) -> Group
-    requires { isSaid (readGroup sh today (dayHere sh 0) s.now) ≡ true }
-    ensures { Opens (readGroup sh today (dayHere sh 0) s.now) result }
+    requires { is_said (read_group sh today (day_here sh 0) s.now) ≡ true }
+    ensures { Opens (read_group sh today (day_here sh 0) s.now) result }
 {
     if has_payer(s, sh, today) {
         let payer = account::at::take_payer(

@@ -16,7 +16,7 @@ use Rattle.numeral.specs.Told.{told}
 use Rattle.numeral.specs.declared.Num.{Num}
 use Rattle.numeral.specs.declared.Num.TheVariants.{Value, Refused}
 use Rattle.numeral.proofs.Fixed.{fixed-length}
-use Rattle.gpc.specs.Internal.{outside, internal, edited, accountOf, readInternal, spellInternal}
+use Rattle.gpc.specs.Internal.{outside, internal, edited, account_of, read_internal, spell_internal}
 use Rattle.internal.proofs.Places.{taken-length}
 use Rattle.internal.proofs.Laws.{refused, accepted}
 
@@ -26,8 +26,8 @@ module _ (d e : List ℕ) (f : e ≡ edited d) (m : Num) (g : told m ≡ digits 
   prefix-said : digits 6 6 (take 6 (edited d)) ≡ told m
   prefix-said = rw (← f) (rw (drop-none e) at (sym g))
 
-  pub no-prefix : (k : ℕ) → m ≡ Refused k → fault 51 ≡ readInternal d
-  unfolding accountOf given
+  pub no-prefix : (k : ℕ) → m ≡ Refused k → fault 51 ≡ read_internal d
+  unfolding account_of given
   no-prefix k r = sym (refused d k (rw (prefix-said, r) refl))
 
   module _ (p : ℕ) (v : m ≡ Value p) (n : Num) (h : told n ≡ digits 10 10 (take 10 (drop 6 e))) where
@@ -37,12 +37,12 @@ module _ (d e : List ℕ) (f : e ≡ edited d) (m : Num) (g : told m ≡ digits 
         let long : length (drop 6 e) ≡ 10 = omega (arith, length-drop 6 e, ap length f, taken-length outside d) in
         rw (← f) (rw (take_all 10 (drop 6 e) (omega arith)) at (sym h))
 
-    pub no-base : (k : ℕ) → n ≡ Refused k → fault 51 ≡ readInternal d
-    unfolding accountOf given
+    pub no-base : (k : ℕ) → n ≡ Refused k → fault 51 ≡ read_internal d
+    unfolding account_of given
     no-base k r = sym (refused d k (rw (prefix-said, v, base-said, r) refl))
 
-    pub both_read : (b : ℕ) → n ≡ Value b → length d ≡ 16 → value (account p b) ≡ readInternal d
-    unfolding accountOf given
+    pub both_read : (b : ℕ) → n ≡ Value b → length d ≡ 16 → value (account p b) ≡ read_internal d
+    unfolding account_of given
     both_read b w long = sym (accepted d (account p b) long (rw (prefix-said, v, base-said, w) refl))
 
 pub ruleset readings = (no-prefix, no-base, both_read)
@@ -68,8 +68,8 @@ module _ (p : ℕ) {o o1 : List ℕ} {q : ℕ} where
   both-put b w v long = whole (omega (arith, length-append (fixed 6 p) (fixed 10 b), fixed-length 6 p, fixed-length 10 b)) (v then w)
 
 -- `put_internal`
-pub internal-put : (d x : List ℕ) (p b : ℕ) {o o1 : List ℕ} {at r : ℕ} → d ≡ fixed 6 p ++ fixed 10 b → x ≡ internal d → Wrote o at x o1 r → Wrote o at (spellInternal (account p b)) o1 r
-unfolding spellInternal
+pub internal-put : (d x : List ℕ) (p b : ℕ) {o o1 : List ℕ} {at r : ℕ} → d ≡ fixed 6 p ++ fixed 10 b → x ≡ internal d → Wrote o at x o1 r → Wrote o at (spell_internal (account p b)) o1 r
+unfolding spell_internal
 internal-put d x p b e f w = rw (f, e) at w
 
 pub ruleset puttings = (bytes-put, base-room, both-put, internal-put)

@@ -26,18 +26,18 @@ unfolding taken
 taken-length [] d = refl
 taken-length (p ∷ ps) d = ap suc (taken-length ps d)
 
-getD-taken : (ps d : List ℕ) (q : ℕ) → q < length ps → get_or (taken ps d) q 0 ≡ get_or d (get_or ps q 0) 0
+get_d-taken : (ps d : List ℕ) (q : ℕ) → q < length ps → get_or (taken ps d) q 0 ≡ get_or d (get_or ps q 0) 0
 unfolding taken
-getD-taken [] d q h = absurd (omega arith)
-getD-taken (p ∷ ps) d zero h = refl
-getD-taken (p ∷ ps) d (suc q) h = getD-taken ps d q (omega arith)
+get_d-taken [] d q h = absurd (omega arith)
+get_d-taken (p ∷ ps) d zero h = refl
+get_d-taken (p ∷ ps) d (suc q) h = get_d-taken ps d q (omega arith)
 
 -- taking after taking is taking once
 pub taken_twice : (qs ps d : List ℕ) → within (length ps) qs ≡ true → taken qs (taken ps d) ≡ taken (taken qs ps) d
 unfolding taken
 taken_twice [] ps d h = refl
 taken_twice (q ∷ qs) ps d h =
-    rw (getD-taken ps d q (ltb-true q (length ps) (all_head (has (length ps)) q qs h)), taken_twice qs ps d (all_tail (has (length ps)) q qs h))
+    rw (get_d-taken ps d q (ltb-true q (length ps) (all_head (has (length ps)) q qs h)), taken_twice qs ps d (all_tail (has (length ps)) q qs h))
 
 -- n numbers from k on
 unfoldable pub count : ℕ → ℕ → List ℕ
@@ -52,13 +52,13 @@ taken-count (suc n) k d e = rw (drop-cons d k 0 (omega arith), taken-count n (su
 
 -- what holds of every element holds of those that are taken
 module _ (t : ℕ → Bool) where
-  getD-all : (d : List ℕ) (p : ℕ) → p < length d → all t d ≡ true → t (get_or d p 0) ≡ true
-  getD-all [] p l h = absurd (omega arith)
-  getD-all (x ∷ d) zero l h = all_head t x d h
-  getD-all (x ∷ d) (suc p) l h = getD-all d p (omega arith) (all_tail t x d h)
+  get_d-all : (d : List ℕ) (p : ℕ) → p < length d → all t d ≡ true → t (get_or d p 0) ≡ true
+  get_d-all [] p l h = absurd (omega arith)
+  get_d-all (x ∷ d) zero l h = all_head t x d h
+  get_d-all (x ∷ d) (suc p) l h = get_d-all d p (omega arith) (all_tail t x d h)
 
   pub taken-all : (ps d : List ℕ) → within (length d) ps ≡ true → all t d ≡ true → all t (taken ps d) ≡ true
   unfolding taken all
   taken-all [] d w h = refl
   taken-all (p ∷ ps) d w h =
-      all_cons t (get_or d p 0) (taken ps d) (getD-all d p (ltb-true p (length d) (all_head (has (length d)) p ps w)) h) (taken-all ps d (all_tail (has (length d)) p ps w) h)
+      all_cons t (get_or d p 0) (taken ps d) (get_d-all d p (ltb-true p (length d) (all_head (has (length d)) p ps w)) h) (taken-all ps d (all_tail (has (length d)) p ps w) h)

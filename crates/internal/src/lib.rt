@@ -3,14 +3,14 @@ ghost use Rattle.std.specs.Prelude.{◌≡◌, ◌++◌, ◌+◌, ◌≤◌, ◌
 ghost use Rattle.base.specs.Put.{Wrote};
 ghost use Rattle.paper.specs.Numerals.{fixed};
 ghost use Rattle.paper.specs.Accounts.{account};
-ghost use Rattle.gpc.specs.Internal.{internal as internalOf, edited as editedOf, readInternal, spellInternal};
+ghost use Rattle.gpc.specs.Internal.{internal as internal_of, edited as edited_of, read_internal, spell_internal};
 ghost use Rattle.internal.specs.Told.{told};
 
 use numeral::Num;
 
 // Edited digits, prefix P1 to P6 and base C1 to C10, in the internal order.
 pub fn internal(d: [u8; 16]) -> [u8; 16]
-    ensures { result ≡ internalOf d }
+    ensures { result ≡ internal_of d }
 {
     [
         d[15], // C10
@@ -34,7 +34,7 @@ pub fn internal(d: [u8; 16]) -> [u8; 16]
 
 // Internal digits in the edited order.
 pub fn edited(d: [u8; 16]) -> [u8; 16]
-    ensures { result ≡ editedOf d }
+    ensures { result ≡ edited_of d }
 {
     [
         d[10], // from P1
@@ -76,7 +76,7 @@ fn sixteen(s: &[u8], at: usize) -> [u8; 16]
 
 // The account in sixteen bytes.
 fn account_in(d: [u8; 16]) -> Found
-    ensures { told result ≡ readInternal d }
+    ensures { told result ≡ read_internal d }
 {
     let e = edited(d);
     let Num::Value(prefix) = numeral::read_digits(&e[0..6], 6, 6) else {
@@ -91,7 +91,7 @@ fn account_in(d: [u8; 16]) -> Found
 // The account in the sixteen bytes from `at` on.
 pub fn read_internal(s: &[u8], at: usize) -> Found
     requires { at + 16 ≤ length s.now }
-    ensures { told result ≡ readInternal (take 16 (drop at s.now)) }
+    ensures { told result ≡ read_internal (take 16 (drop at s.now)) }
 {
     account_in(sixteen(s, at))
 }
@@ -109,7 +109,7 @@ fn digits_of(prefix: u64, base: u64) -> [u8; 16]
 // Writes the account at `at` in the internal form, and returns the next place. Who calls has tested that no digit is lost.
 pub fn put_internal(out: &mut [u8], at: usize, prefix: u64, base: u64) -> usize
     requires { (at + 16 ≤ length out.old) × (prefix < 1000000) × (base < 10000000000) }
-    ensures { Wrote out.old at (spellInternal (account prefix base)) out.new result }
+    ensures { Wrote out.old at (spell_internal (account prefix base)) out.new result }
 {
     let d = internal(digits_of(prefix, base));
     out::put::put_bytes(out, at, &d)

@@ -1,12 +1,12 @@
 // An item's line as judging needs it: all its fields are tested, its amount and its warnings are kept.
 ghost use Rattle.std.specs.Prelude.{◌≡◌, List, ℕ, ◌+◌, ◌≤◌, length, drop};
 ghost use Rattle.paper.specs.Entries.{Counted, counted};
-ghost use Rattle.paper.specs.ItemLine.{readItem};
+ghost use Rattle.paper.specs.ItemLine.{read_item};
 ghost use Rattle.calendar.specs.term.Allows.{allows};
-ghost use Rattle.itemline.specs.tail.Told.{tailOf};
-ghost use Rattle.itemline.specs.Walk.{fromBank, fromVariable, fromAmount, payerFirst};
-ghost use Rattle.itemline.specs.judge.Brief.{kept, keptTexts, keptBank, keptVariable, anyPayer, brief};
-ghost use Rattle.itemline.specs.judge.Told.{told, toldFrom, InsideFrom};
+ghost use Rattle.itemline.specs.tail.Told.{tail_of};
+ghost use Rattle.itemline.specs.Walk.{from_bank, from_variable, from_amount, payer_first};
+ghost use Rattle.itemline.specs.judge.Brief.{kept, kept_texts, kept_bank, kept_variable, any_payer, brief};
+ghost use Rattle.itemline.specs.judge.Told.{told, told_from, InsideFrom};
 
 use crate::tail::TailRead;
 use calendar::term::Banks;
@@ -52,7 +52,7 @@ fn with_tail(
     requires most_bound { y.most ≤ 4 }
     requires at_in_bounds { at ≤ length s.now }
     requires warnings_bound { warnings ≤ 1 }
-    ensures { told result ≡ tailOf y fixed bare (keptTexts amount warnings) at (drop at s.now) }
+    ensures { told result ≡ tail_of y fixed bare (kept_texts amount warnings) at (drop at s.now) }
 {
     match crate::tail::read_tail(s, at, fixed, bare) {
         TailRead::Refused(n, place) => Judged::Refused(n, place),
@@ -68,7 +68,7 @@ fn with_tail(
 fn from_bank(s: &[u8], at: usize, sh: Sheet, banks: Banks, amount: u64) -> Judged
     requires most_bound { sh.text.most ≤ 4 }
     requires at_in_bounds { at ≤ length s.now }
-    ensures { told result ≡ fromBank sh (allows banks sh.bank) (keptBank amount) at (drop at s.now) }
+    ensures { told result ≡ from_bank sh (allows banks sh.bank) (kept_bank amount) at (drop at s.now) }
 {
     match bank::at::judge_bank(s, at, sh.priority, sh.bank_code(), banks) {
         NumAt::Refused(n) => Judged::Refused(n, at),
@@ -82,7 +82,7 @@ fn from_bank(s: &[u8], at: usize, sh: Sheet, banks: Banks, amount: u64) -> Judge
 fn from_variable(s: &[u8], at: usize, sh: Sheet, banks: Banks, amount: u64) -> Judged
     requires most_bound { sh.text.most ≤ 4 }
     requires at_in_bounds { at ≤ length s.now }
-    ensures { told result ≡ fromVariable sh (allows banks sh.bank) (keptVariable amount) at (drop at s.now) }
+    ensures { told result ≡ from_variable sh (allows banks sh.bank) (kept_variable amount) at (drop at s.now) }
 {
     match numeral::field::pass_symbol(s, at, 1) {
         Passed::Refused(n) => Judged::Refused(n, at),
@@ -99,7 +99,7 @@ fn from_variable(s: &[u8], at: usize, sh: Sheet, banks: Banks, amount: u64) -> J
 fn from_amount(s: &[u8], at: usize, sh: Sheet, banks: Banks) -> Judged
     requires most_bound { (sh.text.most ≤ 4) × (sh.itemdigits ≤ 19) }
     requires at_in_bounds { at ≤ length s.now }
-    ensures { told result ≡ fromAmount sh (allows banks sh.bank) keptVariable at (drop at s.now) }
+    ensures { told result ≡ from_amount sh (allows banks sh.bank) kept_variable at (drop at s.now) }
 {
     let limits = sh.limits();
     match amount::at::amount_at(s, at, sh.comma, limits.digits, limits.amount) {
@@ -115,7 +115,7 @@ fn from_amount(s: &[u8], at: usize, sh: Sheet, banks: Banks) -> Judged
 
 // The payer, where the group is single, and the space behind.
 fn payer_first(s: &[u8], joined: bool, least: usize, single: bool) -> PayeeFrom
-    ensures by_index { (k : ℕ → List ℕ → Counted) → toldFrom s.now result k ≡ payerFirst joined least single s.now (anyPayer k) }
+    ensures by_index { (k : ℕ → List ℕ → Counted) → told_from s.now result k ≡ payer_first joined least single s.now (any_payer k) }
     ensures inside_from { InsideFrom s.now result }
 {
     if single {
@@ -136,7 +136,7 @@ fn payer_first(s: &[u8], joined: bool, least: usize, single: bool) -> PayeeFrom
 // The whole line; the payer's account comes first where the group is single. `banks` may be due on the group's day.
 pub fn judge_item(s: &[u8], sh: Sheet, banks: Banks, single: bool) -> Judged
     requires { (sh.text.most ≤ 4) × (sh.itemdigits ≤ 19) }
-    ensures { told result ≡ brief (counted (readItem sh (allows banks sh.bank) single s.now)) }
+    ensures { told result ≡ brief (counted (read_item sh (allows banks sh.bank) single s.now)) }
 {
     match payer_first(s, sh.joined, sh.basemin, single) {
         PayeeFrom::Refused(n, place) => Judged::Refused(n, place),

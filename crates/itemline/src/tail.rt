@@ -3,8 +3,8 @@ ghost use Rattle.std.specs.Prelude.{◌≡◌, ℕ, ◌≤◌, length, drop};
 ghost use Rattle.sheet.specs.declared.Style.{Style};
 ghost use Rattle.paper.specs.Texts.{Noted};
 ghost use Rattle.paper.specs.Entries.{Counted};
-ghost use Rattle.paper.specs.ItemLine.{fixedTail, openTail};
-ghost use Rattle.itemline.specs.tail.Told.{told, Inside, tailOf};
+ghost use Rattle.paper.specs.ItemLine.{fixed_tail, open_tail};
+ghost use Rattle.itemline.specs.tail.Told.{told, Inside, tail_of};
 
 use numeral::field::NumAt;
 
@@ -20,7 +20,7 @@ pub enum TailRead {
 // A space, a symbol or none, a space, and a text that may be empty.
 fn fixed_tail(s: &[u8], at: usize) -> TailRead
     requires { at ≤ length s.now }
-    ensures k_value { (y : Style) (k : ℕ → Noted → Counted) → told y s.now result k ≡ fixedTail y k at (drop at s.now) }
+    ensures k_value { (y : Style) (k : ℕ → Noted → Counted) → told y s.now result k ≡ fixed_tail y k at (drop at s.now) }
     ensures inside { Inside s.now result }
 {
     if s.len() <= at {
@@ -41,7 +41,7 @@ fn fixed_tail(s: &[u8], at: usize) -> TailRead
 // Nothing; a space and a symbol; these, a space and a text; or, if `bare`, a space and a text, where what follows the space is no symbol.
 fn open_tail(s: &[u8], at: usize, bare: bool) -> TailRead
     requires { at ≤ length s.now }
-    ensures k_value { (y : Style) (k : ℕ → Noted → Counted) → told y s.now result k ≡ openTail y k bare at (drop at s.now) }
+    ensures k_value { (y : Style) (k : ℕ → Noted → Counted) → told y s.now result k ≡ open_tail y k bare at (drop at s.now) }
     ensures inside { Inside s.now result }
 {
     if s.len() <= at {
@@ -67,7 +67,7 @@ fn open_tail(s: &[u8], at: usize, bare: bool) -> TailRead
 // The tail that begins at `at`. Its text is left to be read.
 pub fn read_tail(s: &[u8], at: usize, fixed: bool, bare: bool) -> TailRead
     requires { at ≤ length s.now }
-    ensures k_value { (y : Style) (k : ℕ → Noted → Counted) → told y s.now result k ≡ tailOf y fixed bare k at (drop at s.now) }
+    ensures k_value { (y : Style) (k : ℕ → Noted → Counted) → told y s.now result k ≡ tail_of y fixed bare k at (drop at s.now) }
     ensures inside { Inside s.now result }
 {
     if fixed {

@@ -2,28 +2,28 @@
 ghost use Rattle.std.specs.Prelude.{◌≡◌, true, false, List, ℕ, ◌+◌, ◌≤◌, ◌<◌, length, drop};
 ghost use Rattle.base.specs.Pick.{pick};
 ghost use Rattle.paper.specs.Accounts as paper;
-ghost use Rattle.paper.specs.Accounts.{readAccount};
-ghost use Rattle.paper.specs.Amounts.{readItemAmount};
+ghost use Rattle.paper.specs.Accounts.{read_account};
+ghost use Rattle.paper.specs.Amounts.{read_item_amount};
 ghost use Rattle.paper.specs.Batch.{most14};
 ghost use Rattle.paper.specs.Entries.{Counted, counted};
-ghost use Rattle.paper.specs.ItemLine.{is_value, readItem};
+ghost use Rattle.paper.specs.ItemLine.{is_value, read_item};
 ghost use Rattle.paper.specs.Read.{value};
-ghost use Rattle.paper.specs.Texts.{others, message, readText};
-ghost use Rattle.text.specs.span.Held.{textsAt, Held};
-ghost use Rattle.text.specs.span.Places.{part_at, fourFrom};
+ghost use Rattle.paper.specs.Texts.{others, message, read_text};
+ghost use Rattle.text.specs.span.Held.{texts_at, Held};
+ghost use Rattle.text.specs.span.Places.{part_at, four_from};
 ghost use Rattle.text.specs.division.Unnamed.{unnamed};
-ghost use Rattle.text.specs.Told.{countText};
-ghost use Rattle.text.specs.Begun.{ofText, Begins};
-ghost use Rattle.itemline.specs.tail.Told.{tailOf};
-ghost use Rattle.itemline.specs.Told.{noSpans, told, Sound};
-ghost use Rattle.itemline.specs.Walk.{anyBank, fromBank, fromVariable, fromAmount, fromPayee, payerFirst, itemSaid};
+ghost use Rattle.text.specs.Told.{count_text};
+ghost use Rattle.text.specs.Begun.{of_text, Begins};
+ghost use Rattle.itemline.specs.tail.Told.{tail_of};
+ghost use Rattle.itemline.specs.Told.{no_spans, told, Sound};
+ghost use Rattle.itemline.specs.Walk.{any_bank, from_bank, from_variable, from_amount, from_payee, payer_first, item_said};
 ghost use Rattle.numeral.specs.field.At.{field_at};
 ghost use Rattle.numeral.specs.placed.Known.{There};
-ghost use Rattle.numeral.specs.placed.Told.{toldNumber};
-ghost use Rattle.numeral.specs.placed.Said.{isSaid};
-ghost use Rattle.itemline.specs.take.Told.{toldTail, Inside};
-ghost use Rattle.itemline.specs.take.Named.{withName};
-ghost use Rattle.itemline.specs.take.Made.{taken, madePaid, made, Small, withTexts};
+ghost use Rattle.numeral.specs.placed.Told.{told_number};
+ghost use Rattle.numeral.specs.placed.Said.{is_said};
+ghost use Rattle.itemline.specs.take.Told.{told_tail, Inside};
+ghost use Rattle.itemline.specs.take.Named.{with_name};
+ghost use Rattle.itemline.specs.take.Made.{taken, made_paid, made, Small, with_texts};
 
 use crate::Fields;
 use account::at::Account;
@@ -63,7 +63,7 @@ pub enum Tail {
 
 // No message and no name.
 fn no_spans() -> Spans
-    ensures { result ≡ noSpans }
+    ensures { result ≡ no_spans }
 {
     Spans {
         part1: Span { at: 0, len: 0 },
@@ -90,7 +90,7 @@ fn varied(y: Style) -> bool
 fn message_start(y: Style, s: &[u8], from: usize) -> usize
     requires from_in_bounds { from ≤ length s.now }
     requires may_value { pick y.names true y.may ≡ false }
-    requires s_value { is_value (readText y from (drop from s.now)) ≡ true }
+    requires s_value { is_value (read_text y from (drop from s.now)) ≡ true }
     ensures { result ≡ pick y.av (from + 3) from }
 {
     let av = y.av;
@@ -104,7 +104,7 @@ fn message_start(y: Style, s: &[u8], from: usize) -> usize
 fn take_more(s: &[u8], a: Part) -> Spans
     requires at_in_bounds { a.at ≤ length s.now }
     requires a_value { a ≡ part_at s.now a.at }
-    ensures { result ≡ fourFrom s.now a.at 0 0 }
+    ensures { result ≡ four_from s.now a.at 0 0 }
 {
     let b = part_at(s, a.next);
     let c = part_at(s, b.next);
@@ -115,7 +115,7 @@ fn take_more(s: &[u8], a: Part) -> Spans
 // All of them. Most messages have one part, and no more than that is looked for where it ends the line.
 fn take_parts(s: &[u8], from: usize) -> Spans
     requires { from ≤ length s.now }
-    ensures { result ≡ fourFrom s.now from 0 0 }
+    ensures { result ≡ four_from s.now from 0 0 }
 {
     let a = part_at(s, from);
     if from + a.len == s.len() {
@@ -129,7 +129,7 @@ fn take_others(s: &[u8], a: Part) -> Spans
     requires at_in_bounds { a.at ≤ length s.now }
     requires a_value { a ≡ part_at (unnamed s.now a.at) a.at }
     requires at_len_bound { length (others a.at (drop a.at (unnamed s.now a.at))) < 4 }
-    ensures { result ≡ withName s.now a.at }
+    ensures { result ≡ with_name s.now a.at }
 {
     let b = next_part(s, a);
     let c = next_part(s, b);
@@ -142,7 +142,7 @@ fn take_others(s: &[u8], a: Part) -> Spans
 fn take_named(s: &[u8], from: usize) -> Spans
     requires from_in_bounds { from ≤ length s.now }
     requires from_len_bound { length (others from (drop from (unnamed s.now from))) < 4 }
-    ensures { result ≡ withName s.now from }
+    ensures { result ≡ with_name s.now from }
 {
     let a = first_part(s, from);
     if from + a.len == s.len() {
@@ -156,7 +156,7 @@ fn take_message(y: Style, s: &[u8], from: usize) -> Spans
     requires most_bound { y.most ≤ 4 }
     requires from_in_bounds { from ≤ length s.now }
     requires s_value { is_value (message y from (drop from s.now)) ≡ true }
-    ensures result_value { value (textsAt s.now result) ≡ countText (message y from (drop from s.now)) }
+    ensures result_value { value (texts_at s.now result) ≡ count_text (message y from (drop from s.now)) }
     ensures held { Held s.now result }
 {
     let names = y.names;
@@ -169,8 +169,8 @@ fn take_message(y: Style, s: &[u8], from: usize) -> Spans
 // Where what a judged text says begins. Only a text that may have a name, or a message without `AV:`, is looked at.
 fn start_of(y: Style, s: &[u8], from: usize) -> Begun
     requires from_in_bounds { from ≤ length s.now }
-    requires s_value { is_value (readText y from (drop from s.now)) ≡ true }
-    ensures { Begins y s.now from result (ofText y from (drop from s.now)) }
+    requires s_value { is_value (read_text y from (drop from s.now)) ≡ true }
+    ensures { Begins y s.now from result (of_text y from (drop from s.now)) }
 {
     if varied(y) {
         return begin_text(y, s, from);
@@ -182,8 +182,8 @@ fn start_of(y: Style, s: &[u8], from: usize) -> Begun
 fn take_text(y: Style, s: &[u8], from: usize) -> Spans
     requires most_bound { y.most ≤ 4 }
     requires from_in_bounds { from ≤ length s.now }
-    requires s_value { is_value (readText y from (drop from s.now)) ≡ true }
-    ensures result_value { value (textsAt s.now result) ≡ countText (readText y from (drop from s.now)) }
+    requires s_value { is_value (read_text y from (drop from s.now)) ≡ true }
+    ensures result_value { value (texts_at s.now result) ≡ count_text (read_text y from (drop from s.now)) }
     ensures held { Held s.now result }
 {
     match start_of(y, s, from) {
@@ -197,8 +197,8 @@ fn take_text(y: Style, s: &[u8], from: usize) -> Spans
 // is the text.
 fn take_tail(s: &[u8], at: usize, y: Style, fixed: bool, bare: bool, x: Front) -> Tail
     requires at_in_bounds { at ≤ length s.now }
-    requires s_value { isSaid (tailOf y fixed bare (made x) at (drop at s.now)) ≡ true }
-    ensures x_value { toldTail y s.now result (made x) ≡ tailOf y fixed bare (made x) at (drop at s.now) }
+    requires s_value { is_said (tail_of y fixed bare (made x) at (drop at s.now)) ≡ true }
+    ensures x_value { told_tail y s.now result (made x) ≡ tail_of y fixed bare (made x) at (drop at s.now) }
     ensures inside { Inside s.now result }
 {
     if s.len() <= at {
@@ -226,7 +226,7 @@ fn take_tail(s: &[u8], at: usize, y: Style, fixed: bool, bare: bool, x: Front) -
 // The item with its specific symbol and its texts.
 fn whole(x: Front, specific: u64, texts: Spans) -> Fields
     requires { (x.warnings ≤ 1) × (texts.warnings ≤ 5) }
-    ensures { result ≡ withTexts x specific texts }
+    ensures { result ≡ with_texts x specific texts }
 {
     Fields {
         payerprefix: x.paid.payerprefix,
@@ -249,8 +249,8 @@ fn from_tail(s: &[u8], at: usize, y: Style, fixed: bool, bare: bool, x: Front) -
     requires most_bound { y.most ≤ 4 }
     requires at_in_bounds { at ≤ length s.now }
     requires small { Small x }
-    requires s_value { isSaid (tailOf y fixed bare (made x) at (drop at s.now)) ≡ true }
-    ensures result_value { told s.now result ≡ tailOf y fixed bare (made x) at (drop at s.now) }
+    requires s_value { is_said (tail_of y fixed bare (made x) at (drop at s.now)) ≡ true }
+    ensures result_value { told s.now result ≡ tail_of y fixed bare (made x) at (drop at s.now) }
     ensures sound { Sound s.now result }
 {
     match take_tail(s, at, y, fixed, bare, x) {
@@ -264,8 +264,8 @@ fn from_bank(s: &[u8], at: usize, sh: Sheet, paid: Paid, variable: u64) -> Field
     requires most_bound { sh.text.most ≤ 4 }
     requires at_in_bounds { at ≤ length s.now }
     requires amount_le_most14 { paid.amount ≤ most14 }
-    requires s_value { isSaid (fromBank sh anyBank (madePaid paid variable) at (drop at s.now)) ≡ true }
-    ensures result_value { told s.now result ≡ fromBank sh anyBank (madePaid paid variable) at (drop at s.now) }
+    requires s_value { is_said (from_bank sh any_bank (made_paid paid variable) at (drop at s.now)) ≡ true }
+    ensures result_value { told s.now result ≡ from_bank sh any_bank (made_paid paid variable) at (drop at s.now) }
     ensures sound { Sound s.now result }
 {
     let bank = bank::at::take_bank(s, at, sh.priority);
@@ -284,8 +284,8 @@ fn from_bank(s: &[u8], at: usize, sh: Sheet, paid: Paid, variable: u64) -> Field
 fn from_variable(s: &[u8], at: usize, sh: Sheet, paid: Paid) -> Fields
     requires most_bound { sh.text.most ≤ 4 }
     requires amount_le_most14 { paid.amount ≤ most14 }
-    requires s_value { isSaid (fromVariable sh anyBank (madePaid paid) at (drop at s.now)) ≡ true }
-    ensures result_value { told s.now result ≡ fromVariable sh anyBank (madePaid paid) at (drop at s.now) }
+    requires s_value { is_said (from_variable sh any_bank (made_paid paid) at (drop at s.now)) ≡ true }
+    ensures result_value { told s.now result ≡ from_variable sh any_bank (made_paid paid) at (drop at s.now) }
     ensures sound { Sound s.now result }
 {
     let variable = numeral::placed::take_symbol(s, at);
@@ -295,8 +295,8 @@ fn from_variable(s: &[u8], at: usize, sh: Sheet, paid: Paid) -> Fields
 // The amount at `at`, within the sheet's limits.
 fn item_amount(s: &[u8], at: usize, sh: Sheet) -> Run
     requires itemdigits_bound { sh.itemdigits ≤ 19 }
-    requires there { There (readItemAmount sh.comma sh.itemdigits sh.itemmax) s.now at }
-    ensures { toldNumber result ≡ field_at (readItemAmount sh.comma sh.itemdigits sh.itemmax) s.now at }
+    requires there { There (read_item_amount sh.comma sh.itemdigits sh.itemmax) s.now at }
+    ensures { told_number result ≡ field_at (read_item_amount sh.comma sh.itemdigits sh.itemmax) s.now at }
 {
     let limits = sh.limits();
     amount::at::take_amount(s, at, sh.comma, limits.digits, limits.amount)
@@ -305,8 +305,8 @@ fn item_amount(s: &[u8], at: usize, sh: Sheet) -> Run
 // The amount at `at`, and what follows.
 fn from_amount(s: &[u8], at: usize, sh: Sheet, payer: Account, payee: Account) -> Fields
     requires most_bound { (sh.text.most ≤ 4) × (sh.itemdigits ≤ 19) × (sh.itemmax ≤ most14) }
-    requires s_value { isSaid (fromAmount sh anyBank (itemSaid (taken payer) (taken payee)) at (drop at s.now)) ≡ true }
-    ensures result_value { told s.now result ≡ fromAmount sh anyBank (itemSaid (taken payer) (taken payee)) at (drop at s.now) }
+    requires s_value { is_said (from_amount sh any_bank (item_said (taken payer) (taken payee)) at (drop at s.now)) ≡ true }
+    ensures result_value { told s.now result ≡ from_amount sh any_bank (item_said (taken payer) (taken payee)) at (drop at s.now) }
     ensures sound { Sound s.now result }
 {
     let amount = item_amount(s, at, sh);
@@ -323,8 +323,8 @@ fn from_amount(s: &[u8], at: usize, sh: Sheet, payer: Account, payee: Account) -
 // The payee at `at`, and what follows.
 fn from_payee(s: &[u8], at: usize, sh: Sheet, payer: Account) -> Fields
     requires most_bound { (sh.text.most ≤ 4) × (sh.itemdigits ≤ 19) × (sh.itemmax ≤ most14) }
-    requires s_value { isSaid (fromPayee sh anyBank (itemSaid (taken payer)) at (drop at s.now)) ≡ true }
-    ensures result_value { told s.now result ≡ fromPayee sh anyBank (itemSaid (taken payer)) at (drop at s.now) }
+    requires s_value { is_said (from_payee sh any_bank (item_said (taken payer)) at (drop at s.now)) ≡ true }
+    ensures result_value { told s.now result ≡ from_payee sh any_bank (item_said (taken payer)) at (drop at s.now) }
     ensures sound { Sound s.now result }
 {
     let payee = account::at::take_account(s, at, sh.joined, sh.basemin);
@@ -333,8 +333,8 @@ fn from_payee(s: &[u8], at: usize, sh: Sheet, payer: Account) -> Fields
 
 // The payer, where the group is single, and where the payee begins.
 fn take_payer(s: &[u8], joined: bool, least: usize, single: bool) -> Account
-    requires { single ≡ true → There (readAccount joined least) s.now 0 }
-    ensures { (k : paper.Account → ℕ → List ℕ → Counted) → k (taken result) result.end (drop result.end s.now) ≡ payerFirst joined least single s.now k }
+    requires { single ≡ true → There (read_account joined least) s.now 0 }
+    ensures { (k : paper.Account → ℕ → List ℕ → Counted) → k (taken result) result.end (drop result.end s.now) ≡ payer_first joined least single s.now k }
 {
     if single {
         let payer = account::at::take_account(s, 0, joined, least);
@@ -354,8 +354,8 @@ fn take_payer(s: &[u8], joined: bool, least: usize, single: bool) -> Account
 // The whole line, which is known to be an item's.
 pub fn take_item(s: &[u8], sh: Sheet, single: bool) -> Fields
     requires most_bound { (sh.text.most ≤ 4) × (sh.itemdigits ≤ 19) × (sh.itemmax ≤ most14) }
-    requires s_value { isSaid (readItem sh anyBank single s.now) ≡ true }
-    ensures result_value { told s.now result ≡ counted (readItem sh anyBank single s.now) }
+    requires s_value { is_said (read_item sh any_bank single s.now) ≡ true }
+    ensures result_value { told s.now result ≡ counted (read_item sh any_bank single s.now) }
     ensures sound { Sound s.now result }
 {
     let payer = take_payer(s, sh.joined, sh.basemin, single);

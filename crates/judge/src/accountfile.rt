@@ -1,11 +1,11 @@
 // The account file's own lines: its first one, its last one, and the lines that begin a group, each with where reading stands behind it.
 ghost use Rattle.std.specs.Prelude.{◌≡◌, true, ℕ, ◌-◌, ◌≤◌, ◌<◌, length, take, drop};
 ghost use Rattle.sheet.proofs.Laws.{Sane};
-ghost use Rattle.paper.specs.Days.{realDay};
-ghost use Rattle.paper.specs.Entries.{fileLine, groupLine, fileEnd, kind_of};
+ghost use Rattle.paper.specs.Days.{real_day};
+ghost use Rattle.paper.specs.Entries.{file_line, group_line, file_end, kind_of};
 ghost use Rattle.scan.specs.line.Cutting.{Cuts};
-ghost use Rattle.judge.specs.group.Stands.{LowGroup, lineIn, Begun};
-ghost use Rattle.judge.specs.accountfile.Resume.{fileMore, newShelf, NewHeld, Opens, Good, Grouped, Moved, Ends, Stepped};
+ghost use Rattle.judge.specs.group.Stands.{LowGroup, line_in, Begun};
+ghost use Rattle.judge.specs.accountfile.Resume.{file_more, new_shelf, NewHeld, Opens, Good, Grouped, Moved, Ends, Stepped};
 
 use crate::group::{Counts, GroupEnd, Held, Open, Shelf};
 use closing::CloseRead;
@@ -41,7 +41,7 @@ fn end_file(at: usize, line: u64, counts: Counts) -> Left
 
 // An account file of this kind that has nothing yet.
 pub fn new_shelf(kind: u64) -> Shelf
-    ensures { result ≡ newShelf kind }
+    ensures { result ≡ new_shelf kind }
 {
     Shelf {
         kind,
@@ -53,7 +53,7 @@ pub fn new_shelf(kind: u64) -> Shelf
 // The counts with an account file more.
 pub fn file_more(counts: Counts) -> Counts
     requires { (counts.files < 1000) × (counts.rows ≤ 200000000) }
-    ensures { result ≡ fileMore counts }
+    ensures { result ≡ file_more counts }
 {
     Counts {
         files: counts.files + 1,
@@ -78,7 +78,7 @@ fn open_file(
     requires sane { Sane sh }
     requires good { Good f.now (Left.File at line counts) }
     requires cuts { Cuts f.now at cut }
-    requires f_value { kind_of (take (cut.stop - at) (drop at f.now)) ≡ fileLine }
+    requires f_value { kind_of (take (cut.stop - at) (drop at f.now)) ≡ file_line }
     ensures { Stepped sh from to f.now (Left.File at line counts) seen.old seen.new result }
 {
     let files = counts.files;
@@ -187,11 +187,11 @@ pub fn group_opening(
     counts: Counts,
     shelf: Shelf,
 ) -> Opening
-    requires f_value { kind_of (take (stop - at) (drop at f.now)) ≡ groupLine }
+    requires f_value { kind_of (take (stop - at) (drop at f.now)) ≡ group_line }
     requires low_group { LowGroup counts shelf }
-    requires today_value { realDay today ≡ true }
+    requires today_value { real_day today ≡ true }
     requires at_le_stop { (at ≤ stop) × (stop ≤ length f.now) }
-    ensures { Opens sh today (lineIn f.now at stop) line counts shelf result }
+    ensures { Opens sh today (line_in f.now at stop) line counts shelf result }
 {
     let here = calendar::term::day_here(sh, shelf.kind);
     match groupline::group_line(&f[at..stop], sh, today, here) {
@@ -214,7 +214,7 @@ pub fn group_opening(
 
 // The items of a group, and where reading stands behind it.
 fn whole_group(f: &[u8], sh: Sheet, today: u64, at: usize, line: u64, held: Held) -> Left
-    requires sane { Sane sh × (realDay today ≡ true) }
+    requires sane { Sane sh × (real_day today ≡ true) }
     requires begun { Begun f.now at line held }
     ensures { Grouped sh today f.now at line held result }
 {
@@ -240,10 +240,10 @@ fn open_group(
     counts: Counts,
     shelf: Shelf,
 ) -> Left
-    requires sane { Sane sh × (realDay today ≡ true) }
+    requires sane { Sane sh × (real_day today ≡ true) }
     requires good { Good f.now (Left.Group at line counts shelf) }
     requires cuts { Cuts f.now at cut }
-    requires f_value { kind_of (take (cut.stop - at) (drop at f.now)) ≡ groupLine }
+    requires f_value { kind_of (take (cut.stop - at) (drop at f.now)) ≡ group_line }
     ensures { Moved sh today f.now (Left.Group at line counts shelf) result }
 {
     match group_opening(f, sh, today, at, cut.stop, line, counts, shelf) {
@@ -268,7 +268,7 @@ fn close_file(
     requires sane { Sane sh }
     requires good { Good f.now (Left.Group at line counts shelf) }
     requires cuts { Cuts f.now at cut }
-    requires f_value { kind_of (take (cut.stop - at) (drop at f.now)) ≡ fileEnd }
+    requires f_value { kind_of (take (cut.stop - at) (drop at f.now)) ≡ file_end }
     ensures { (today : ℕ) → Moved sh today f.now (Left.Group at line counts shelf) result }
 {
     let groups = shelf.groups;
@@ -298,7 +298,7 @@ pub fn group_step(
     counts: Counts,
     shelf: Shelf,
 ) -> Left
-    requires sane { Sane sh × (realDay today ≡ true) }
+    requires sane { Sane sh × (real_day today ≡ true) }
     requires good { Good f.now (Left.Group at line counts shelf) }
     ensures { Moved sh today f.now (Left.Group at line counts shelf) result }
 {

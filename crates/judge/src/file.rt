@@ -1,14 +1,14 @@
 // One pass over a whole file, which only judges: the first broken rule, or the header and the counts of rows and warnings.
 ghost use Rattle.std.specs.Prelude.{◌≡◌, true, List, ℕ, ◌-◌, ◌≤◌, length, take, drop};
 ghost use Rattle.sheet.proofs.Laws.{Sane};
-ghost use Rattle.paper.specs.Days.{realDay};
-ghost use Rattle.paper.specs.Entries.{headLine, kind_of};
+ghost use Rattle.paper.specs.Days.{real_day};
+ghost use Rattle.paper.specs.Entries.{head_line, kind_of};
 ghost use Rattle.scan.specs.line.Cutting.{Cuts};
 ghost use Rattle.fileline.specs.seen.Bits.{Holds};
 ghost use Rattle.tally.specs.Tally.{seeded};
 ghost use Rattle.tally.specs.Short.{tally};
 ghost use Rattle.judge.specs.accountfile.Resume.{Good};
-ghost use Rattle.judge.specs.file.Answer.{Went, fromSeen, told, Concluded, Kept};
+ghost use Rattle.judge.specs.file.Answer.{Went, from_seen, told, Concluded, Kept};
 
 use crate::accountfile::Left;
 use crate::group::{Counts, Shelf};
@@ -85,7 +85,7 @@ fn account_files(
     seen: &mut [u64; 16],
     budget: u64,
 ) -> Left
-    requires sane { Sane terms.sheet × (realDay terms.today ≡ true) }
+    requires sane { Sane terms.sheet × (real_day terms.today ≡ true) }
     requires good { Good f.now (Left.File at line counts) }
     ensures { Went terms.sheet terms.today terms.from terms.to f.now (Left.File at line counts) budget seen.old seen.new result }
 {
@@ -130,7 +130,7 @@ fn groups(
     seen: &mut [u64; 16],
     budget: u64,
 ) -> Left
-    requires sane { Sane terms.sheet × (realDay terms.today ≡ true) }
+    requires sane { Sane terms.sheet × (real_day terms.today ≡ true) }
     requires good { Good f.now (Left.Group at line counts shelf) }
     ensures { Went terms.sheet terms.today terms.from terms.to f.now (Left.Group at line counts shelf) budget seen.old seen.new result }
 {
@@ -166,10 +166,10 @@ fn groups(
 
 // Everything behind the first line, from `at` on, where the numbers of a set count as seen before.
 fn behind_first(f: &[u8], sh: Sheet, today: u64, at: usize, head: Head, set: Seen) -> Ended
-    requires sane { Sane sh × (realDay today ≡ true) }
+    requires sane { Sane sh × (real_day today ≡ true) }
     requires le_at { (2 ≤ at) × (at ≤ length f.now) }
     requires in_bounds { head.named ≡ true → 30 ≤ length f.now }
-    ensures by_index { (u : List ℕ) → Holds set.words u → Concluded f.now (fromSeen u sh today f.now at head) result.judged result.seen.words }
+    ensures by_index { (u : List ℕ) → Holds set.words u → Concluded f.now (from_seen u sh today f.now at head) result.judged result.seen.words }
     ensures kept { Kept f.now result.judged }
 {
     let terms = Terms {
@@ -210,9 +210,9 @@ fn behind_first(f: &[u8], sh: Sheet, today: u64, at: usize, head: Head, set: See
 
 // The first line, which is known as one, and everything behind it, where the numbers of a set count as seen before.
 pub fn from_first(f: &[u8], sh: Sheet, today: u64, cut: Cut, set: Seen) -> Ended
-    requires sane { Sane sh × (realDay today ≡ true) }
+    requires sane { Sane sh × (real_day today ≡ true) }
     requires cuts { Cuts f.now 0 cut }
-    requires f_value { kind_of (take (cut.stop - 0) (drop 0 f.now)) ≡ headLine }
+    requires f_value { kind_of (take (cut.stop - 0) (drop 0 f.now)) ≡ head_line }
     ensures by_index { (u : List ℕ) → Holds set.words u → Concluded f.now (seeded u sh today f.now) result.judged result.seen.words }
     ensures kept { Kept f.now result.judged }
 {
@@ -247,7 +247,7 @@ pub fn from_first(f: &[u8], sh: Sheet, today: u64, cut: Cut, set: Seen) -> Ended
 
 // The answer of a whole file on the sheet sh.
 pub fn judge_file(f: &[u8], sh: Sheet, today: u64) -> FileJudged
-    requires { Sane sh × (realDay today ≡ true) }
+    requires { Sane sh × (real_day today ≡ true) }
     ensures result_value { told f.now result ≡ tally sh today f.now }
     ensures kept { Kept f.now result }
 {

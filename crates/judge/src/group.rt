@@ -1,11 +1,11 @@
 // The items of one group, up to the line that closes it.
 ghost use Rattle.std.specs.Prelude.{◌≡◌, true, ℕ, ◌+◌, ◌-◌, ◌≤◌, length, take, drop};
 ghost use Rattle.sheet.proofs.Laws.{Sane};
-ghost use Rattle.paper.specs.Days.{realDay};
-ghost use Rattle.paper.specs.Entries.{itemLine, groupEnd, kind_of};
-ghost use Rattle.paper.specs.Judge.{totalBroken};
+ghost use Rattle.paper.specs.Days.{real_day};
+ghost use Rattle.paper.specs.Entries.{item_line, group_end, kind_of};
+ghost use Rattle.paper.specs.Judge.{total_broken};
 ghost use Rattle.paper.specs.Spells.{differs};
-ghost use Rattle.judge.specs.group.Stands.{lineIn, heldMore, Banked, Turns, closedAs, LowItem, Begun, Ended};
+ghost use Rattle.judge.specs.group.Stands.{line_in, held_more, Banked, Turns, closed_as, LowItem, Begun, Ended};
 
 use calendar::term::Banks;
 use closing::CloseRead;
@@ -72,7 +72,7 @@ pub enum GroupEnd {
 
 // Is a group refused whose items sum up to this?
 pub fn total_broken(strict: bool, total: u64, sum: u64) -> bool
-    ensures { result ≡ totalBroken strict total sum }
+    ensures { result ≡ total_broken strict total sum }
 {
     if 99999999999999 < sum {
         return true;
@@ -108,8 +108,8 @@ pub fn byte_in(at: usize, off: usize, stop: usize) -> u64
 fn item_turn(f: &[u8], sh: Sheet, banks: Banks, at: usize, stop: usize, held: Held) -> Turn
     requires sane { Sane sh }
     requires at_le_stop { (at ≤ stop) × (stop ≤ length f.now) }
-    requires f_value { kind_of (take (stop - at) (drop at f.now)) ≡ itemLine }
-    ensures { (today : ℕ) → Banked sh today banks held → Turns sh today (lineIn f.now at stop) held result }
+    requires f_value { kind_of (take (stop - at) (drop at f.now)) ≡ item_line }
+    ensures { (today : ℕ) → Banked sh today banks held → Turns sh today (line_in f.now at stop) held result }
 {
     let inside = held.shelf.items;
     if 99999 <= inside {
@@ -133,8 +133,8 @@ fn item_turn(f: &[u8], sh: Sheet, banks: Banks, at: usize, stop: usize, held: He
 fn close_turn(f: &[u8], sh: Sheet, at: usize, stop: usize, held: Held) -> Turn
     requires sane { Sane sh }
     requires at_le_stop { (at ≤ stop) × (stop ≤ length f.now) }
-    requires f_value { kind_of (take (stop - at) (drop at f.now)) ≡ groupEnd }
-    ensures { (today : ℕ) → Turns sh today (lineIn f.now at stop) held result }
+    requires f_value { kind_of (take (stop - at) (drop at f.now)) ≡ group_end }
+    ensures { (today : ℕ) → Turns sh today (line_in f.now at stop) held result }
 {
     let count = held.opened.count;
     if count == 0 {
@@ -153,7 +153,7 @@ fn close_turn(f: &[u8], sh: Sheet, at: usize, stop: usize, held: Held) -> Turn
 pub fn item_step(f: &[u8], sh: Sheet, banks: Banks, at: usize, stop: usize, held: Held) -> Turn
     requires sane { Sane sh }
     requires at_le_stop { (at ≤ stop) × (stop ≤ length f.now) }
-    ensures { (today : ℕ) → Banked sh today banks held → Turns sh today (lineIn f.now at stop) held result }
+    ensures { (today : ℕ) → Banked sh today banks held → Turns sh today (line_in f.now at stop) held result }
 {
     match scan::kind::kind_of(&f[at..stop]) {
         LineKind::Item => item_turn(f, sh, banks, at, stop, held),
@@ -167,8 +167,8 @@ pub fn item_step(f: &[u8], sh: Sheet, banks: Banks, at: usize, stop: usize, held
 
 // An item more, of that amount and with those warnings.
 pub fn held_more(x: Held, amount: u64, warnings: u64) -> Held
-    requires { LowItem (heldMore x amount warnings) }
-    ensures { result ≡ heldMore x amount warnings }
+    requires { LowItem (held_more x amount warnings) }
+    ensures { result ≡ held_more x amount warnings }
 {
     let items = x.counts.items + 1;
     let rows = x.counts.rows + 1;
@@ -203,7 +203,7 @@ pub fn held_more(x: Held, amount: u64, warnings: u64) -> Held
 // The group's end: 10 at its total, or what stands behind it.
 pub fn close_group(strict: bool, at: usize, line: u64, held: Held) -> GroupEnd
     requires { LowItem held }
-    ensures { result ≡ closedAs strict at line held }
+    ensures { result ≡ closed_as strict at line held }
 {
     let total = held.opened.total;
     let sum = held.opened.sum;
@@ -231,7 +231,7 @@ pub fn close_group(strict: bool, at: usize, line: u64, held: Held) -> GroupEnd
 
 // The lines of an open group, from `at` on, up to the one that closes it or is refused.
 pub fn group_items(f: &[u8], sh: Sheet, today: u64, at: usize, line: u64, held: Held) -> GroupEnd
-    requires sane { Sane sh × (realDay today ≡ true) }
+    requires sane { Sane sh × (real_day today ≡ true) }
     requires begun { Begun f.now at line held }
     ensures { Ended sh today f.now at line held result }
 {

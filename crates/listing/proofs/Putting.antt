@@ -12,7 +12,7 @@ use Rattle.base.specs.Pick.{pick}
 use Rattle.base.specs.Put.{Wrote}
 use Rattle.base.proofs.Cases.{pick_true, pick-false}
 use Rattle.base.proofs.Put.{put-seam}
-use Rattle.paper.specs.Words.{wordsBytes}
+use Rattle.paper.specs.Words.{words_bytes}
 use Rattle.out.proofs.word.Laws.{words-length}
 use Rattle.numeral.specs.counted.Counted.{Counted}
 use Rattle.numeral.proofs.counted.Laws.{counted-nothing, ◌counted-then◌}
@@ -26,7 +26,7 @@ whole : {o o1 x : List ℕ} {r : ℕ} → length o ≡ length x → Wrote o 0 x 
 whole {o} {o1} {x} e w = w.left ∙ put-seam [] o 0 x refl ∙ rw (← e, drop-length o) (append-nil x)
 
 pub entry_whole : (x : Finding) {o o1 : List ℕ} {r : ℕ} → length o ≡ 64
-    → Wrote o 0 (wordsBytes (x.number ∷ x.cause ∷ x.line ∷ x.byte ∷ x.length ∷ x.field ∷ x.least ∷ x.most ∷ [])) o1 r → o1 ≡ entry x
+    → Wrote o 0 (words_bytes (x.number ∷ x.cause ∷ x.line ∷ x.byte ∷ x.length ∷ x.field ∷ x.least ∷ x.most ∷ [])) o1 r → o1 ≡ entry x
 unfolding entry
 entry_whole x l w =
     whole (omega (arith, words-length (x.number ∷ x.cause ∷ x.line ∷ x.byte ∷ x.length ∷ x.field ∷ x.least ∷ x.most ∷ []))) w

@@ -1,7 +1,7 @@
 -- Findings as bytes: a sentence each, or eight words each. Document 02, W-205. Assumes nothing.
 use Rattle.std.specs.Prelude.{ℕ, List, [], ◌∷◌, ◌++◌}
 use Rattle.base.specs.Pick.{pick}
-use Rattle.paper.specs.Words.{wordsBytes}
+use Rattle.paper.specs.Words.{words_bytes}
 use Rattle.why.specs.declared.Finding.{Finding}
 use Rattle.sentences.specs.Sentences.{sentence}
 use Rattle.listing.specs.declared.Telling.{Telling}
@@ -9,7 +9,7 @@ use Rattle.listing.specs.declared.Telling.{Telling}
 -- number, cause, line, byte, length found, field, least and most allowed
 unfoldable pub entry : Finding → List ℕ
 entry x =
-    wordsBytes (x.number ∷ x.cause ∷ x.line ∷ x.byte ∷ x.length ∷ x.field ∷ x.least ∷ x.most ∷ [])
+    words_bytes (x.number ∷ x.cause ∷ x.line ∷ x.byte ∷ x.length ∷ x.field ∷ x.least ∷ x.most ∷ [])
 
 -- a finding of the file f, in words or as numbers
 unfoldable pub spelled : Telling → List ℕ → Finding → List ℕ

@@ -2,18 +2,18 @@
 ghost use Rattle.std.specs.Prelude.{◌≡◌, true, map, ℕ, ◌+◌, ◌-◌, ◌≤◌, ◌<◌, length, take, drop};
 ghost use Rattle.base.specs.Seek.{seek};
 ghost use Rattle.sheet.proofs.Laws.{Sane};
-ghost use Rattle.paper.specs.Warnings.{pastDay, notices};
+ghost use Rattle.paper.specs.Warnings.{past_day, notices};
 ghost use Rattle.paper.specs.Batch.{most14};
 ghost use Rattle.paper.specs.Bytes.{space};
-ghost use Rattle.paper.specs.Days.{realDay};
-ghost use Rattle.paper.specs.Entries.{itemLine, kind_of, totalAt};
+ghost use Rattle.paper.specs.Days.{real_day};
+ghost use Rattle.paper.specs.Entries.{item_line, kind_of, total_at};
 ghost use Rattle.paper.specs.Judge.{is};
 ghost use Rattle.paper.specs.Lines.{lines_from};
 ghost use Rattle.paper.specs.Rows.{accepted};
 ghost use Rattle.numeral.specs.counted.Counted.{Counted};
 ghost use Rattle.why.specs.Warned.{noticed, differing, ahead};
 ghost use Rattle.listing.specs.Listed.{listed};
-ghost use Rattle.listing.specs.group.Warned.{groupWarned, cut, lineIn, atField};
+ghost use Rattle.listing.specs.group.Warned.{group_warned, cut, line_in, at_field};
 ghost use Rattle.listing.specs.group.Ahead.{ItemsSaid};
 
 use crate::Telling;
@@ -39,7 +39,7 @@ fn at_field(
 ) -> Finding
     requires start_le_stop { (start ≤ stop) × (stop ≤ length f.now) }
     requires off_bound { start + off ≤ stop }
-    ensures { result ≡ atField line (lineIn f.now start stop) off cause field least most }
+    ensures { result ≡ at_field line (line_in f.now start stop) off cause field least most }
 {
     let end = scan::line::field_end(&f[start..stop], off);
     Finding {
@@ -69,7 +69,7 @@ fn put_total(
 ) -> usize
     requires start_le_stop { (start ≤ stop) × (stop ≤ length f.now) }
     requires off_bound { start + off ≤ stop }
-    ensures { Counted out.old at (listed t f.now (differing line (lineIn f.now start stop) off total exact)) out.new result }
+    ensures { Counted out.old at (listed t f.now (differing line (line_in f.now start stop) off total exact)) out.new result }
 {
     if total == exact {
         return at;
@@ -93,7 +93,7 @@ fn put_past(
     requires start_le_stop { (start ≤ stop) × (stop ≤ length f.now) }
     requires stop_bound { start + (off + seek space (drop off (cut f.now start stop))) < stop }
     requires warnings_bound { warnings ≤ 1 }
-    ensures { Counted out.old at (listed t f.now (map (noticed t.sheet t.today line (lineIn f.now start stop) (totalAt off)) (notices pastDay (off + seek space (drop off (cut f.now start stop)) + 1) warnings))) out.new result }
+    ensures { Counted out.old at (listed t f.now (map (noticed t.sheet t.today line (line_in f.now start stop) (total_at off)) (notices past_day (off + seek space (drop off (cut f.now start stop)) + 1) warnings))) out.new result }
 {
     if warnings == 0 {
         return at;
@@ -115,10 +115,10 @@ pub fn put_group(
     here: bool,
     exact: u64,
 ) -> usize
-    requires today_value { realDay t.today ≡ true }
+    requires today_value { real_day t.today ≡ true }
     requires start_le_stop { (start ≤ stop) × (stop ≤ length f.now) }
     requires in_bounds { 2 ≤ length (take (stop - start) (drop start f.now)) }
-    ensures { Counted out.old at (listed t f.now (groupWarned t.sheet t.today line (lineIn f.now start stop) here exact)) out.new result }
+    ensures { Counted out.old at (listed t f.now (group_warned t.sheet t.today line (line_in f.now start stop) here exact)) out.new result }
 {
     match groupline::group_line(&f[start..stop], t.sheet, t.today, here) {
         GroupRead::Refused(n, off) => at,
@@ -139,7 +139,7 @@ pub fn put_group(
 
 // Is the line s an item's?
 fn is_item(s: &[u8]) -> bool
-    ensures { result ≡ is itemLine (kind_of s.now) }
+    ensures { result ≡ is item_line (kind_of s.now) }
 {
     match scan::kind::kind_of(s) {
         LineKind::Item => true,

@@ -5,16 +5,16 @@ ghost use Rattle.base.specs.Pick.{pick};
 ghost use Rattle.paper.specs.Bytes.{field_of};
 ghost use Rattle.paper.specs.Numerals.{digits};
 ghost use Rattle.paper.specs.Lines.{line as line_of};
-ghost use Rattle.paper.specs.ItemLine.{is_value, readItem};
+ghost use Rattle.paper.specs.ItemLine.{is_value, read_item};
 ghost use Rattle.numeral.specs.counted.Counted.{Counted};
-ghost use Rattle.numeral.specs.placed.Said.{isSaid};
+ghost use Rattle.numeral.specs.placed.Said.{is_said};
 ghost use Rattle.text.specs.span.Held.{Within, Held};
-ghost use Rattle.itemline.specs.Walk.{anyBank};
-ghost use Rattle.why.specs.Names.{fieldNumber};
-ghost use Rattle.why.specs.Warned.{partName, partFrom};
+ghost use Rattle.itemline.specs.Walk.{any_bank};
+ghost use Rattle.why.specs.Names.{field_number};
+ghost use Rattle.why.specs.Warned.{part_name, part_from};
 ghost use Rattle.listing.specs.Listed.{listed};
-ghost use Rattle.listing.specs.item.Warned.{itemWarned};
-ghost use Rattle.listing.specs.item.Found.{behind, bankPlace, digitWarned, priorityWarned, cutWarned, partPlaces, partWarned, partsWarned, nameWarned, textsWarned};
+ghost use Rattle.listing.specs.item.Warned.{item_warned};
+ghost use Rattle.listing.specs.item.Found.{behind, bank_place, digit_warned, priority_warned, cut_warned, part_places, part_warned, parts_warned, name_warned, texts_warned};
 
 use crate::{Telling, put_finding};
 use itemline::take::take_item;
@@ -59,7 +59,7 @@ fn payee_place(s: &[u8], single: bool) -> usize
 
 // Where the bank field begins: behind payee, amount and variable symbol.
 fn bank_place(s: &[u8], single: bool) -> usize
-    ensures value { result ≡ bankPlace single s.now }
+    ensures value { result ≡ bank_place single s.now }
     ensures upper_bound { result ≤ length s.now }
 {
     let amount = behind(s, payee_place(s, single));
@@ -78,7 +78,7 @@ fn put_digit(
     n: usize,
     d: u64,
 ) -> usize
-    ensures { Counted out.old at (listed t f.now (digitWarned line byte n d)) out.new result }
+    ensures { Counted out.old at (listed t f.now (digit_warned line byte n d)) out.new result }
 {
     if d < 1 {
         return at;
@@ -111,7 +111,7 @@ fn put_priority(
 ) -> usize
     requires from_in_bounds { (from ≤ length s.now) × (h.start + length s.now ≤ length f.now) }
     requires s_value { is_value (digits 8 10 (field_of (drop from s.now))) ≡ true }
-    ensures { Counted out.old at (listed t f.now (priorityWarned h.line (line_of h.start s.now) from)) out.new result }
+    ensures { Counted out.old at (listed t f.now (priority_warned h.line (line_of h.start s.now) from)) out.new result }
 {
     match numeral::field::number_at(s, from, 8, 10) {
         NumAt::Refused(_) => at,
@@ -142,7 +142,7 @@ fn put_cut(
     n: usize,
     field: u64,
 ) -> usize
-    ensures { Counted out.old at (listed t f.now (cutWarned cause line byte n field)) out.new result }
+    ensures { Counted out.old at (listed t f.now (cut_warned cause line byte n field)) out.new result }
 {
     if 35 < n {
         let x = Finding {
@@ -163,7 +163,7 @@ fn put_cut(
 // How many bytes the part at `at` has before it is cut: it runs to the next `|`, or to where the message ends.
 fn part_length(y: Style, s: &[u8], at: usize) -> usize
     requires { at ≤ length s.now }
-    ensures { result ≡ length (partFrom y (drop at s.now)) }
+    ensures { result ≡ length (part_from y (drop at s.now)) }
 {
     let end = text::message_end(y, s, at);
     find_byte(&s[0..end], at, 124) - at
@@ -171,7 +171,7 @@ fn part_length(y: Style, s: &[u8], at: usize) -> usize
 
 // Which of the four parts begins at `at`. No two that have bytes begin at one place.
 fn part_field(x: Spans, at: usize) -> u64
-    ensures { result ≡ fieldNumber (partName at (partPlaces x)) }
+    ensures { result ≡ field_number (part_name at (part_places x)) }
 {
     if at == x.part1.at {
         return 37;
@@ -198,7 +198,7 @@ fn put_part(
 ) -> usize
     requires s_in_bounds { h.start + length s.now ≤ length f.now }
     requires within { Within s.now p }
-    ensures { Counted out.old at (listed t f.now (partWarned t.sheet.text h.line (line_of h.start s.now) (partPlaces x) p)) out.new result }
+    ensures { Counted out.old at (listed t f.now (part_warned t.sheet.text h.line (line_of h.start s.now) (part_places x) p)) out.new result }
 {
     if p.len < 35 {
         return at;
@@ -221,7 +221,7 @@ fn put_part(
 fn put_parts(out: &mut [u8], at: usize, t: Telling, f: &[u8], s: &[u8], h: Here, x: Spans) -> usize
     requires s_in_bounds { h.start + length s.now ≤ length f.now }
     requires held { Held s.now x }
-    ensures { Counted out.old at (listed t f.now (partsWarned t.sheet.text h.line (line_of h.start s.now) x)) out.new result }
+    ensures { Counted out.old at (listed t f.now (parts_warned t.sheet.text h.line (line_of h.start s.now) x)) out.new result }
 {
     let a = put_part(out, at, t, f, s, h, x, x.part1);
     let b = put_part(out, a, t, f, s, h, x, x.part2);
@@ -233,7 +233,7 @@ fn put_parts(out: &mut [u8], at: usize, t: Telling, f: &[u8], s: &[u8], h: Here,
 fn put_name(out: &mut [u8], at: usize, t: Telling, f: &[u8], s: &[u8], h: Here, p: Span) -> usize
     requires s_in_bounds { h.start + length s.now ≤ length f.now }
     requires within { Within s.now p }
-    ensures { Counted out.old at (listed t f.now (nameWarned h.line (line_of h.start s.now) p)) out.new result }
+    ensures { Counted out.old at (listed t f.now (name_warned h.line (line_of h.start s.now) p)) out.new result }
 {
     if p.len < 35 {
         return at;
@@ -255,7 +255,7 @@ fn put_name(out: &mut [u8], at: usize, t: Telling, f: &[u8], s: &[u8], h: Here, 
 fn put_texts(out: &mut [u8], at: usize, t: Telling, f: &[u8], s: &[u8], h: Here, x: Spans) -> usize
     requires s_in_bounds { h.start + length s.now ≤ length f.now }
     requires held { Held s.now x }
-    ensures { Counted out.old at (listed t f.now (textsWarned t.sheet.text h.line (line_of h.start s.now) x)) out.new result }
+    ensures { Counted out.old at (listed t f.now (texts_warned t.sheet.text h.line (line_of h.start s.now) x)) out.new result }
 {
     let d = put_parts(out, at, t, f, s, h, x);
     put_name(out, d, t, f, s, h, x.name)
@@ -275,8 +275,8 @@ fn put_warnings(
 ) -> usize
     requires sane { Sane t.sheet }
     requires s_in_bounds { h.start + length s.now ≤ length f.now }
-    requires s_value { isSaid (readItem t.sheet anyBank single s.now) ≡ true }
-    ensures { Counted out.old at (listed t f.now (itemWarned t.sheet t.today h.line (line_of h.start s.now) single)) out.new result }
+    requires s_value { is_said (read_item t.sheet any_bank single s.now) ≡ true }
+    ensures { Counted out.old at (listed t f.now (item_warned t.sheet t.today h.line (line_of h.start s.now) single)) out.new result }
 {
     let x = take_item(s, t.sheet, single);
     let d = put_priority(out, at, t, f, s, h, bank_place(s, single));
@@ -296,8 +296,8 @@ pub fn put_item(
 ) -> usize
     requires sane { Sane t.sheet }
     requires start_le_stop { (start ≤ stop) × (stop ≤ length f.now) }
-    requires f_value { isSaid (readItem t.sheet anyBank single (take (stop - start) (drop start f.now))) ≡ true }
-    ensures { Counted out.old at (listed t f.now (itemWarned t.sheet t.today line (line_of start (take (stop - start) (drop start f.now))) single)) out.new result }
+    requires f_value { is_said (read_item t.sheet any_bank single (take (stop - start) (drop start f.now))) ≡ true }
+    ensures { Counted out.old at (listed t f.now (item_warned t.sheet t.today line (line_of start (take (stop - start) (drop start f.now))) single)) out.new result }
 {
     put_warnings(out, at, t, f, &f[start..stop], Here { line, start }, single)
 }

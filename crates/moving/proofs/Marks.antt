@@ -5,11 +5,11 @@ use mathlib.Core.List.{List, [], ◌∷◌}
 use Prim.Native.Nat.{ℕ}
 use Rattle.sheet.specs.declared.Sheet.{Sheet}
 use Rattle.sheet.proofs.Laws.{Sane}
-use Rattle.paper.specs.Accounts.{isNobody}
+use Rattle.paper.specs.Accounts.{is_nobody}
 use Rattle.paper.specs.Batch.{Item, Group, AccountFile, Batch, Header}
 use Rattle.paper.specs.FileLine.{series}
 use Rattle.paper.specs.Lines.{lines_of}
-use Rattle.paper.specs.Spells.{Context, forItem, Due, itemDues, groupDues, fileDues, dues}
+use Rattle.paper.specs.Spells.{Context, for_item, Due, item_dues, group_dues, file_dues, dues}
 use Rattle.paper.specs.Judge.{Accepted, judge}
 use Rattle.text.proofs.wording.Parts.{Every, none, more}
 use Rattle.text.proofs.wording.Fit.{Fit, parts-fit}
@@ -32,24 +32,24 @@ module _ (sh : Sheet) (named : sh.text.names ≡ true) (today : ℕ) where
   abbrev Told : List Due → Type 0
   Told ds = lines.Every (lines.Told sh today) ds
 
-  items-unmarked : (c : Context) (xs : List Item) (r : List Due) → Told (itemDues c xs r) → ItemsUnmarked xs × Told r
-  unfolding itemDues
+  items-unmarked : (c : Context) (xs : List Item) (r : List Due) → Told (item_dues c xs r) → ItemsUnmarked xs × Told r
+  unfolding item_dues
   items-unmarked c [] r (t, ts) = (tt, ts)
   items-unmarked c (x ∷ xs) r (t, ts) = let (u, rest) = items-unmarked c xs r ts in ((item-unmarked _ _ x t, u), rest)
 
-  groups-unmarked : (kind : ℕ) (gs : List Group) (r : List Due) → Told (groupDues kind gs r) → GroupsUnmarked gs × Told r
-  unfolding groupDues
+  groups-unmarked : (kind : ℕ) (gs : List Group) (r : List Due) → Told (group_dues kind gs r) → GroupsUnmarked gs × Told r
+  unfolding group_dues
   groups-unmarked kind [] r (t, ts) = (tt, ts)
   groups-unmarked kind (g ∷ gs) r (t, ts) =
-      let (here, behind) = items-unmarked (forItem kind g.date (isNobody g.payer)) g.items (groupDues kind gs r) ts in
+      let (here, behind) = items-unmarked (for_item kind g.date (is_nobody g.payer)) g.items (group_dues kind gs r) ts in
       let (u, rest) = groups-unmarked kind gs r behind in
       ((here, u), rest)
 
-  files-unmarked : (h : Header) (seen : List ℕ) (fs : List AccountFile) → Told (fileDues h seen fs) → BatchUnmarked fs
-  unfolding fileDues
+  files-unmarked : (h : Header) (seen : List ℕ) (fs : List AccountFile) → Told (file_dues h seen fs) → BatchUnmarked fs
+  unfolding file_dues
   files-unmarked h seen [] t = tt
   files-unmarked h seen (f ∷ fs) (t, ts) =
-      let (here, behind) = groups-unmarked f.kind f.groups (fileDues h (series f.number ∷ seen) fs) ts in
+      let (here, behind) = groups-unmarked f.kind f.groups (file_dues h (series f.number ∷ seen) fs) ts in
       (here, files-unmarked h (series f.number ∷ seen) fs behind)
 
   -- What a sheet with names accepts has no ` NP:` in any part.

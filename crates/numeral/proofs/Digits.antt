@@ -4,8 +4,8 @@ use native.Mathlib.Nat.{pow-le-pow_right}
 use borrow.Author.Tests.{lt-leb}
 use Rattle.base.specs.Pick.{pick}
 use Rattle.paper.specs.Read.{Field, value, fault}
-use Rattle.paper.specs.Bytes.{isDigit}
-use Rattle.paper.specs.Numerals.{digitsOn, digits}
+use Rattle.paper.specs.Bytes.{is_digit}
+use Rattle.paper.specs.Numerals.{digits_on, digits}
 
 -- too few bytes, too many, or neither
 module _ (least most : ℕ) (s : List ℕ) where
@@ -18,27 +18,27 @@ module _ (least most : ℕ) (s : List ℕ) where
     unfolding digits pick
     too_long k = simp (le-ltb _ _ h, lt-ltb _ _ k)
 
-    pub in-range : length s ≤ most → digits least most s ≡ digitsOn 0 s
+    pub in-range : length s ≤ most → digits least most s ≡ digits_on 0 s
     unfolding digits pick
     in-range k = simp (le-ltb _ _ h, le-ltb _ _ k)
 
 -- The whole says what the rest says, read on from the number v; i is the place.
-module _ (whole : Field ℕ) (v : ℕ) (s : List ℕ) (i : ℕ) (inv : whole ≡ digitsOn v (drop i s)) where
+module _ (whole : Field ℕ) (v : ℕ) (s : List ℕ) (i : ℕ) (inv : whole ≡ digits_on v (drop i s)) where
   module _ (h : i < length s) where
-    pub on-digit : 48 ≤ get_or s i 0 → get_or s i 0 ≤ 57 → whole ≡ digitsOn (v * 10 + (get_or s i 0 - 48)) (drop (i + 1) s)
-    unfolding digitsOn isDigit pick
+    pub on-digit : 48 ≤ get_or s i 0 → get_or s i 0 ≤ 57 → whole ≡ digits_on (v * 10 + (get_or s i 0 - 48)) (drop (i + 1) s)
+    unfolding digits_on is_digit pick
     on-digit lo hi = inv ∙ rw (add-one, drop-cons s i 0 h) (simp (le-ltb (get_or s i 0) 48 lo, le-leb (get_or s i 0) 57 hi))
 
     pub on-low : get_or s i 0 < 48 → fault 4 ≡ whole
-    unfolding digitsOn isDigit pick
+    unfolding digits_on is_digit pick
     on-low lo = sym (inv ∙ rw (drop-cons s i 0 h) (simp (lt-ltb (get_or s i 0) 48 lo)))
 
     pub on-high : 57 < get_or s i 0 → fault 4 ≡ whole
-    unfolding digitsOn isDigit pick
+    unfolding digits_on is_digit pick
     on-high hi = sym (inv ∙ rw (drop-cons s i 0 h) (simp (le-ltb (get_or s i 0) 48 (omega arith), lt-leb (get_or s i 0) 57 hi)))
 
   pub on-end : length s ≤ i → value v ≡ whole
-  unfolding digitsOn
+  unfolding digits_on
   on-end h = sym (inv ∙ rw (drop_of_length-le s h))
 
 -- fewer digits, a smaller bound

@@ -3,24 +3,24 @@ use Rattle.std.proofs.Common.{◌≡◌, ℕ, ◌+◌, ◌-◌, ◌*◌, ◌^◌
 use native.Mathlib.Nat.{pow-succ'}
 use Rattle.base.specs.Pick.{pick}
 use Rattle.paper.specs.Read.{value}
-use Rattle.paper.specs.Numerals.{digitsOn, digits}
+use Rattle.paper.specs.Numerals.{digits_on, digits}
 use Rattle.numeral.proofs.Digits.{in-range}
 use Rattle.numeral.proofs.Sound.{same, on-head, on-tail, read-on, digits-least, digits-most}
 
 -- s is read, and t read on
-on-append : (u : ℕ) (s t : List ℕ) (v : ℕ) → digitsOn u s ≡ value v → digitsOn u (s ++ t) ≡ digitsOn v t
-unfolding digitsOn pick
-on-append u [] t v h = ap (λ (n : ℕ). digitsOn n t) (same u v h)
+on-append : (u : ℕ) (s t : List ℕ) (v : ℕ) → digits_on u s ≡ value v → digits_on u (s ++ t) ≡ digits_on v t
+unfolding digits_on pick
+on-append u [] t v h = ap (λ (n : ℕ). digits_on n t) (same u v h)
 on-append u (x ∷ s) t v h = simp (on-head u x s v h) (on-append _ s t v (on-tail u x s v h))
 
 -- t read on from a number a greater
-on-shift : (a u : ℕ) (t : List ℕ) (w : ℕ) → digitsOn u t ≡ value w → digitsOn (a + u) t ≡ value (a * 10 ^ length t + w)
-unfolding digitsOn pick
+on-shift : (a u : ℕ) (t : List ℕ) (w : ℕ) → digits_on u t ≡ value w → digits_on (a + u) t ≡ value (a * 10 ^ length t + w)
+unfolding digits_on pick
 on-shift a u [] w h = ap (λ (n : ℕ). value n) (omega (arith, same u w h))
 on-shift a u (x ∷ t) w h =
     let e : (a + u) * 10 + (x - 48) ≡ a * 10 + (u * 10 + (x - 48)) = omega arith in
     simp (on-head u x t w h)
-    (ap (λ (n : ℕ). digitsOn n t) e
+    (ap (λ (n : ℕ). digits_on n t) e
     ∙ on-shift (a * 10) (u * 10 + (x - 48)) t w (on-tail u x t w h)
     ∙ ap (λ (n : ℕ). value (n + w)) (rw (pow-succ', ← mul_assoc)))
 

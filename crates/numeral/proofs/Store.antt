@@ -5,7 +5,7 @@ use Rattle.base.specs.Pick.{pick}
 use Rattle.base.specs.Put.{Wrote}
 use Rattle.base.proofs.Put.{put-sets, ◌then◌}
 use Rattle.out.proofs.put.Room.{wrote-length, wrote_none}
-use Rattle.paper.specs.Numerals.{decOn, decimal, fixedOn, fixed}
+use Rattle.paper.specs.Numerals.{dec_on, decimal, fixed_on, fixed}
 use Rattle.numeral.proofs.Fixed.{fixed-length, decimal-fixed}
 use Rattle.numeral.proofs.Long.{decimal-some}
 use Rattle.numeral.proofs.Join.{join-fixed, fixed-low, join-decimal}
@@ -26,13 +26,13 @@ module _ (n t : ℕ) (e : t ≡ n / 10) (h : n < 100) where
   high_byte = rw both (omega arith)
 
   pub pair-wrote : (o : List ℕ) (at : ℕ) → at + 2 ≤ length o → Wrote o at (fixed 2 n) (set (set o at ((12336 + n * 256 - t * 2559) % 256)) (at + 1) ((12336 + n * 256 - t * 2559) / 256)) (at + 2)
-  unfolding fixed fixedOn
+  unfolding fixed fixed_on
   pair-wrote o at room =
       rw (low_byte, high_byte)
       (record { room = omega arith; next = refl; left = simp towards_suc (put-sets o at ((48 + n / 10 % 10) ∷ (48 + n % 10) ∷ []) (omega arith)) })
 
 digit-is : (n : ℕ) → n < 10 → decimal n ≡ (48 + n) ∷ []
-unfolding decimal decOn pick
+unfolding decimal dec_on pick
 digit-is n h = simp (lt-ltb n 10 h)
 
 -- One writer.
@@ -52,7 +52,7 @@ module _ {o o1 : List ℕ} {at p : ℕ} where
 
   -- the last k digits of n
   pub few-one : (k n : ℕ) → k ≡ 1 → Wrote o at ((48 + n % 10) ∷ []) o1 p → Wrote o at (fixed k n) o1 p
-  unfolding fixed fixedOn
+  unfolding fixed fixed_on
   few-one k n e v = rw e v
 
   pub few-two : (k n : ℕ) → k ≡ 2 → Wrote o at (fixed 2 (n % 100)) o1 p → Wrote o at (fixed k n) o1 p
@@ -62,7 +62,7 @@ module _ {o o1 : List ℕ} {at p : ℕ} where
       rw (e, f) v
 
 pub few-none : (k n at : ℕ) (o : List ℕ) → k ≡ 0 → at + k ≤ length o → Wrote o at (fixed k n) o at
-unfolding fixed fixedOn
+unfolding fixed fixed_on
 few-none k n at o e h = rw e (wrote_none o at (omega arith))
 
 -- Two writers: the digits of the high part q of n, and behind them those of its low part r.
@@ -88,7 +88,7 @@ module _ {o o1 o2 : List ℕ} {at p e : ℕ} where
     myriad-wrote s lo hi v w = decimal-then 4 h (n - h * 10000) n (omega arith) (omega arith) (omega arith) (omega arith) (omega arith) v w
 
   pub three-wrote : (k n : ℕ) → k ≤ 3 → (k ≡ 0 → ⊥) → (k ≡ 1 → ⊥) → (k ≡ 2 → ⊥) → Wrote o at ((48 + n / 100 % 10) ∷ []) o1 p → Wrote o1 p (fixed 2 (n % 100)) o2 e → Wrote o at (fixed k n) o2 e
-  unfolding fixed fixedOn
+  unfolding fixed fixed_on
   three-wrote k n m x y z v w = let s : k ≡ 3 = omega arith in rw s (fixed_then 1 2 (n / 100) (n % 100) n (omega arith) (omega arith) v w)
 
   pub million-wrote : (n : ℕ) → 100000000 ≤ n → n < 1000000000000 → Wrote o at (decimal (n / 100000000)) o1 p → Wrote o1 p (fixed 8 (n - n / 100000000 * 100000000)) o2 e → Wrote o at (decimal n) o2 e

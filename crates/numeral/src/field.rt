@@ -3,7 +3,7 @@ ghost use Rattle.std.specs.Prelude.{◌≡◌, ◌+◌, ◌-◌, ◌≤◌, leng
 ghost use Rattle.base.specs.Pick.{pick};
 ghost use Rattle.base.specs.Seek.{all};
 ghost use Rattle.paper.specs.Read.{value};
-ghost use Rattle.paper.specs.Bytes.{isDigit, field_of, null};
+ghost use Rattle.paper.specs.Bytes.{is_digit, field_of, null};
 ghost use Rattle.paper.specs.Numerals.{digits};
 ghost use Rattle.numeral.specs.field.At.{field_at};
 ghost use Rattle.numeral.specs.field.Digits.{run, Worth};
@@ -98,7 +98,7 @@ pub enum Passed {
 // Are the eight bytes at `at` digits? The loop has no early exit, so that the compiler compares all of them at once.
 pub fn eight_digits(s: &[u8], at: usize) -> bool
     requires { at + 8 ≤ length s.now }
-    ensures { result ≡ all isDigit (take 8 (drop at s.now)) }
+    ensures { result ≡ all is_digit (take 8 (drop at s.now)) }
 {
     let mut digits = true;
     let mut j: usize = 0;

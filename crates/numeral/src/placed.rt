@@ -2,11 +2,11 @@
 ghost use Rattle.std.specs.Prelude.{◌≡◌, take, drop};
 ghost use Rattle.paper.specs.Read.{value};
 ghost use Rattle.paper.specs.Numerals.{digits};
-ghost use Rattle.paper.specs.ItemLine.{readSymbol};
+ghost use Rattle.paper.specs.ItemLine.{read_symbol};
 ghost use Rattle.numeral.specs.field.At.{field_at};
 ghost use Rattle.numeral.specs.placed.Placed.{Placed};
 ghost use Rattle.numeral.specs.placed.Known.{Stops, Ran, There};
-ghost use Rattle.numeral.specs.placed.Told.{toldNumber};
+ghost use Rattle.numeral.specs.placed.Told.{told_number};
 
 use crate::field::Run;
 
@@ -53,8 +53,8 @@ pub fn take_run(s: &[u8], at: usize) -> Run
 
 // A symbol of one to ten digits at `at`.
 pub fn take_symbol(s: &[u8], at: usize) -> Run
-    requires { There readSymbol s.now at }
-    ensures { toldNumber result ≡ field_at readSymbol s.now at }
+    requires { There read_symbol s.now at }
+    ensures { told_number result ≡ field_at read_symbol s.now at }
 {
     take_run(s, at)
 }

@@ -12,14 +12,14 @@ use borrow.Author.Tests.{lt-ltb, le-ltb}
 use Rattle.sheet.specs.declared.Sheet.{Sheet}
 use Rattle.sheet.specs.declared.Known.{Known}
 use Rattle.sheet.specs.declared.Known.TheVariants as known
-use Rattle.sheet.specs.Sheets.{sheetOf}
-use Rattle.paper.specs.Days.{realDay}
-use Rattle.paper.specs.Rows.{rowsIn, thingsIn}
-use Rattle.paper.specs.Batch.{Header, Thing, batchOf}
-use Rattle.paper.specs.Proper.{Verdict, fine, wrong, headerProper, batchProper}
-use Rattle.paper.specs.Carried.{headerCarried, batchCarried}
+use Rattle.sheet.specs.Sheets.{sheet_of}
+use Rattle.paper.specs.Days.{real_day}
+use Rattle.paper.specs.Rows.{rows_in, things_in}
+use Rattle.paper.specs.Batch.{Header, Thing, batch_of}
+use Rattle.paper.specs.Proper.{Verdict, fine, wrong, header_proper, batch_proper}
+use Rattle.paper.specs.Carried.{header_carried, batch_carried}
 use Rattle.paper.specs.Canonical.{canon}
-use Rattle.paper.specs.Writing.{Draft, drafted, refusal, onVerdict, draftOf, draftWith, draft, WriteAnswer, writtenIn, outputAfter}
+use Rattle.paper.specs.Writing.{Draft, drafted, refusal, on_verdict, draft_of, draft_with, draft, WriteAnswer, written_in, output_after}
 use Rattle.outcomes.specs.Outcomes.{WritesAs}
 
 -- ---- 20 and 21
@@ -29,22 +29,22 @@ abbrev Late : Draft → Type 0
 Late (drafted s) = Unit {0}
 Late (refusal n row field) = (20 ≤ n) × (n ≤ 21)
 
-verdict-late : (n : ℕ) (v : Verdict) (rest : Draft) → 20 ≤ n → n ≤ 21 → Late rest → Late (onVerdict n v rest)
-unfolding onVerdict
+verdict-late : (n : ℕ) (v : Verdict) (rest : Draft) → 20 ≤ n → n ≤ 21 → Late rest → Late (on_verdict n v rest)
+unfolding on_verdict
 verdict-late n fine rest l m r = r
 verdict-late n (wrong row field) rest l m r = (l, m)
 
-draft-is-late : (sh : Sheet) (today : ℕ) (h : Header) (ts : List Thing) → Late (draftOf sh today h ts)
-unfolding draftOf
+draft-is-late : (sh : Sheet) (today : ℕ) (h : Header) (ts : List Thing) → Late (draft_of sh today h ts)
+unfolding draft_of
 draft-is-late sh today h ts =
-    verdict-late 20 (pick sh.header (headerProper h) fine) _ (omega arith) (omega arith)
-    (verdict-late 20 (batchProper ts) _ (omega arith) (omega arith)
-    (verdict-late 21 (pick sh.header (headerCarried sh.interval h) fine) _ (omega arith) (omega arith)
-    (verdict-late 21 (batchCarried sh today h ts) (drafted (canon sh h (batchOf ts))) (omega arith) (omega arith) tt)))
+    verdict-late 20 (pick sh.header (header_proper h) fine) _ (omega arith) (omega arith)
+    (verdict-late 20 (batch_proper ts) _ (omega arith) (omega arith)
+    (verdict-late 21 (pick sh.header (header_carried sh.interval h) fine) _ (omega arith) (omega arith)
+    (verdict-late 21 (batch_carried sh today h ts) (drafted (canon sh h (batch_of ts))) (omega arith) (omega arith) tt)))
 
 -- On a known sheet and a real day, no other number is given.
 pub draft-late : (sh : Sheet) (today : ℕ) (h : Header) (ts : List Thing) (n row field : ℕ)
-    → draftOf sh today h ts ≡ refusal n row field → (20 ≤ n) × (n ≤ 21)
+    → draft_of sh today h ts ≡ refusal n row field → (20 ≤ n) × (n ≤ 21)
 draft-late sh today h ts n row field e = rw e at (draft-is-late sh today h ts)
 
 -- ---- a refusal has a number
@@ -58,22 +58,22 @@ late-numbered : (d : Draft) → Late d → Numbered d
 late-numbered (drafted s) l = tt
 late-numbered (refusal n row field) (l, m) = omega arith
 
-known-numbered : (k : Known) (today : ℕ) (h : Header) (ts : List Thing) → Numbered (draftWith k today h ts)
-unfolding draftWith
+known-numbered : (k : Known) (today : ℕ) (h : Header) (ts : List Thing) → Numbered (draft_with k today h ts)
+unfolding draft_with
 known-numbered known.Nothing today h ts = omega arith
 known-numbered (known.Sheet sh) today h ts =
-    either Numbered (realDay today) (λ e. late-numbered (draftOf sh today h ts) (draft-is-late sh today h ts)) (λ e. omega arith)
+    either Numbered (real_day today) (λ e. late-numbered (draft_of sh today h ts) (draft-is-late sh today h ts)) (λ e. omega arith)
 
 pub draft-numbered : (sheet today : ℕ) (h : Header) (rows texts : List ℕ) → Numbered (draft sheet today h rows texts)
 unfolding draft
-draft-numbered sheet today h rows texts = known-numbered (sheetOf sheet) today h (thingsIn texts (rowsIn rows))
+draft-numbered sheet today h rows texts = known-numbered (sheet_of sheet) today h (things_in texts (rows_in rows))
 
 -- ---- with room
 
 module _ (sheet today : ℕ) (h : Header) (rows texts out s : List ℕ) where
   -- what is drafted is written where there is room for it,
   pub writes-also : draft sheet today h rows texts ≡ drafted s → length s ≤ length out → WritesAs sheet today h rows texts out s
-  unfolding writtenIn outputAfter
+  unfolding written_in output_after
   writes-also e room =
       let f = le-ltb (length out) (length s) room in
       record {
@@ -83,19 +83,19 @@ module _ (sheet today : ℕ) (h : Header) (rows texts out s : List ℕ) where
 
   -- and nothing else is written.
   same_bytes : (t : List ℕ) → draft sheet today h rows texts ≡ drafted t → length t ≤ length out → WritesAs sheet today h rows texts out s → t ≡ s
-  unfolding writtenIn outputAfter
+  unfolding written_in output_after
   same_bytes t e room w =
       let f = le-ltb (length out) (length t) room in
       let n : length t ≡ length s =
-      ap (λ (a : WriteAnswer). a.bytes) (sym (ap (λ (d : Draft). writtenIn (length out) d) e ∙ pick-false _ _ f) ∙ w.answer) in
-      let o : outputAfter out (draft sheet today h rows texts) ≡ t ++ drop (length t) out = ap (λ (d : Draft). outputAfter out d) e ∙ pick-false _ _ f in
+      ap (λ (a : WriteAnswer). a.bytes) (sym (ap (λ (d : Draft). written_in (length out) d) e ∙ pick-false _ _ f) ∙ w.answer) in
+      let o : output_after out (draft sheet today h rows texts) ≡ t ++ drop (length t) out = ap (λ (d : Draft). output_after out d) e ∙ pick-false _ _ f in
       sym (take_at t (drop (length t) out) (length s) n) ∙ ap (λ (x : List ℕ). take (length s) x) (sym o) ∙ w.stands
 
   writes-only : (d : Draft) → draft sheet today h rows texts ≡ d → WritesAs sheet today h rows texts out s → draft sheet today h rows texts ≡ drafted s
-  unfolding writtenIn
+  unfolding written_in
   writes-only (refusal n row field) e w =
       absurd (
-      let z : n ≡ 0 = ap (λ (a : WriteAnswer). a.number) (sym (ap (λ (d : Draft). writtenIn (length out) d) e) ∙ w.answer) in
+      let z : n ≡ 0 = ap (λ (a : WriteAnswer). a.number) (sym (ap (λ (d : Draft). written_in (length out) d) e) ∙ w.answer) in
       let one : 1 ≤ n = rw e at (draft-numbered sheet today h rows texts) in
       omega arith
       )
@@ -103,7 +103,7 @@ module _ (sheet today : ℕ) (h : Header) (rows texts out s : List ℕ) where
       by-lt (length out) (length t)
       (λ l. absurd (
       let z : 16 ≡ 0 =
-      ap (λ (a : WriteAnswer). a.number) (sym (ap (λ (d : Draft). writtenIn (length out) d) e ∙ pick_true _ _ (lt-ltb (length out) (length t) l)) ∙ w.answer) in
+      ap (λ (a : WriteAnswer). a.number) (sym (ap (λ (d : Draft). written_in (length out) d) e ∙ pick_true _ _ (lt-ltb (length out) (length t) l)) ∙ w.answer) in
       omega arith
       ))
       (λ l. e ∙ ap drafted (same_bytes t e l w))

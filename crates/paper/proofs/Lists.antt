@@ -10,8 +10,8 @@ use borrow.Author.Tests.{ne_eqb}
 use Rattle.base.proofs.Seek.{never}
 use Rattle.paper.specs.Bytes.{null}
 use Rattle.paper.specs.Batch.{Item, Group, sum}
-use Rattle.paper.specs.Spells.{groupItems}
-use Rattle.paper.specs.Judge.{revOn}
+use Rattle.paper.specs.Spells.{group_items}
+use Rattle.paper.specs.Judge.{rev_on}
 
 -- ---- empty
 
@@ -38,16 +38,16 @@ some-null (x ∷ a) e = refl
 
 -- ---- last one first
 
-pub length-rev : {A : Type 0} (a m : List A) → length (revOn a m) ≡ length a + length m
+pub length-rev : {A : Type 0} (a m : List A) → length (rev_on a m) ≡ length a + length m
 length-rev [] m = omega arith
 length-rev (x ∷ a) m = omega (arith, length-rev a (x ∷ m))
 
-pub items-rev : (a m : List Group) → groupItems (revOn a m) ≡ groupItems a + groupItems m
-unfolding groupItems
+pub items-rev : (a m : List Group) → group_items (rev_on a m) ≡ group_items a + group_items m
+unfolding group_items
 items-rev [] m = omega arith
 items-rev (g ∷ a) m = omega (arith, items-rev a (g ∷ m))
 
-pub sum-rev : (a m : List Item) → sum (revOn a m) ≡ sum a + sum m
+pub sum-rev : (a m : List Item) → sum (rev_on a m) ≡ sum a + sum m
 unfolding sum
 sum-rev [] m = omega arith
 sum-rev (x ∷ a) m = omega (arith, sum-rev a (x ∷ m))

@@ -11,7 +11,7 @@ use Rattle.base.specs.Seek.{seek}
 use Rattle.paper.specs.Read.{Field, value, fault}
 use Rattle.paper.specs.Warnings.{Warning, Notice, notices}
 use Rattle.paper.specs.Bytes.{space, field_of, rest_of}
-use Rattle.paper.specs.Entries.{Entry, Places, Saying, saying, Said, Listed, got, no, said, counted, onField, field, gap, lineEnd}
+use Rattle.paper.specs.Entries.{Entry, Places, Saying, saying, Said, Listed, got, no, said, counted, on_field, field, gap, line_end}
 
 -- the map keeps refusals
 pub record Keeps {A B : Type 0} (f : Said A → Said B) : Type 0 where
@@ -19,8 +19,8 @@ pub record Keeps {A B : Type 0} (f : Said A → Said B) : Type 0 where
 
 module _ {A B : Type 0} (f : Said A → Said B) (keeps : Keeps f) where
   module _ {X : Type 0} where
-    pub on-passes : (at : ℕ) (x : Field X) (k : X → Said A) (j : X → Said B) → ((v : X) → f (k v) ≡ j v) → f (onField at x k) ≡ onField at x j
-    unfolding onField
+    pub on-passes : (at : ℕ) (x : Field X) (k : X → Said A) (j : X → Said B) → ((v : X) → f (k v) ≡ j v) → f (on_field at x k) ≡ on_field at x j
+    unfolding on_field
     on-passes at (value v) k j h = h v
     on-passes at (fault n) k j h = keeps.refusal n at
 
@@ -37,8 +37,8 @@ module _ {A B : Type 0} (f : Said A → Said B) (keeps : Keeps f) where
   gap-passes at [] k j h = keeps.refusal 4 at
   gap-passes at (x ∷ s) k j h = h (at + 1) s
 
-  pub end-passes : (at : ℕ) (s : List ℕ) (r : Said A) (q : Said B) → f r ≡ q → f (lineEnd at s r) ≡ lineEnd at s q
-  unfolding lineEnd
+  pub end-passes : (at : ℕ) (s : List ℕ) (r : Said A) (q : Said B) → f r ≡ q → f (line_end at s r) ≡ line_end at s q
+  unfolding line_end
   end-passes at [] r q h = h
   end-passes at (x ∷ s) r q h = keeps.refusal 4 at
 

@@ -10,16 +10,16 @@ use Rattle.base.specs.Seek.{starts}
 use Rattle.base.proofs.Cases.{by-test, either}
 use Rattle.base.proofs.Seek.{starts-long}
 use Rattle.paper.specs.Bytes.{bytes}
-use Rattle.paper.specs.Entries.{Kind, headLine, fileLine, groupLine, itemLine, groupEnd, fileEnd, kind_of}
+use Rattle.paper.specs.Entries.{Kind, head_line, file_line, group_line, item_line, group_end, file_end, kind_of}
 
 -- how many bytes a line of each kind has at least
 abbrev pub least : Kind → ℕ
-least headLine = 4
-least fileLine = 2
-least groupLine = 2
-least itemLine = 0
-least groupEnd = 2
-least fileEnd = 2
+least head_line = 4
+least file_line = 2
+least group_line = 2
+least item_line = 0
+least group_end = 2
+least file_end = 2
 
 abbrev Long : List ℕ → Kind → Type 0
 Long s k = least k ≤ length s

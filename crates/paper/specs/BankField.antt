@@ -20,29 +20,29 @@ ninth false d b c = pick (eqb d 0) (value (record { bank = b; constant = c; prio
 
 -- Eight to ten digits that end in four of payee bank and four of constant symbol. First 4, then 12 for the bank 0000, then 13 for a
 -- tenth digit that is not 0 and for the ninth.
-unfoldable pub readBank : Bool → List ℕ → Field Bank
-readBank ranked s =
+unfoldable pub read_bank : Bool → List ℕ → Field Bank
+read_bank ranked s =
     given (digits 8 10 s) λ n.
     pick (eqb (n / 10000 % 10000) 0) (fault 12)
     (pick (ltb 999999999 n) (fault 13) (ninth ranked (n / 100000000) (n / 10000 % 10000) (n % 10000)))
 
 -- Document 02, W-202: then 11 for a bank that may not be due on the group's day
-unfoldable pub readDueBank : Bool → (ℕ → Bool) → List ℕ → Field Bank
-readDueBank ranked due s = given (readBank ranked s) λ b. pick (due b.bank) (value b) (fault 11)
+unfoldable pub read_due_bank : Bool → (ℕ → Bool) → List ℕ → Field Bank
+read_due_bank ranked due s = given (read_bank ranked s) λ b. pick (due b.bank) (value b) (fault 11)
 
 -- "The batch": a payee bank is 1 to 9999
-unfoldable pub bankProper : ℕ → Bool
-bankProper b = pick (ltb b 1) false (leb b 9999)
+unfoldable pub bank_proper : ℕ → Bool
+bank_proper b = pick (ltb b 1) false (leb b 9999)
 
 -- "The batch": a priority is 3 to 9
-unfoldable pub priorityProper : ℕ → Bool
-priorityProper p = pick (ltb p 3) false (leb p 9)
+unfoldable pub priority_proper : ℕ → Bool
+priority_proper p = pick (ltb p 3) false (leb p 9)
 
 -- K carries every priority, the other sheets 5 alone
-unfoldable pub priorityCarried : Bool → ℕ → Bool
-priorityCarried ranked p = pick ranked true (eqb p 5)
+unfoldable pub priority_carried : Bool → ℕ → Bool
+priority_carried ranked p = pick ranked true (eqb p 5)
 
 -- "Canonical spelling": eight digits, and `0p` in front if the priority p is not 5
-unfoldable pub spellBank : ℕ → ℕ → ℕ → List ℕ
-spellBank bank constant priority =
+unfoldable pub spell_bank : ℕ → ℕ → ℕ → List ℕ
+spell_bank bank constant priority =
     pick (eqb priority 5) (fixed 8 (bank * 10000 + constant)) (fixed 10 (priority * 100000000 + (bank * 10000 + constant)))

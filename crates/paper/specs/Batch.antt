@@ -62,26 +62,26 @@ most14 = 99999999999999
 -- Two things that rows may say are not of a batch: `misnumbered` is an item whose reference, which the row has besides, is out of range (document 02,
 -- W-206); `strange` is what a row of no known kind says.
 pub data Thing : Type 0 where
-  aFile : ℕ → ℕ → Thing
-  aGroup : ℕ → Account → Thing
-  anItem : Item → Thing
+  a_file : ℕ → ℕ → Thing
+  a_group : ℕ → Account → Thing
+  an_item : Item → Thing
   misnumbered : Item → Thing
   strange : Thing
 
 -- a group's items, in front of what follows
-unfoldable pub itemThings : List Item → List Thing → List Thing
-itemThings [] r = r
-itemThings (x ∷ xs) r = anItem x ∷ itemThings xs r
+unfoldable pub item_things : List Item → List Thing → List Thing
+item_things [] r = r
+item_things (x ∷ xs) r = an_item x ∷ item_things xs r
 
 -- groups, each followed by its items
-unfoldable pub groupThings : List Group → List Thing → List Thing
-groupThings [] r = r
-groupThings (g ∷ gs) r = aGroup g.date g.payer ∷ itemThings g.items (groupThings gs r)
+unfoldable pub group_things : List Group → List Thing → List Thing
+group_things [] r = r
+group_things (g ∷ gs) r = a_group g.date g.payer ∷ item_things g.items (group_things gs r)
 
 -- account files, each followed by its groups
 unfoldable pub things : Batch → List Thing
 things [] = []
-things (f ∷ fs) = aFile f.kind f.number ∷ groupThings f.groups (things fs)
+things (f ∷ fs) = a_file f.kind f.number ∷ group_things f.groups (things fs)
 
 -- the batch that such a list holds, taken together from its end: items not yet in a group, groups not yet in an account file, account files
 pub record Heap : Type 0 where
@@ -90,16 +90,16 @@ pub record Heap : Type 0 where
   pub files : List AccountFile
 
 -- an item goes to the items, a group takes the items behind it, an account file the groups behind it; what is not of a batch is left out
-unfoldable pub heapOf : List Thing → Heap
-heapOf [] = record { items = []; groups = []; files = [] }
-heapOf (anItem x ∷ ts) = let h = heapOf ts in record { items = x ∷ h.items; groups = h.groups; files = h.files }
-heapOf (aGroup d p ∷ ts) =
-    let h = heapOf ts in record { items = []; groups = record { date = d; payer = p; items = h.items } ∷ h.groups; files = h.files }
-heapOf (aFile k n ∷ ts) =
-    let h = heapOf ts in record { items = []; groups = []; files = record { kind = k; number = n; groups = h.groups } ∷ h.files }
-heapOf (misnumbered x ∷ ts) = heapOf ts
-heapOf (strange ∷ ts) = heapOf ts
+unfoldable pub heap_of : List Thing → Heap
+heap_of [] = record { items = []; groups = []; files = [] }
+heap_of (an_item x ∷ ts) = let h = heap_of ts in record { items = x ∷ h.items; groups = h.groups; files = h.files }
+heap_of (a_group d p ∷ ts) =
+    let h = heap_of ts in record { items = []; groups = record { date = d; payer = p; items = h.items } ∷ h.groups; files = h.files }
+heap_of (a_file k n ∷ ts) =
+    let h = heap_of ts in record { items = []; groups = []; files = record { kind = k; number = n; groups = h.groups } ∷ h.files }
+heap_of (misnumbered x ∷ ts) = heap_of ts
+heap_of (strange ∷ ts) = heap_of ts
 
 -- the account files of the whole list
-unfoldable pub batchOf : List Thing → Batch
-batchOf ts = (heapOf ts).files
+unfoldable pub batch_of : List Thing → Batch
+batch_of ts = (heap_of ts).files

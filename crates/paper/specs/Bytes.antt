@@ -11,16 +11,16 @@ bytes ε = []
 bytes (c · s) = code c ∷ bytes s
 
 -- "The batch": a text byte is 32 to 255 except 127
-unfoldable pub isText : ℕ → Bool
-isText x = pick (ltb x 32) false (pick (eqb x 127) false (leb x 255))
+unfoldable pub is_text : ℕ → Bool
+is_text x = pick (ltb x 32) false (pick (eqb x 127) false (leb x 255))
 
 -- neither `#` nor `~`
-unfoldable pub isClean : ℕ → Bool
-isClean x = pick (eqb x 35) false (not (eqb x 126))
+unfoldable pub is_clean : ℕ → Bool
+is_clean x = pick (eqb x 35) false (not (eqb x 126))
 
 -- an ASCII digit
-unfoldable pub isDigit : ℕ → Bool
-isDigit x = pick (ltb x 48) false (leb x 57)
+unfoldable pub is_digit : ℕ → Bool
+is_digit x = pick (ltb x 48) false (leb x 57)
 
 -- a space, between fields ("Lines"); like the next three, a text of one byte
 abbrev pub space : List ℕ

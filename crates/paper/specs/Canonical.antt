@@ -2,22 +2,22 @@
 use Rattle.std.specs.Prelude.{ℕ, List, [], ◌∷◌, ◌++◌}
 use Rattle.sheet.specs.declared.Sheet.{Sheet}
 use Rattle.paper.specs.Batch.{Batch, Header}
-use Rattle.paper.specs.Entries.{Entry, head, file, group, item, closeGroup, closeFile}
-use Rattle.paper.specs.FirstLine.{spellFirst}
-use Rattle.paper.specs.FileLine.{spellFile}
-use Rattle.paper.specs.GroupLine.{spellGroup}
-use Rattle.paper.specs.ItemLine.{spellItem}
-use Rattle.paper.specs.ClosingLine.{spellClose}
+use Rattle.paper.specs.Entries.{Entry, head, file, group, item, close_group, close_file}
+use Rattle.paper.specs.FirstLine.{spell_first}
+use Rattle.paper.specs.FileLine.{spell_file}
+use Rattle.paper.specs.GroupLine.{spell_group}
+use Rattle.paper.specs.ItemLine.{spell_item}
+use Rattle.paper.specs.ClosingLine.{spell_close}
 use Rattle.paper.specs.Spells.{Due, dues}
 
 -- "Canonical spelling": each kind of line as its own file of definitions spells it
 unfoldable pub spell : Sheet → Entry → List ℕ
-spell sh (head h) = spellFirst sh h
-spell sh (file kind number) = spellFile sh kind number
-spell sh (group payer total date) = spellGroup sh payer total date
-spell sh (item x) = spellItem sh x
-spell sh closeGroup = spellClose 51
-spell sh closeFile = spellClose 53
+spell sh (head h) = spell_first sh h
+spell sh (file kind number) = spell_file sh kind number
+spell sh (group payer total date) = spell_group sh payer total date
+spell sh (item x) = spell_item sh x
+spell sh close_group = spell_close 51
+spell sh close_file = spell_close 53
 
 -- CR LF after every line
 unfoldable pub text_of : Sheet → List Due → List ℕ

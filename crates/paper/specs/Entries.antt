@@ -15,8 +15,8 @@ pub data Entry : Type 0 where
   file : ℕ → ℕ → Entry
   group : Account → ℕ → ℕ → Entry
   item : Item → Entry
-  closeGroup : Entry
-  closeFile : Entry
+  close_group : Entry
+  close_file : Entry
 
 -- an entry taken apart: what is made of a header, an account file, a group, an item, a group's end, an account file's end
 module _ {A : Type 0} where
@@ -25,24 +25,24 @@ module _ {A : Type 0} where
   on_entry (file n m) a b c d e f = b n m
   on_entry (group p t u) a b c d e f = c p t u
   on_entry (item x) a b c d e f = d x
-  on_entry closeGroup a b c d e f = e
-  on_entry closeFile a b c d e f = f
+  on_entry close_group a b c d e f = e
+  on_entry close_file a b c d e f = f
 
   -- a header goes on (k), any other entry answers z
-  unfoldable pub onHead : Entry → (Header → A) → A → A
-  onHead x k z = on_entry x k (λ _ _. z) (λ _ _ _. z) (λ _. z) z z
+  unfoldable pub on_head : Entry → (Header → A) → A → A
+  on_head x k z = on_entry x k (λ _ _. z) (λ _ _ _. z) (λ _. z) z z
 
   -- an account file goes on
-  unfoldable pub onFile : Entry → (ℕ → ℕ → A) → A → A
-  onFile x k z = on_entry x (λ _. z) k (λ _ _ _. z) (λ _. z) z z
+  unfoldable pub on_file : Entry → (ℕ → ℕ → A) → A → A
+  on_file x k z = on_entry x (λ _. z) k (λ _ _ _. z) (λ _. z) z z
 
   -- a group goes on, or its account file's end (c)
-  unfoldable pub onGroup : Entry → (Account → ℕ → ℕ → A) → A → A → A
-  onGroup x k c z = on_entry x (λ _. z) (λ _ _. z) k (λ _. z) z c
+  unfoldable pub on_group : Entry → (Account → ℕ → ℕ → A) → A → A → A
+  on_group x k c z = on_entry x (λ _. z) (λ _ _. z) k (λ _. z) z c
 
   -- an item goes on, or its group's end (c)
-  unfoldable pub onItem : Entry → (Item → A) → A → A → A
-  onItem x k c z = on_entry x (λ _. z) (λ _ _. z) (λ _ _ _. z) k c z
+  unfoldable pub on_item : Entry → (Item → A) → A → A → A
+  on_item x k c z = on_entry x (λ _. z) (λ _ _. z) (λ _ _ _. z) k c z
 
 -- Where in the line things begin that the answer has to place: a group's total; an item's four parts and its name. What a line does not
 -- have is at 0.
@@ -56,8 +56,8 @@ abbrev pub nowhere : Places
 nowhere = record { total = 0; parts = []; name = 0 }
 
 -- a group's line
-abbrev pub totalAt : ℕ → Places
-totalAt at = record { total = at; parts = []; name = 0 }
+abbrev pub total_at : ℕ → Places
+total_at at = record { total = at; parts = []; name = 0 }
 
 -- What a line says: its entry, what it warns of, and these places. Warnings are a list, from left to right, or their count.
 pub record Saying (W : Type 0) : Type 0 where
@@ -99,36 +99,36 @@ counted (no n off) = no n off
 
 -- "Lines": the first line, an account file, a group, an item, the end of a group, the end of an account file
 pub data Kind : Type 0 where
-  headLine fileLine groupLine itemLine groupEnd fileEnd : Kind
+  head_line file_line group_line item_line group_end file_end : Kind
 
 -- `UHL1`, `1 `, `2 `, `3 ` or `3+`, `5 ` or `5+`; any other is an item
 unfoldable pub kind_of : List ℕ → Kind
 kind_of s =
-    pick (starts (bytes "UHL1") s) headLine
-    (pick (starts (bytes "1 ") s) fileLine
-    (pick (starts (bytes "2 ") s) groupLine
-    (pick (pick (starts (bytes "3 ") s) true (starts (bytes "3+") s)) groupEnd
-    (pick (pick (starts (bytes "5 ") s) true (starts (bytes "5+") s)) fileEnd
-    itemLine))))
+    pick (starts (bytes "UHL1") s) head_line
+    (pick (starts (bytes "1 ") s) file_line
+    (pick (starts (bytes "2 ") s) group_line
+    (pick (pick (starts (bytes "3 ") s) true (starts (bytes "3+") s)) group_end
+    (pick (pick (starts (bytes "5 ") s) true (starts (bytes "5+") s)) file_end
+    item_line))))
 
 -- ---- fields from left to right: `at` is the offset in the line, s the rest of the line from there
 
 -- a field that was read goes on, one that was not is refused at its start
-unfoldable pub onField : {A B : Type 0} → ℕ → Field A → (A → Said B) → Said B
-onField at (value v) k = k v
-onField at (fault n) k = no n at
+unfoldable pub on_field : {A B : Type 0} → ℕ → Field A → (A → Said B) → Said B
+on_field at (value v) k = k v
+on_field at (fault n) k = no n at
 
 -- a field that runs to the next space or the line's end
 unfoldable pub field : {A B : Type 0} → (List ℕ → Field A) → ℕ → List ℕ → (A → ℕ → List ℕ → Said B) → Said B
-field read at s k = onField at (read (field_of s)) λ v. k v (at + seek space s) (rest_of s)
+field read at s k = on_field at (read (field_of s)) λ v. k v (at + seek space s) (rest_of s)
 
 -- a field of n bytes, by place; a line that ends before or inside it is refused at the field's start
 unfoldable pub place : {A B : Type 0} → ℕ → (List ℕ → Field A) → ℕ → List ℕ → (A → ℕ → List ℕ → Said B) → Said B
-place n read at s k = pick (ltb (length s) n) (no 4 at) (onField at (read (take n s)) λ v. k v (at + n) (drop n s))
+place n read at s k = pick (ltb (length s) n) (no 4 at) (on_field at (read (take n s)) λ v. k v (at + n) (drop n s))
 
 -- the rest of the line, whole
-abbrev pub toEnd : {A B : Type 0} → (List ℕ → Field A) → ℕ → List ℕ → (A → Said B) → Said B
-toEnd read at s k = onField at (read s) k
+abbrev pub to_end : {A B : Type 0} → (List ℕ → Field A) → ℕ → List ℕ → (A → Said B) → Said B
+to_end read at s k = on_field at (read s) k
 
 -- the space that divides two fields; a missing one is 4 at the line's end (what a field leaves of its line is nothing, or begins with a space)
 unfoldable pub gap : {B : Type 0} → ℕ → List ℕ → (ℕ → List ℕ → Said B) → Said B
@@ -136,6 +136,6 @@ gap at [] k = no 4 at
 gap at (x ∷ s) k = k (at + 1) s
 
 -- nothing follows; a divider too many is 4 at itself
-unfoldable pub lineEnd : {B : Type 0} → ℕ → List ℕ → Said B → Said B
-lineEnd at [] r = r
-lineEnd at (x ∷ s) r = no 4 at
+unfoldable pub line_end : {B : Type 0} → ℕ → List ℕ → Said B → Said B
+line_end at [] r = r
+line_end at (x ∷ s) r = no 4 at

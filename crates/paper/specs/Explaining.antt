@@ -4,5 +4,5 @@ use Rattle.paper.specs.Bytes.{bytes}
 use Rattle.paper.specs.Numerals.{decimal}
 
 -- `refused N line L byte B` and LF
-unfoldable pub refusedLine : ℕ → ℕ → ℕ → List ℕ
-refusedLine n l p = bytes "refused " ++ (decimal n ++ (bytes " line " ++ (decimal l ++ (bytes " byte " ++ (decimal p ++ (10 ∷ []))))))
+unfoldable pub refused_line : ℕ → ℕ → ℕ → List ℕ
+refused_line n l p = bytes "refused " ++ (decimal n ++ (bytes " line " ++ (decimal l ++ (bytes " byte " ++ (decimal p ++ (10 ∷ []))))))

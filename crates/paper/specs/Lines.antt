@@ -12,9 +12,9 @@ abbrev pub line : ℕ → List ℕ → Line
 line at s = record { start = at; bytes = s }
 
 -- does an LF come next?
-abbrev pub startsLF : List ℕ → Bool
-startsLF [] = false
-startsLF (b ∷ bs) = eqb b 10
+abbrev pub starts_lf : List ℕ → Bool
+starts_lf [] = false
+starts_lf (b ∷ bs) = eqb b 10
 
 -- the byte b at i stands in front of the first of the lines after it
 abbrev pub first : ℕ → ℕ → List Line → List Line
@@ -35,7 +35,7 @@ unfoldable pub lines_of : ℕ → List ℕ → List Line
 lines_of i [] = []
 lines_of i (b ∷ bs) =
     let rest = lines_of (suc i) bs in
-    pick (eqb b 10) (ended i rest) (pick (eqb b 13) (pick (startsLF bs) (behind i rest) (ended i rest)) (first i b rest))
+    pick (eqb b 10) (ended i rest) (pick (eqb b 13) (pick (starts_lf bs) (behind i rest) (ended i rest)) (first i b rest))
 
 -- the lines of the file f from the place of a line's start on
 unfoldable pub lines_from : List ℕ → ℕ → List Line

@@ -2,31 +2,31 @@
 use Rattle.std.specs.Prelude.{ℕ, zero, suc, ◌+◌, ◌-◌, ◌*◌, ◌/◌, ◌%◌, List, [], ◌∷◌, ltb, length}
 use Rattle.base.specs.Pick.{pick}
 use Rattle.paper.specs.Read.{Field, value, fault}
-use Rattle.paper.specs.Bytes.{isDigit}
+use Rattle.paper.specs.Bytes.{is_digit}
 
 -- the digits of s, read on from the number v; 4 at any other byte
-unfoldable pub digitsOn : ℕ → List ℕ → Field ℕ
-digitsOn v [] = value v
-digitsOn v (x ∷ s) = pick (isDigit x) (digitsOn (v * 10 + (x - 48)) s) (fault 4)
+unfoldable pub digits_on : ℕ → List ℕ → Field ℕ
+digits_on v [] = value v
+digits_on v (x ∷ s) = pick (is_digit x) (digits_on (v * 10 + (x - 48)) s) (fault 4)
 
 -- a number of `least` to `most` digits, and nothing else: 4 otherwise
 unfoldable pub digits : ℕ → ℕ → List ℕ → Field ℕ
-digits least most s = pick (ltb (length s) least) (fault 4) (pick (ltb most (length s)) (fault 4) (digitsOn 0 s))
+digits least most s = pick (ltb (length s) least) (fault 4) (pick (ltb most (length s)) (fault 4) (digits_on 0 s))
 
 -- the digits of n, at most k of them, in front of s
-unfoldable pub decOn : ℕ → ℕ → List ℕ → List ℕ
-decOn zero n s = s
-decOn (suc k) n s = pick (ltb n 10) ((48 + n) ∷ s) (decOn k (n / 10) ((48 + n % 10) ∷ s))
+unfoldable pub dec_on : ℕ → ℕ → List ℕ → List ℕ
+dec_on zero n s = s
+dec_on (suc k) n s = pick (ltb n 10) ((48 + n) ∷ s) (dec_on k (n / 10) ((48 + n % 10) ∷ s))
 
 -- n with no needless zeros; n is below 10 ^ 20, as every 64-bit number is
 unfoldable pub decimal : ℕ → List ℕ
-decimal n = decOn 20 n []
+decimal n = dec_on 20 n []
 
 -- the last k digits of n, zeros in front, before s
-unfoldable pub fixedOn : ℕ → ℕ → List ℕ → List ℕ
-fixedOn zero n s = s
-fixedOn (suc k) n s = fixedOn k (n / 10) ((48 + n % 10) ∷ s)
+unfoldable pub fixed_on : ℕ → ℕ → List ℕ → List ℕ
+fixed_on zero n s = s
+fixed_on (suc k) n s = fixed_on k (n / 10) ((48 + n % 10) ∷ s)
 
 -- n in exactly k digits
 unfoldable pub fixed : ℕ → ℕ → List ℕ
-fixed k n = fixedOn k n []
+fixed k n = fixed_on k n []

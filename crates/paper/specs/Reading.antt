@@ -4,13 +4,13 @@ use Rattle.base.specs.Pick.{pick}
 use Rattle.sheet.specs.declared.Sheet.{Sheet}
 use Rattle.sheet.specs.declared.Known.{Known}
 use Rattle.sheet.specs.declared.Known.TheVariants as known
-use Rattle.sheet.specs.Sheets.{sheetOf}
-use Rattle.paper.specs.Days.{realDay}
+use Rattle.sheet.specs.Sheets.{sheet_of}
+use Rattle.paper.specs.Days.{real_day}
 use Rattle.paper.specs.Batch.{Batch, Header, no_header, things}
 use Rattle.paper.specs.Lines.{lines_of}
 use Rattle.paper.specs.Judge.{Answer, Refused, Accepted, judge}
-use Rattle.paper.specs.Words.{rowsBytes}
-use Rattle.paper.specs.Rows.{rowSize, linesRows}
+use Rattle.paper.specs.Words.{rows_bytes}
+use Rattle.paper.specs.Rows.{row_size, lines_rows}
 
 -- numbers that are not named are 0, and a header that is not read is C's
 pub record ReadAnswer : Type 0 where
@@ -23,34 +23,34 @@ pub record ReadAnswer : Type 0 where
   pub header : Header
 
 -- a refusal: its number, line and byte
-unfoldable pub refusedAt : ℕ → ℕ → ℕ → ReadAnswer
-refusedAt n l p = record { number = n; line = l; byte = p; rows = 0; warnings = 0; needed = 0; header = no_header }
+unfoldable pub refused_at : ℕ → ℕ → ℕ → ReadAnswer
+refused_at n l p = record { number = n; line = l; byte = p; rows = 0; warnings = 0; needed = 0; header = no_header }
 
 -- 16: the rows needed
 unfoldable pub needs : ℕ → ReadAnswer
 needs n = record { number = 16; line = 0; byte = 0; rows = 0; warnings = 0; needed = n; header = no_header }
 
 -- 0: header, rows and warnings
-unfoldable pub acceptedAs : Header → ℕ → ℕ → ReadAnswer
-acceptedAs h n w = record { number = 0; line = 0; byte = 0; rows = n; warnings = w; needed = 0; header = h }
+unfoldable pub accepted_as : Header → ℕ → ℕ → ReadAnswer
+accepted_as h n w = record { number = 0; line = 0; byte = 0; rows = n; warnings = w; needed = 0; header = h }
 
 -- one row for each account file, group and item
-abbrev pub rowCount : Batch → ℕ
-rowCount b = length (things b)
+abbrev pub row_count : Batch → ℕ
+row_count b = length (things b)
 
 -- last 16: `room` rows are lent
 unfoldable pub answered : ℕ → Answer → ReadAnswer
-answered room (Refused n l p) = refusedAt n l p
-answered room (Accepted h b w) = pick (ltb room (rowCount b)) (needs (rowCount b)) (acceptedAs h (rowCount b) w)
+answered room (Refused n l p) = refused_at n l p
+answered room (Accepted h b w) = pick (ltb room (row_count b)) (needs (row_count b)) (accepted_as h (row_count b) w)
 
 -- first 1 and 2, then the file
-unfoldable pub readWith : Known → ℕ → List ℕ → ℕ → ReadAnswer
-readWith (known.Sheet sh) today f room = pick (realDay today) (answered room (judge sh today f)) (refusedAt 2 0 0)
-readWith known.Nothing today f room = refusedAt 1 0 0
+unfoldable pub read_with : Known → ℕ → List ℕ → ℕ → ReadAnswer
+read_with (known.Sheet sh) today f room = pick (real_day today) (answered room (judge sh today f)) (refused_at 2 0 0)
+read_with known.Nothing today f room = refused_at 1 0 0
 
 -- room is how many whole rows the lent bytes have
-unfoldable pub readAnswer : ℕ → ℕ → List ℕ → List ℕ → ReadAnswer
-readAnswer sheet today f lent = readWith (sheetOf sheet) today f (length lent / rowSize)
+unfoldable pub read_answer : ℕ → ℕ → List ℕ → List ℕ → ReadAnswer
+read_answer sheet today f lent = read_with (sheet_of sheet) today f (length lent / row_size)
 
 -- ---- the lent rows afterwards: the rows in front of the old bytes behind them; a refusal leaves them as they were
 
@@ -58,14 +58,14 @@ readAnswer sheet today f lent = readWith (sheetOf sheet) today f (length lent / 
 unfoldable pub filled : Sheet → ℕ → List ℕ → List ℕ → Answer → List ℕ
 filled sh today f lent (Refused n l p) = lent
 filled sh today f lent (Accepted h b w) =
-    pick (ltb (length lent / rowSize) (rowCount b)) lent
-    (rowsBytes (linesRows sh today false (lines_of 0 f)) ++ drop (rowSize * rowCount b) lent)
+    pick (ltb (length lent / row_size) (row_count b)) lent
+    (rows_bytes (lines_rows sh today false (lines_of 0 f)) ++ drop (row_size * row_count b) lent)
 
 -- 1 and 2 leave the rows alone too
-unfoldable pub rowsWith : Known → ℕ → List ℕ → List ℕ → List ℕ
-rowsWith (known.Sheet sh) today f lent = pick (realDay today) (filled sh today f lent (judge sh today f)) lent
-rowsWith known.Nothing today f lent = lent
+unfoldable pub rows_with : Known → ℕ → List ℕ → List ℕ → List ℕ
+rows_with (known.Sheet sh) today f lent = pick (real_day today) (filled sh today f lent (judge sh today f)) lent
+rows_with known.Nothing today f lent = lent
 
 -- of the sheet that the number names
-unfoldable pub rowsAfter : ℕ → ℕ → List ℕ → List ℕ → List ℕ
-rowsAfter sheet today f lent = rowsWith (sheetOf sheet) today f lent
+unfoldable pub rows_after : ℕ → ℕ → List ℕ → List ℕ → List ℕ
+rows_after sheet today f lent = rows_with (sheet_of sheet) today f lent

@@ -4,53 +4,53 @@ use Rattle.base.specs.Pick.{pick}
 use Rattle.sheet.specs.declared.Sheet.{Sheet}
 use Rattle.sheet.specs.declared.Known.{Known}
 use Rattle.sheet.specs.declared.Known.TheVariants as known
-use Rattle.sheet.specs.Sheets.{sheetBy}
+use Rattle.sheet.specs.Sheets.{sheet_by}
 use Rattle.paper.specs.Read.{Field, value, fault}
-use Rattle.paper.specs.Days.{shortDay}
+use Rattle.paper.specs.Days.{short_day}
 use Rattle.paper.specs.Judge.{Answer, Refused, Accepted, judge}
 use Rattle.paper.specs.Canonical.{canon}
-use Rattle.paper.specs.Explaining.{refusedLine}
+use Rattle.paper.specs.Explaining.{refused_line}
 
 -- the input's first line without its end; it ends as a file's lines do
-unfoldable pub firstLine : List ℕ → List ℕ
-firstLine [] = []
-firstLine (b ∷ s) = pick (eqb b 10) [] (pick (eqb b 13) [] (b ∷ firstLine s))
+unfoldable pub first_line : List ℕ → List ℕ
+first_line [] = []
+first_line (b ∷ s) = pick (eqb b 10) [] (pick (eqb b 13) [] (b ∷ first_line s))
 
 -- behind the LF of a CR LF
-unfoldable pub pastLF : List ℕ → List ℕ
-pastLF [] = []
-pastLF (b ∷ s) = pick (eqb b 10) s (b ∷ s)
+unfoldable pub past_lf : List ℕ → List ℕ
+past_lf [] = []
+past_lf (b ∷ s) = pick (eqb b 10) s (b ∷ s)
 
 -- what stands behind the first line's end
-unfoldable pub behindFirst : List ℕ → List ℕ
-behindFirst [] = []
-behindFirst (b ∷ s) = pick (eqb b 10) s (pick (eqb b 13) (pastLF s) (behindFirst s))
+unfoldable pub behind_first : List ℕ → List ℕ
+behind_first [] = []
+behind_first (b ∷ s) = pick (eqb b 10) s (pick (eqb b 13) (past_lf s) (behind_first s))
 
 -- what is read is rewritten
 unfoldable pub rewritten : Sheet → Answer → List ℕ
 rewritten sh (Accepted h b w) = canon sh h b
-rewritten sh (Refused n l p) = refusedLine n l p
+rewritten sh (Refused n l p) = refused_line n l p
 
 -- 16 for an input of more than 8 KiB, that line included; then the file
-unfoldable pub onDay : Sheet → List ℕ → Field ℕ → List ℕ
-onDay sh input (value today) = pick (ltb 8192 (length input)) (refusedLine 16 0 0) (rewritten sh (judge sh today (behindFirst input)))
-onDay sh input (fault n) = refusedLine 2 0 0
+unfoldable pub on_day : Sheet → List ℕ → Field ℕ → List ℕ
+on_day sh input (value today) = pick (ltb 8192 (length input)) (refused_line 16 0 0) (rewritten sh (judge sh today (behind_first input)))
+on_day sh input (fault n) = refused_line 2 0 0
 
 -- 2 where a space and a real day DDMMRR do not make up the rest of that line
-unfoldable pub dayField : List ℕ → Field ℕ
-dayField [] = fault 2
-dayField (x ∷ s) = pick (eqb x 32) (shortDay s) (fault 2)
+unfoldable pub day_field : List ℕ → Field ℕ
+day_field [] = fault 2
+day_field (x ∷ s) = pick (eqb x 32) (short_day s) (fault 2)
 
 -- 1 where the letter names no sheet
-unfoldable pub onSheet : Known → List ℕ → List ℕ → List ℕ
-onSheet (known.Sheet sh) rest input = onDay sh input (dayField rest)
-onSheet known.Nothing rest input = refusedLine 1 0 0
+unfoldable pub on_sheet : Known → List ℕ → List ℕ → List ℕ
+on_sheet (known.Sheet sh) rest input = on_day sh input (day_field rest)
+on_sheet known.Nothing rest input = refused_line 1 0 0
 
 -- the first byte is the sheet's letter, else 1; so it is for no input at all
-unfoldable pub onLetter : List ℕ → List ℕ → List ℕ
-onLetter [] input = refusedLine 1 0 0
-onLetter (letter ∷ rest) input = onSheet (sheetBy letter) rest input
+unfoldable pub on_letter : List ℕ → List ℕ → List ℕ
+on_letter [] input = refused_line 1 0 0
+on_letter (letter ∷ rest) input = on_sheet (sheet_by letter) rest input
 
 -- the whole output for the whole input
 unfoldable pub rewriting : List ℕ → List ℕ
-rewriting input = onLetter (firstLine input) input
+rewriting input = on_letter (first_line input) input

@@ -3,22 +3,22 @@
 use Rattle.std.specs.Prelude.{ℕ, ◌+◌, ◌≤◌, ◌≡◌, Bool, true, false, List, [], ◌∷◌, eqb, length}
 use Rattle.base.specs.Pick.{pick}
 use Rattle.sheet.specs.declared.Sheet.{Sheet}
-use Rattle.paper.specs.Accounts.{isNobody}
+use Rattle.paper.specs.Accounts.{is_nobody}
 use Rattle.paper.specs.Batch.{Item, Group, AccountFile, Batch, Header, sum, most14}
 use Rattle.paper.specs.Lines.{Line, lines_of}
-use Rattle.paper.specs.Entries.{Entry, head, file, group, item, closeGroup, closeFile, Places, Listed, Counted, said, counted, Kind, headLine, fileLine, groupLine, itemLine, groupEnd, fileEnd, kind_of}
-use Rattle.paper.specs.Terms.{dayHere, bankDue}
+use Rattle.paper.specs.Entries.{Entry, head, file, group, item, close_group, close_file, Places, Listed, Counted, said, counted, Kind, head_line, file_line, group_line, item_line, group_end, file_end, kind_of}
+use Rattle.paper.specs.Terms.{day_here, bank_due}
 use Rattle.paper.specs.FirstLine.{read_first}
-use Rattle.paper.specs.FileLine.{series, numberFault, readFile}
-use Rattle.paper.specs.GroupLine.{readGroup}
-use Rattle.paper.specs.ItemLine.{readItem}
-use Rattle.paper.specs.ClosingLine.{readClose}
+use Rattle.paper.specs.FileLine.{series, number_fault, read_file}
+use Rattle.paper.specs.GroupLine.{read_group}
+use Rattle.paper.specs.ItemLine.{read_item}
+use Rattle.paper.specs.ClosingLine.{read_close}
 
 -- ---- one line
 
 -- Which numbers may an account file have? Any; or those that the header and the first three digits of earlier numbers leave.
 pub data Numbers : Type 0 where
-  anyNumber : Numbers
+  any_number : Numbers
   after : Header → List ℕ → Numbers
 
 -- What the reading of a line depends on, besides its sheet and today: which numbers an account file may have, the kind of the account file
@@ -30,42 +30,42 @@ pub record Context : Type 0 where
   pub single : Bool
 
 -- the first line
-abbrev pub forHead : Context
-forHead = record { numbers = anyNumber; kind = 0; date = 0; single = false }
+abbrev pub for_head : Context
+for_head = record { numbers = any_number; kind = 0; date = 0; single = false }
 
 -- a line between account files
-abbrev pub forFile : Header → List ℕ → Context
-forFile h seen = record { numbers = after h seen; kind = 0; date = 0; single = false }
+abbrev pub for_file : Header → List ℕ → Context
+for_file h seen = record { numbers = after h seen; kind = 0; date = 0; single = false }
 
 -- a line of an account file of that kind, between groups
-abbrev pub forGroup : ℕ → Context
-forGroup kind = record { numbers = anyNumber; kind = kind; date = 0; single = false }
+abbrev pub for_group : ℕ → Context
+for_group kind = record { numbers = any_number; kind = kind; date = 0; single = false }
 
 -- a line of a group
-abbrev pub forItem : ℕ → ℕ → Bool → Context
-forItem kind date single = record { numbers = anyNumber; kind = kind; date = date; single = single }
+abbrev pub for_item : ℕ → ℕ → Bool → Context
+for_item kind date single = record { numbers = any_number; kind = kind; date = date; single = single }
 
 -- the refusal that a number gets there
-unfoldable pub numberTest : Sheet → Numbers → ℕ → ℕ
-numberTest sh anyNumber n = 0
-numberTest sh (after h seen) n = numberFault sh.interval h seen n
+unfoldable pub number_test : Sheet → Numbers → ℕ → ℕ
+number_test sh any_number n = 0
+number_test sh (after h seen) n = number_fault sh.interval h seen n
 
 -- a line of a known kind, read by the definition of that kind
-unfoldable pub readAs : Sheet → ℕ → Context → Kind → List ℕ → Listed
-readAs sh today c headLine s = read_first sh s
-readAs sh today c fileLine s = readFile sh (numberTest sh c.numbers) s
-readAs sh today c groupLine s = readGroup sh today (dayHere sh c.kind) s
-readAs sh today c itemLine s = readItem sh (bankDue sh today c.kind c.date) c.single s
-readAs sh today c groupEnd s = readClose sh.near closeGroup s
-readAs sh today c fileEnd s = readClose sh.near closeFile s
+unfoldable pub read_as : Sheet → ℕ → Context → Kind → List ℕ → Listed
+read_as sh today c head_line s = read_first sh s
+read_as sh today c file_line s = read_file sh (number_test sh c.numbers) s
+read_as sh today c group_line s = read_group sh today (day_here sh c.kind) s
+read_as sh today c item_line s = read_item sh (bank_due sh today c.kind c.date) c.single s
+read_as sh today c group_end s = read_close sh.near close_group s
+read_as sh today c file_end s = read_close sh.near close_file s
 
 -- a line, read by what its start says it is, with its warnings counted
-unfoldable pub readLine : Sheet → ℕ → Context → List ℕ → Counted
-readLine sh today c s = counted (readAs sh today c (kind_of s) s)
+unfoldable pub read_line : Sheet → ℕ → Context → List ℕ → Counted
+read_line sh today c s = counted (read_as sh today c (kind_of s) s)
 
 -- the line says the entry, with w warnings
 abbrev pub Reads : Sheet → ℕ → List ℕ → Context → Entry → ℕ → Type 0
-Reads sh today s c e w = (p : Places) × (readLine sh today c s ≡ said e w p)
+Reads sh today s c e w = (p : Places) × (read_line sh today c s ≡ said e w p)
 
 -- ---- the lines of a batch
 
@@ -79,26 +79,26 @@ abbrev pub due : Context → Entry → Due
 due c e = record { context = c; entry = e }
 
 -- a group's items, and the line that closes it, in front of the lines r
-unfoldable pub itemDues : Context → List Item → List Due → List Due
-itemDues c [] r = due c closeGroup ∷ r
-itemDues c (x ∷ xs) r = due c (item x) ∷ itemDues c xs r
+unfoldable pub item_dues : Context → List Item → List Due → List Due
+item_dues c [] r = due c close_group ∷ r
+item_dues c (x ∷ xs) r = due c (item x) ∷ item_dues c xs r
 
 -- the groups of an account file of that kind, each with the exact sum of its items as its total, and the line that closes it
-unfoldable pub groupDues : ℕ → List Group → List Due → List Due
-groupDues kind [] r = due (forGroup kind) closeFile ∷ r
-groupDues kind (g ∷ gs) r =
-    due (forGroup kind) (group g.payer (sum g.items) g.date)
-    ∷ itemDues (forItem kind g.date (isNobody g.payer)) g.items (groupDues kind gs r)
+unfoldable pub group_dues : ℕ → List Group → List Due → List Due
+group_dues kind [] r = due (for_group kind) close_file ∷ r
+group_dues kind (g ∷ gs) r =
+    due (for_group kind) (group g.payer (sum g.items) g.date)
+    ∷ item_dues (for_item kind g.date (is_nobody g.payer)) g.items (group_dues kind gs r)
 
 -- account files; `seen` are the first three digits of earlier numbers
-unfoldable pub fileDues : Header → List ℕ → List AccountFile → List Due
-fileDues h seen [] = []
-fileDues h seen (f ∷ fs) =
-    due (forFile h seen) (file f.kind f.number) ∷ groupDues f.kind f.groups (fileDues h (series f.number ∷ seen) fs)
+unfoldable pub file_dues : Header → List ℕ → List AccountFile → List Due
+file_dues h seen [] = []
+file_dues h seen (f ∷ fs) =
+    due (for_file h seen) (file f.kind f.number) ∷ group_dues f.kind f.groups (file_dues h (series f.number ∷ seen) fs)
 
 -- the first line, then the account files
 unfoldable pub dues : Header → Batch → List Due
-dues h b = due forHead (head h) ∷ fileDues h [] b
+dues h b = due for_head (head h) ∷ file_dues h [] b
 
 -- ---- the lines say the entries
 
@@ -113,8 +113,8 @@ SaysEntry sh today s c (group payer exact date) w =
 SaysEntry sh today s c (head h) w = Reads sh today s c (head h) w
 SaysEntry sh today s c (file k n) w = Reads sh today s c (file k n) w
 SaysEntry sh today s c (item x) w = Reads sh today s c (item x) w
-SaysEntry sh today s c closeGroup w = Reads sh today s c closeGroup w
-SaysEntry sh today s c closeFile w = Reads sh today s c closeFile w
+SaysEntry sh today s c close_group w = Reads sh today s c close_group w
+SaysEntry sh today s c close_file w = Reads sh today s c close_file w
 
 -- the line says the entry that is due
 abbrev pub Says : Sheet → ℕ → List ℕ → Due → ℕ → Type 0
@@ -130,14 +130,14 @@ Each sh today (t ∷ ts) (d ∷ ds) w = (v : ℕ) × (u : ℕ) × Says sh today 
 -- ---- the rules over several lines
 
 -- how many items groups have
-unfoldable pub groupItems : List Group → ℕ
-groupItems [] = 0
-groupItems (g ∷ gs) = length g.items + groupItems gs
+unfoldable pub group_items : List Group → ℕ
+group_items [] = 0
+group_items (g ∷ gs) = length g.items + group_items gs
 
 -- how many items account files have
-unfoldable pub fileItems : List AccountFile → ℕ
-fileItems [] = 0
-fileItems (f ∷ fs) = groupItems f.groups + fileItems fs
+unfoldable pub file_items : List AccountFile → ℕ
+file_items [] = 0
+file_items (f ∷ fs) = group_items f.groups + file_items fs
 
 -- a group has an item or more, and its sum has at most 14 digits
 abbrev pub GroupRules : List Group → Type 0
@@ -147,11 +147,11 @@ GroupRules (g ∷ gs) = (1 ≤ length g.items) × (sum g.items ≤ most14) × Gr
 -- an account file has a group or more, and at most 99,999 items
 abbrev pub FileRules : List AccountFile → Type 0
 FileRules [] = Unit {0}
-FileRules (f ∷ fs) = (1 ≤ length f.groups) × (groupItems f.groups ≤ 99999) × GroupRules f.groups × FileRules fs
+FileRules (f ∷ fs) = (1 ≤ length f.groups) × (group_items f.groups ≤ 99999) × GroupRules f.groups × FileRules fs
 
 -- there are 1 to 1,000 account files, and on S at most 1,000 items
 abbrev pub Rules : Sheet → Batch → Type 0
-Rules sh b = (1 ≤ length b) × (length b ≤ 1000) × (fileItems b ≤ sh.fileitems) × FileRules b
+Rules sh b = (1 ≤ length b) × (length b ≤ 1000) × (file_items b ≤ sh.fileitems) × FileRules b
 
 -- ---- a file spells a batch with a header, with w warnings
 pub record Spells (sh : Sheet) (today : ℕ) (f : List ℕ) (h : Header) (b : Batch) (w : ℕ) : Type 0 where

@@ -5,8 +5,8 @@ use Rattle.base.specs.Pick.{pick}
 use Rattle.base.specs.Seek.{all, starts, seek, before}
 use Rattle.sheet.specs.declared.Style.{Style}
 use Rattle.paper.specs.Read.{Field, value, fault}
-use Rattle.paper.specs.Warnings.{Warning, longPart, longName, Notice, notice}
-use Rattle.paper.specs.Bytes.{isText, isClean, bar, av, np, mark, null}
+use Rattle.paper.specs.Warnings.{Warning, long_part, long_name, Notice, notice}
+use Rattle.paper.specs.Bytes.{is_text, is_clean, bar, av, np, mark, null}
 
 -- What the style of a sheet asks of a text:
 --   flag     K    S    C    E    P    what it asks
@@ -58,11 +58,11 @@ over w p = pick (ltb 35 (length p.bytes)) (notice w p.place ∷ []) []
 -- .. for each of several parts
 unfoldable pub overs : List Piece → List Notice
 overs [] = []
-overs (p ∷ ps) = over longPart p ++ overs ps
+overs (p ∷ ps) = over long_part p ++ overs ps
 
 -- .. for all parts and a name
 abbrev pub cuts : List Piece → Piece → List Notice
-cuts ps n = overs ps ++ over longName n
+cuts ps n = overs ps ++ over long_name n
 
 -- n parts, the missing ones empty
 unfoldable pub pad : ℕ → List Piece → List Piece
@@ -78,12 +78,12 @@ opens (x ∷ t) = not (eqb x 32)
 module _ (y : Style) where
   -- the sheet takes the bytes of a part
   unfoldable pub taken : List ℕ → Bool
-  taken p = pick y.clean (all isClean p) true
+  taken p = pick y.clean (all is_clean p) true
 
   -- .. of each of several parts
-  unfoldable pub partsTaken : List Piece → Bool
-  partsTaken [] = true
-  partsTaken (p ∷ ps) = pick (taken p.bytes) (partsTaken ps) false
+  unfoldable pub parts_taken : List Piece → Bool
+  parts_taken [] = true
+  parts_taken (p ∷ ps) = pick (taken p.bytes) (parts_taken ps) false
 
   -- Parts and name as found: 14 for more parts than the sheet takes, and for one too long where it is not cut.
   unfoldable pub fitted : List Piece → Piece → Field Noted
@@ -95,15 +95,15 @@ module _ (y : Style) where
 
   -- .. and 14 for a part with a byte that the sheet does not take
   unfoldable pub finish : List Piece → Piece → Field Noted
-  finish ps n = pick (partsTaken ps) (fitted ps n) (fault 14)
+  finish ps n = pick (parts_taken ps) (fitted ps n) (fault 14)
 
   -- where the message ends: before its first ` NP:`, where names are
-  unfoldable pub messageEnd : List ℕ → ℕ
-  messageEnd m = pick y.names (seek mark m) (length m)
+  unfoldable pub message_end : List ℕ → ℕ
+  message_end m = pick y.names (seek mark m) (length m)
 
   -- a message without its `AV:`, and the name behind its ` NP:`
   unfoldable pub message : ℕ → List ℕ → Field Noted
-  message at m = finish (divide at (take (messageEnd m) m)) (piece (at + (messageEnd m + 4)) (drop (messageEnd m + 4) m))
+  message at m = finish (divide at (take (message_end m) m)) (piece (at + (message_end m + 4)) (drop (message_end m + 4) m))
 
   -- C: a name alone begins after `NP:` at the text's start. A message begins after `AV:`, which on C may be missing; 14 elsewhere.
   unfoldable pub marked : ℕ → List ℕ → Field Noted
@@ -113,9 +113,9 @@ module _ (y : Style) where
       (pick y.may (message at t) (fault 14)))
 
   -- A text that begins at `at` of its line. First 4: a byte that is no text byte; off S a text that is empty or begins with a space.
-  unfoldable pub readText : ℕ → List ℕ → Field Noted
-  readText at t =
-      pick (all isText t)
+  unfoldable pub read_text : ℕ → List ℕ → Field Noted
+  read_text at t =
+      pick (all is_text t)
       (pick y.av (pick (opens t) (marked at t) (fault 4)) (message at t))
       (fault 4)
 
@@ -126,34 +126,34 @@ unfoldable pub lacks : List ℕ → List ℕ → Bool
 lacks ps s = eqb (seek ps s) (length s)
 
 -- "The batch": a name has 0 to 35 text bytes
-unfoldable pub nameProper : List ℕ → Bool
-nameProper n = pick (ltb 35 (length n)) false (all isText n)
+unfoldable pub name_proper : List ℕ → Bool
+name_proper n = pick (ltb 35 (length n)) false (all is_text n)
 
 -- "The batch": so has a part, and it holds no `|`
-unfoldable pub partProper : List ℕ → Bool
-partProper p = pick (nameProper p) (lacks bar p) false
+unfoldable pub part_proper : List ℕ → Bool
+part_proper p = pick (name_proper p) (lacks bar p) false
 
 -- no ` NP:` where names are, for it would come back as a name, and no byte that the sheet does not take
-unfoldable pub wordsCarried : Style → List ℕ → Bool
-wordsCarried y p = pick (pick y.names (lacks mark p) true) (taken y p) false
+unfoldable pub words_carried : Style → List ℕ → Bool
+words_carried y p = pick (pick y.names (lacks mark p) true) (taken y p) false
 
 -- part i, from 0 on: empty where the sheet takes fewer parts
-unfoldable pub partCarried : Style → ℕ → List ℕ → Bool
-partCarried y i p = pick (pick (ltb i y.most) true (null p)) (wordsCarried y p) false
+unfoldable pub part_carried : Style → ℕ → List ℕ → Bool
+part_carried y i p = pick (pick (ltb i y.most) true (null p)) (words_carried y p) false
 
 -- a name only where names are
-unfoldable pub nameCarried : Style → List ℕ → Bool
-nameCarried y n = pick y.names true (null n)
+unfoldable pub name_carried : Style → List ℕ → Bool
+name_carried y n = pick y.names true (null n)
 
 -- all parts are as "The batch" says
-unfoldable pub partsProper : List (List ℕ) → Bool
-partsProper [] = true
-partsProper (p ∷ ps) = pick (partProper p) (partsProper ps) false
+unfoldable pub parts_proper : List (List ℕ) → Bool
+parts_proper [] = true
+parts_proper (p ∷ ps) = pick (part_proper p) (parts_proper ps) false
 
 -- all parts are carried, the first being part i
-unfoldable pub partsCarried : Style → ℕ → List (List ℕ) → Bool
-partsCarried y i [] = true
-partsCarried y i (p ∷ ps) = pick (partCarried y i p) (partsCarried y (suc i) ps) false
+unfoldable pub parts_carried : Style → ℕ → List (List ℕ) → Bool
+parts_carried y i [] = true
+parts_carried y i (p ∷ ps) = pick (part_carried y i p) (parts_carried y (suc i) ps) false
 
 -- ---- canonical spelling
 
@@ -169,29 +169,29 @@ trim [] = []
 trim (p ∷ ps) = keep p (trim ps)
 
 -- a part, and each further one behind a `|`
-unfoldable pub joinOn : List ℕ → List (List ℕ) → List ℕ
-joinOn p [] = p
-joinOn p (q ∷ qs) = p ++ (124 ∷ joinOn q qs)
+unfoldable pub join_on : List ℕ → List (List ℕ) → List ℕ
+join_on p [] = p
+join_on p (q ∷ qs) = p ++ (124 ∷ join_on q qs)
 
 -- all parts, or nothing where there are none
 unfoldable pub joined : List (List ℕ) → List ℕ
 joined [] = []
-joined (p ∷ ps) = joinOn p ps
+joined (p ∷ ps) = join_on p ps
 
 -- ` NP:` and a name that is not empty
-unfoldable pub spellName : List ℕ → List ℕ
-spellName [] = []
-spellName (x ∷ n) = mark ++ (x ∷ n)
+unfoldable pub spell_name : List ℕ → List ℕ
+spell_name [] = []
+spell_name (x ∷ n) = mark ++ (x ∷ n)
 
 -- `AV:` and the parts, then the name; or `NP:` and the name alone where all parts are empty
-unfoldable pub spellMarked : List (List ℕ) → List ℕ → List ℕ
-spellMarked [] n = np ++ n
-spellMarked (p ∷ ps) n = av ++ (joinOn p ps ++ spellName n)
+unfoldable pub spell_marked : List (List ℕ) → List ℕ → List ℕ
+spell_marked [] n = np ++ n
+spell_marked (p ∷ ps) n = av ++ (join_on p ps ++ spell_name n)
 
 -- S has its part as it stands
-unfoldable pub spellText : Style → List (List ℕ) → List ℕ → List ℕ
-spellText y parts n = pick y.av (spellMarked (trim parts) n) (joined (trim parts))
+unfoldable pub spell_text : Style → List (List ℕ) → List ℕ → List ℕ
+spell_text y parts n = pick y.av (spell_marked (trim parts) n) (joined (trim parts))
 
 -- all parts and the name are empty: then K, C, E and P have no text
-unfoldable pub noText : List (List ℕ) → List ℕ → Bool
-noText parts n = pick (null (trim parts)) (null n) false
+unfoldable pub no_text : List (List ℕ) → List ℕ → Bool
+no_text parts n = pick (null (trim parts)) (null n) false

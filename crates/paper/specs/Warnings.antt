@@ -4,7 +4,7 @@ use Rattle.std.specs.Prelude.{ℕ, zero, suc, List, [], ◌∷◌}
 -- a due day that is past; K's priority digit 1 or 2; a part, or a name, that is cut. (A total that differs shows only where its group
 -- closes, so it is none of a line's: Judge counts it.)
 pub data Warning : Type 0 where
-  pastDay lowPriority longPart longName : Warning
+  past_day low_priority long_part long_name : Warning
 
 -- a warning, and where in the line the field, the part or the name begins that it is of
 pub record Notice : Type 0 where

@@ -32,22 +32,22 @@ blanks zero = []
 blanks (suc n) = 0 ∷ blanks n
 
 -- words as bytes
-unfoldable pub wordsBytes : List ℕ → List ℕ
-wordsBytes [] = []
-wordsBytes (w ∷ ws) = word_bytes 8 w ++ wordsBytes ws
+unfoldable pub words_bytes : List ℕ → List ℕ
+words_bytes [] = []
+words_bytes (w ∷ ws) = word_bytes 8 w ++ words_bytes ws
 
 -- ---- rows, one behind the other
 
 -- n rows of w words from the first byte on; bytes that are left over make a row without words, whose kind is none
-unfoldable pub rowsOn : ℕ → ℕ → List ℕ → List (List ℕ)
-rowsOn w zero s = pick (null s) [] ([] ∷ [])
-rowsOn w (suc n) s = words w s ∷ rowsOn w n (drop (8 * w) s)
+unfoldable pub rows_on : ℕ → ℕ → List ℕ → List (List ℕ)
+rows_on w zero s = pick (null s) [] ([] ∷ [])
+rows_on w (suc n) s = words w s ∷ rows_on w n (drop (8 * w) s)
 
 -- all rows of w words of the lent bytes
 unfoldable pub rows_of : ℕ → List ℕ → List (List ℕ)
-rows_of w s = rowsOn w (length s / (8 * w)) s
+rows_of w s = rows_on w (length s / (8 * w)) s
 
 -- rows as bytes
-unfoldable pub rowsBytes : List (List ℕ) → List ℕ
-rowsBytes [] = []
-rowsBytes (r ∷ rs) = wordsBytes r ++ rowsBytes rs
+unfoldable pub rows_bytes : List (List ℕ) → List ℕ
+rows_bytes [] = []
+rows_bytes (r ∷ rs) = words_bytes r ++ rows_bytes rs

@@ -7,11 +7,11 @@ use Rattle.read.specs.declared.AboAnswer.{AboAnswer}
 use Rattle.read.specs.Told.{told}
 
 -- the header and the answer that tell this
-abbrev headerFor : Header → AboHeader
-headerFor h = record { date = h.date; client = h.client; from = h.from; to = h.to; name = h.name }
+abbrev header_for : Header → AboHeader
+header_for h = record { date = h.date; client = h.client; from = h.from; to = h.to; name = h.name }
 
-abbrev answerFor : ReadAnswer → AboAnswer
-answerFor r =
+abbrev answer_for : ReadAnswer → AboAnswer
+answer_for r =
     record {
       number = r.number;
       line = r.line;
@@ -19,9 +19,9 @@ answerFor r =
       rows = r.rows;
       warnings = r.warnings;
       needed = r.needed;
-      header = headerFor r.header;
+      header = header_for r.header;
     }
 
 -- two answers that tell the same are the same
 pub told-one : (a b : AboAnswer) → told a ≡ told b → a ≡ b
-told-one a b e = ap answerFor e
+told-one a b e = ap answer_for e

@@ -5,8 +5,8 @@ use Rattle.read.specs.declared.AboHeader.{AboHeader}
 use Rattle.read.specs.declared.AboAnswer.{AboAnswer}
 
 -- "The batch": creation date, name, client number, interval start and end
-abbrev pub toldHeader : AboHeader → Header
-toldHeader h = record { date = h.date; name = h.name; client = h.client; from = h.from; to = h.to }
+abbrev pub told_header : AboHeader → Header
+told_header h = record { date = h.date; name = h.name; client = h.client; from = h.from; to = h.to }
 
 -- the number returned, its line and byte, the counts of rows and warnings, the rows needed, and the header
 abbrev pub told : AboAnswer → ReadAnswer
@@ -18,5 +18,5 @@ told a =
       rows = a.rows;
       warnings = a.warnings;
       needed = a.needed;
-      header = toldHeader a.header;
+      header = told_header a.header;
     }

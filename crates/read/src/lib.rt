@@ -4,13 +4,13 @@ ghost use Rattle.std.specs.Prelude.{◌≡◌, true, ◌/◌, ◌≤◌, length,
 ghost use Rattle.base.specs.Pick.{pick};
 ghost use Rattle.sheet.specs.declared.Known.TheVariants as known;
 ghost use Rattle.sheet.proofs.Laws.{Sane};
-ghost use Rattle.paper.specs.Days.{realDay};
+ghost use Rattle.paper.specs.Days.{real_day};
 ghost use Rattle.paper.specs.Batch.{spaces20};
-ghost use Rattle.paper.specs.Rows.{rowSize};
-ghost use Rattle.paper.specs.Reading.{refusedAt, needs, readWith, rowsWith, readAnswer, rowsAfter};
+ghost use Rattle.paper.specs.Rows.{row_size};
+ghost use Rattle.paper.specs.Reading.{refused_at, needs, read_with, rows_with, read_answer, rows_after};
 ghost use Rattle.tally.specs.Short.{Yes, tally};
 ghost use Rattle.judge.specs.file.Answer.{head_of, Sound};
-ghost use Rattle.read.specs.Told.{toldHeader, told};
+ghost use Rattle.read.specs.Told.{told_header, told};
 
 use judge::file::{FileJudged, Head};
 use sheet::{Known, Sheet};
@@ -41,7 +41,7 @@ pub struct AboAnswer {
 
 // A refusal. Numbers that are not named are 0, and a header that is not read is C's.
 pub fn refusal(number: u64, line: u64, byte: u64) -> AboAnswer
-    ensures { told result ≡ refusedAt number line byte }
+    ensures { told result ≡ refused_at number line byte }
 {
     AboAnswer {
         number,
@@ -109,7 +109,7 @@ fn name_or_spaces(file: &[u8], named: bool) -> [u8; 20]
 // The header as it was read.
 fn header_of(file: &[u8], head: Head) -> AboHeader
     requires { head.named ≡ true → 30 ≤ length file.now }
-    ensures { toldHeader result ≡ head_of file.now head }
+    ensures { told_header result ≡ head_of file.now head }
 {
     AboHeader {
         date: head.date,
@@ -130,11 +130,11 @@ pub fn accept(
     warnings: u64,
     rows: &mut [u8],
 ) -> AboAnswer
-    requires sane { Sane sh × (realDay today ≡ true) }
+    requires sane { Sane sh × (real_day today ≡ true) }
     requires file_value { tally sh today file.now ≡ Yes (head_of file.now head) count warnings }
     requires sound { Sound file.now head count warnings }
-    ensures result_value { told result ≡ readWith (known.Sheet sh) today file.now (length rows.old / rowSize) }
-    ensures rows_after { rows.new ≡ rowsWith (known.Sheet sh) today file.now rows.old }
+    ensures result_value { told result ≡ read_with (known.Sheet sh) today file.now (length rows.old / row_size) }
+    ensures rows_after { rows.new ≡ rows_with (known.Sheet sh) today file.now rows.old }
 {
     let room = rows.len() / 192;
     if (room as u64) < count {
@@ -155,8 +155,8 @@ pub fn accept(
 // The answer on the sheet sh: 2, or what the file is judged to be.
 pub fn read_on(file: &[u8], sh: Sheet, today: u64, rows: &mut [u8]) -> AboAnswer
     requires { Sane sh }
-    ensures result_value { told result ≡ readWith (known.Sheet sh) today file.now (length rows.old / rowSize) }
-    ensures rows_after { rows.new ≡ rowsWith (known.Sheet sh) today file.now rows.old }
+    ensures result_value { told result ≡ read_with (known.Sheet sh) today file.now (length rows.old / row_size) }
+    ensures rows_after { rows.new ≡ rows_with (known.Sheet sh) today file.now rows.old }
 {
     if calendar::real_day(today) {
         match judge::file::judge_file(file, sh, today) {
@@ -174,8 +174,8 @@ pub fn read_on(file: &[u8], sh: Sheet, today: u64, rows: &mut [u8]) -> AboAnswer
 
 // The whole answer of reading a file on the sheet of that number, and the rows, which a refusal leaves as they were.
 pub fn read_file(file: &[u8], sheet: u64, today: u64, rows: &mut [u8]) -> AboAnswer
-    ensures result_value { told result ≡ readAnswer sheet today file.now rows.old }
-    ensures rows_after { rows.new ≡ rowsAfter sheet today file.now rows.old }
+    ensures result_value { told result ≡ read_answer sheet today file.now rows.old }
+    ensures rows_after { rows.new ≡ rows_after sheet today file.now rows.old }
 {
     match sheet::sheet_of(sheet) {
         Known::Sheet(sh) => read_on(file, sh, today, rows),

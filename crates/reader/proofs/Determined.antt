@@ -39,9 +39,9 @@ module _ (f : List ℕ) (at : ℕ) where
 -- ---- the line of a number
 
 -- the answer that tells this
-abbrev answerFor : LineAnswer → AboLine
-answerFor r = record { found = r.found; at = r.at; len = r.len }
+abbrev answer_for : LineAnswer → AboLine
+answer_for r = record { found = r.found; at = r.at; len = r.len }
 
 -- two answers that tell the same are the same
 pub told-one : (a b : AboLine) → told a ≡ told b → a ≡ b
-told-one a b e = ap answerFor e
+told-one a b e = ap answer_for e

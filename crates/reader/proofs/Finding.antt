@@ -8,10 +8,10 @@ use lib.ListN.{length}
 use Rattle.scan.specs.declared.line.Cut.{Cut}
 use Rattle.scan.specs.line.Cutting.{Cuts}
 use Rattle.scan.proofs.line.Lines.{at-end}
-use Rattle.reader.specs.Finding.{Finds, nothingAt}
+use Rattle.reader.specs.Finding.{Finds, nothing_at}
 
 pub finds-line : (f : List ℕ) (at : ℕ) (r : Cut) → Cuts f at r → Finds f at (record { line = true; start = at; len = r.stop - at; next = r.next })
 finds-line f at r c = let e : at + (r.stop - at) ≡ r.stop = let from = c.from in omega arith in (refl, rw e c)
 
-pub finds-none : (f : List ℕ) (at : ℕ) → length f ≤ at → Finds f at (nothingAt at)
+pub finds-none : (f : List ℕ) (at : ℕ) → length f ≤ at → Finds f at (nothing_at at)
 finds-none f at h = (refl, at-end f at h)

@@ -7,15 +7,15 @@ use Rattle.scan.specs.declared.line.Cut.{Cut}
 use Rattle.scan.specs.line.Cutting.{Cuts}
 use Rattle.reader.specs.declared.Found.{Found}
 use Rattle.reader.specs.declared.LineReader.{LineReader}
-use Rattle.reader.specs.Named.{LineAnswer, noLine}
+use Rattle.reader.specs.Named.{LineAnswer, no_line}
 
 -- a reader of these two
-abbrev pub readerAt : Bor (List ℕ) → ℕ → LineReader
-readerAt file at = record { file = file; at = at }
+abbrev pub reader_at : Bor (List ℕ) → ℕ → LineReader
+reader_at file at = record { file = file; at = at }
 
 -- nothing: an empty place
-abbrev pub nothingAt : ℕ → Found
-nothingAt at = record { line = false; start = at; len = 0; next = at }
+abbrev pub nothing_at : ℕ → Found
+nothing_at at = record { line = false; start = at; len = 0; next = at }
 
 -- a line and where the next one starts
 abbrev pub cut_of : Found → Cut
@@ -24,7 +24,7 @@ cut_of r = record { stop = r.start + r.len; next = r.next }
 -- by whether a line was found: it is the one cut off the file f at the place `at`; or no line is left there
 abbrev pub Says : Bool → List ℕ → ℕ → Found → Type 0
 Says true f at r = (r.start ≡ at) × Cuts f at (cut_of r)
-Says false f at r = (r ≡ nothingAt at) × (lines_from f at ≡ [])
+Says false f at r = (r ≡ nothing_at at) × (lines_from f at ≡ [])
 
 -- r is what stands at the place `at` of the file f
 abbrev pub Finds : List ℕ → ℕ → Found → Type 0
@@ -33,9 +33,9 @@ Finds f at r = Says r.line f at r
 -- ---- what has been found has number k
 
 -- do lines follow up to the number asked for?
-unfoldable pub goesOn : Found → ℕ → ℕ → Bool
-goesOn r k number = pick r.line (ltb k number) false
+unfoldable pub goes_on : Found → ℕ → ℕ → Bool
+goes_on r k number = pick r.line (ltb k number) false
 
 -- it is the answer if it has the number asked for
-unfoldable pub answerAt : Found → ℕ → ℕ → LineAnswer
-answerAt r k number = pick (eqb k number) (record { found = 1; at = r.start; len = r.len }) noLine
+unfoldable pub answer_at : Found → ℕ → ℕ → LineAnswer
+answer_at r k number = pick (eqb k number) (record { found = 1; at = r.start; len = r.len }) no_line

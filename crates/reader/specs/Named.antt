@@ -12,8 +12,8 @@ pub record LineAnswer : Type 0 where
   pub len : ℕ
 
 -- no line has that number
-abbrev pub noLine : LineAnswer
-noLine = record { found = 0; at = 0; len = 0 }
+abbrev pub no_line : LineAnswer
+no_line = record { found = 0; at = 0; len = 0 }
 
 -- this line has it
 abbrev pub is_line : Line → LineAnswer
@@ -21,20 +21,20 @@ is_line t = record { found = 1; at = t.start; len = length t.bytes }
 
 -- the line number n of ts, which count from 1
 unfoldable pub nth : ℕ → List Line → LineAnswer
-nth n [] = noLine
+nth n [] = no_line
 nth n (t ∷ ts) = pick (eqb n 1) (is_line t) (nth (n - 1) ts)
 
 -- the end of a file f, as an empty line
-abbrev pub endLine : List ℕ → Line
-endLine f = line (length f) []
+abbrev pub end_line : List ℕ → Line
+end_line f = line (length f) []
 
 -- the lines of a file, and its end behind them
 unfoldable pub places : List ℕ → List Line
-places f = lines_of 0 f ++ (endLine f ∷ [])
+places f = lines_of 0 f ++ (end_line f ∷ [])
 
 -- the line of a number
-unfoldable pub lineAnswer : ℕ → List ℕ → LineAnswer
-lineAnswer n f = nth n (places f)
+unfoldable pub line_answer : ℕ → List ℕ → LineAnswer
+line_answer n f = nth n (places f)
 
 -- of the answer that a caller is given
 abbrev pub told : AboLine → LineAnswer

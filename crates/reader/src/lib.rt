@@ -4,8 +4,8 @@
 pub mod shown;
 
 ghost use Rattle.std.specs.Prelude.{◌≡◌};
-ghost use Rattle.reader.specs.Finding.{Finds, readerAt, goesOn, answerAt};
-ghost use Rattle.reader.specs.Named.{told, lineAnswer};
+ghost use Rattle.reader.specs.Finding.{Finds, reader_at, goes_on, answer_at};
+ghost use Rattle.reader.specs.Named.{told, line_answer};
 
 #[derive(Drop)]
 pub struct LineReader<'a> {
@@ -64,14 +64,14 @@ pub fn line_at(file: &[u8], at: usize) -> Found
 impl<'a> LineReader<'a> {
     // A reader at the file's first line.
     pub fn new(file: &'a [u8]) -> LineReader<'a>
-        ensures { result ≡ readerAt file.entry 0 }
+        ensures { result ≡ reader_at file.entry 0 }
     {
         LineReader { file, at: 0 }
     }
 
     // The line where the reader stands, or that the file has ended; and the reader moved on.
     pub fn next_line(self) -> Step<'a>
-        ensures { Finds self.entry.file.now self.entry.at result.found × (result.reader ≡ readerAt self.entry.file result.found.next) }
+        ensures { Finds self.entry.file.now self.entry.at result.found × (result.reader ≡ reader_at self.entry.file result.found.next) }
     {
         let found = line_at(self.file, self.at);
         Step {
@@ -86,14 +86,14 @@ impl<'a> LineReader<'a> {
 
 // Is there a line here, number k, and one of a higher number asked for?
 fn passes(found: Found, k: u64, number: u64) -> bool
-    ensures { result ≡ goesOn found k number }
+    ensures { result ≡ goes_on found k number }
 {
     if found.line { k < number } else { false }
 }
 
 // What stands here is the answer if its number, k, is the one asked for.
 fn named(found: Found, k: u64, number: u64) -> AboLine
-    ensures { told result ≡ answerAt found k number }
+    ensures { told result ≡ answer_at found k number }
 {
     if k == number {
         return AboLine {
@@ -111,7 +111,7 @@ fn named(found: Found, k: u64, number: u64) -> AboLine
 
 // The line of a number. Lines count from 1; behind the last one stands the file's end, where a refusal may point, as an empty line.
 pub fn line_of(file: &[u8], number: u64) -> AboLine
-    ensures { told result ≡ lineAnswer number file.now }
+    ensures { told result ≡ line_answer number file.now }
 {
     let mut step = LineReader::new(file).next_line();
     let mut k: u64 = 1;

@@ -6,7 +6,7 @@ use Rattle.paper.specs.Entries.{Said, got, no}
 use Rattle.turnover.specs.signed.Told.{said as number}
 use Rattle.gpc.specs.Parts.{slice}
 use Rattle.gpc.specs.Turnovers.{most12}
-use Rattle.gpc.specs.Records.{Head, Movement, Record, headIs, movementIs, noRecord}
+use Rattle.gpc.specs.Records.{Head, Movement, Record, head_is, movement_is, no_record}
 use Rattle.record.specs.declared.HeadFields.{HeadFields}
 use Rattle.record.specs.declared.MovementFields.{MovementFields}
 use Rattle.record.specs.declared.Entry.{Entry}
@@ -21,19 +21,19 @@ pub record Kept : Type 0 where
   pub head : List ℕ
   pub head_end : List ℕ
   pub movement : List ℕ
-  pub movementEnd : List ℕ
+  pub movement_end : List ℕ
 
 -- in a record
-abbrev pub inFile : List ℕ → Kept
-inFile s = record { head = slice 19 26 s; head_end = slice 105 23 s; movement = slice 35 13 s; movementEnd = slice 71 57 s }
+abbrev pub in_file : List ℕ → Kept
+in_file s = record { head = slice 19 26 s; head_end = slice 105 23 s; movement = slice 35 13 s; movement_end = slice 71 57 s }
 
 -- in a row
 abbrev pub in_row : List ℕ → Kept
-in_row r = record { head = slice 64 26 r; head_end = slice 90 23 r; movement = slice 64 13 r; movementEnd = slice 77 57 r }
+in_row r = record { head = slice 64 26 r; head_end = slice 90 23 r; movement = slice 64 13 r; movement_end = slice 77 57 r }
 
 -- a head with these kept bytes before and behind what is read
-abbrev pub headWith : List ℕ → List ℕ → HeadFields → Head
-headWith before behind x =
+abbrev pub head_with : List ℕ → List ℕ → HeadFields → Head
+head_with before behind x =
     record {
       account = account x.prefix x.base;
       before = before;
@@ -45,8 +45,8 @@ headWith before behind x =
     }
 
 -- a movement
-abbrev pub movementWith : List ℕ → List ℕ → MovementFields → Movement
-movementWith before behind x =
+abbrev pub movement_with : List ℕ → List ℕ → MovementFields → Movement
+movement_with before behind x =
     record {
       account = account x.prefix x.base;
       other = account x.otherprefix x.otherbase;
@@ -59,28 +59,28 @@ movementWith before behind x =
 
 -- .. where they are kept
 abbrev pub head_of : Kept → HeadFields → Head
-head_of k x = headWith k.head k.head_end x
+head_of k x = head_with k.head k.head_end x
 
-abbrev pub movementOf : Kept → MovementFields → Movement
-movementOf k x = movementWith k.movement k.movementEnd x
+abbrev pub movement_of : Kept → MovementFields → Movement
+movement_of k x = movement_with k.movement k.movement_end x
 
 -- a head that was read, or where it was refused
-abbrev pub toldHead : Kept → HeadRead → Said Head
-toldHead k (head.Head x) = got (head_of k x)
-toldHead k (head.Refused at) = no 51 at
+abbrev pub told_head : Kept → HeadRead → Said Head
+told_head k (head.Head x) = got (head_of k x)
+told_head k (head.Refused at) = no 51 at
 
 -- a movement
-abbrev pub toldMovement : Kept → MovementRead → Said Movement
-toldMovement k (movement.Movement x) = got (movementOf k x)
-toldMovement k (movement.Refused at) = no 51 at
+abbrev pub told_movement : Kept → MovementRead → Said Movement
+told_movement k (movement.Movement x) = got (movement_of k x)
+told_movement k (movement.Refused at) = no 51 at
 
 -- a record
 abbrev pub told : Kept → Entry → Record
-told k (entry.Head x) = headIs (got (head_of k x))
-told k (entry.HeadRefused at) = headIs (no 51 at)
-told k (entry.Movement x) = movementIs (got (movementOf k x))
-told k (entry.MovementRefused at) = movementIs (no 51 at)
-told k entry.Nothing = noRecord
+told k (entry.Head x) = head_is (got (head_of k x))
+told k (entry.HeadRefused at) = head_is (no 51 at)
+told k (entry.Movement x) = movement_is (got (movement_of k x))
+told k (entry.MovementRefused at) = movement_is (no 51 at)
+told k entry.Nothing = no_record
 
 -- numbers are no larger than their digits say
 abbrev pub SmallHead : HeadFields → Type 0

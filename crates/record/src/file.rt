@@ -4,15 +4,15 @@ ghost use Rattle.base.specs.Put.{Wrote};
 ghost use Rattle.paper.specs.Numerals.{digits, fixed};
 ghost use Rattle.paper.specs.Accounts.{account};
 ghost use Rattle.paper.specs.Entries.{got};
-ghost use Rattle.numeral.specs.Told.{told as toldNumber};
+ghost use Rattle.numeral.specs.Told.{told as told_number};
 ghost use Rattle.gpc.specs.Parts.{slice};
 ghost use Rattle.turnover.specs.signed.Told.{said};
-ghost use Rattle.gpc.specs.Internal.{spellInternal};
-ghost use Rattle.gpc.specs.Signed.{onSigned, spellSigned};
+ghost use Rattle.gpc.specs.Internal.{spell_internal};
+ghost use Rattle.gpc.specs.Signed.{on_signed, spell_signed};
 ghost use Rattle.gpc.specs.Turnovers.{is_code};
-ghost use Rattle.gpc.specs.Records.{read_code, read_head, readMovement, crlf, readRecord, spellHead, spellMovement};
-ghost use Rattle.record.specs.Told.{inFile, headWith, movementWith, toldHead, toldMovement, told, SmallHeadRead, SmallMovementRead, Small};
-ghost use Rattle.record.specs.file.Told.{toldSigned, SmallSigned, toldPair, SmallPair, pair_at, readAs};
+ghost use Rattle.gpc.specs.Records.{read_code, read_head, read_movement, crlf, read_record, spell_head, spell_movement};
+ghost use Rattle.record.specs.Told.{in_file, head_with, movement_with, told_head, told_movement, told, SmallHeadRead, SmallMovementRead, Small};
+ghost use Rattle.record.specs.file.Told.{told_signed, SmallSigned, told_pair, SmallPair, pair_at, read_as};
 
 use crate::{Entry, HeadFields, HeadRead, MovementFields, MovementRead};
 use internal::Found;
@@ -44,7 +44,7 @@ pub enum Kind {
 // The digits of a field of k bytes.
 fn digits_at(s: &[u8], at: usize, k: usize) -> Num
     requires { (at + k ≤ length s.now) × (k ≤ 19) }
-    ensures { toldNumber result ≡ digits k k (slice at k s.now) }
+    ensures { told_number result ≡ digits k k (slice at k s.now) }
 {
     let end = at + k;
     numeral::read_digits(&s[at..end], k, k)
@@ -53,7 +53,7 @@ fn digits_at(s: &[u8], at: usize, k: usize) -> Num
 // Fourteen digits at `at`, and the sign behind them, a minus or `plus`.
 fn read_signed(s: &[u8], at: usize, plus: u8) -> SignedRead
     requires { at + 15 ≤ length s.now }
-    ensures result_value { toldSigned result ≡ onSigned plus at s.now got }
+    ensures result_value { told_signed result ≡ on_signed plus at s.now got }
     ensures small_signed { SmallSigned result }
 {
     let Num::Value(size) = digits_at(s, at, 14) else {
@@ -72,7 +72,7 @@ fn read_signed(s: &[u8], at: usize, plus: u8) -> SignedRead
 // Two numbers with the same signs, the first at `at`.
 fn read_pair(s: &[u8], at: usize, plus: u8) -> PairRead
     requires { at + 30 ≤ length s.now }
-    ensures result_value { toldPair result ≡ pair_at plus at s.now }
+    ensures result_value { told_pair result ≡ pair_at plus at s.now }
     ensures small_pair { SmallPair result }
 {
     match read_signed(s, at, plus) {
@@ -87,7 +87,7 @@ fn read_pair(s: &[u8], at: usize, plus: u8) -> PairRead
 // The bytes of a head.
 fn read_head(s: &[u8]) -> HeadRead
     requires { 128 ≤ length s.now }
-    ensures result_value { toldHead (inFile s.now) result ≡ read_head s.now }
+    ensures result_value { told_head (in_file s.now) result ≡ read_head s.now }
     ensures small_head_read { SmallHeadRead result }
 {
     let Found::Account(prefix, base) = internal::read_internal(s, 3) else {
@@ -128,7 +128,7 @@ pub fn is_code(c: u64) -> bool
 // The posting code at `at`.
 fn read_code(s: &[u8], at: usize) -> Num
     requires { at + 1 ≤ length s.now }
-    ensures { toldNumber result ≡ read_code (slice at 1 s.now) }
+    ensures { told_number result ≡ read_code (slice at 1 s.now) }
 {
     let b = s[at];
     if b == 49 {
@@ -149,7 +149,7 @@ fn read_code(s: &[u8], at: usize) -> Num
 // The bytes of a movement.
 fn read_movement(s: &[u8]) -> MovementRead
     requires { 128 ≤ length s.now }
-    ensures result_value { toldMovement (inFile s.now) result ≡ readMovement s.now }
+    ensures result_value { told_movement (in_file s.now) result ≡ read_movement s.now }
     ensures small_movement_read { SmallMovementRead result }
 {
     let Found::Account(prefix, base) = internal::read_internal(s, 3) else {
@@ -181,7 +181,7 @@ fn read_movement(s: &[u8]) -> MovementRead
 // A record's type, if it is whole.
 fn kind_of(s: &[u8]) -> Kind
     requires { length s.now ≡ 130 }
-    ensures { readAs result s.now ≡ readRecord s.now }
+    ensures { read_as result s.now ≡ read_record s.now }
 {
     if s[128] != 13 {
         return Kind::Neither;
@@ -207,7 +207,7 @@ fn kind_of(s: &[u8]) -> Kind
 // The 130 bytes of a record.
 pub fn read_record(s: &[u8]) -> Entry
     requires { length s.now ≡ 130 }
-    ensures result_value { told (inFile s.now) result ≡ readRecord s.now }
+    ensures result_value { told (in_file s.now) result ≡ read_record s.now }
     ensures small { Small result }
 {
     match kind_of(s) {
@@ -228,7 +228,7 @@ pub fn read_record(s: &[u8]) -> Entry
 // Writes fourteen digits and the sign, a minus or `plus`.
 fn put_signed(out: &mut [u8], at: usize, x: Signed, plus: u8) -> usize
     requires { at + 15 ≤ length out.old }
-    ensures { Wrote out.old at (spellSigned plus (said x)) out.new result }
+    ensures { Wrote out.old at (spell_signed plus (said x)) out.new result }
 {
     let e = numeral::put_fixed(out, at, 14, x.size);
     if x.minus {
@@ -240,7 +240,7 @@ fn put_signed(out: &mut [u8], at: usize, x: Signed, plus: u8) -> usize
 // Writes two numbers with the same signs.
 fn put_pair(out: &mut [u8], at: usize, x: Signed, y: Signed, plus: u8) -> usize
     requires { at + 30 ≤ length out.old }
-    ensures { Wrote out.old at (spellSigned plus (said x) ++ spellSigned plus (said y)) out.new result }
+    ensures { Wrote out.old at (spell_signed plus (said x) ++ spell_signed plus (said y)) out.new result }
 {
     let e = put_signed(out, at, x, plus);
     put_signed(out, e, y, plus)
@@ -249,7 +249,7 @@ fn put_pair(out: &mut [u8], at: usize, x: Signed, y: Signed, plus: u8) -> usize
 // Writes the type, whose last digit is `last`, and the account.
 fn put_front(out: &mut [u8], at: usize, last: u8, prefix: u64, base: u64) -> usize
     requires { (at + 19 ≤ length out.old) × (prefix < 1000000) × (base < 10000000000) }
-    ensures { Wrote out.old at (48 ∷ 55 ∷ last ∷ spellInternal (account prefix base)) out.new result }
+    ensures { Wrote out.old at (48 ∷ 55 ∷ last ∷ spell_internal (account prefix base)) out.new result }
 {
     let e = out::put::put_bytes(out, at, b"07");
     let f = out::put::put_byte(out, e, last);
@@ -269,7 +269,7 @@ fn put_end(out: &mut [u8], at: usize, kept: &[u8]) -> usize
 pub fn put_head(out: &mut [u8], at: usize, x: HeadFields, before: &[u8], behind: &[u8]) -> usize
     requires at_in_bounds { (at + 130 ≤ length out.old) × (length before.now ≡ 26) × (length behind.now ≡ 23) }
     requires prefix_bound { (x.prefix < 1000000) × (x.base < 10000000000) }
-    ensures { Wrote out.old at (spellHead (headWith before.now behind.now x)) out.new result }
+    ensures { Wrote out.old at (spell_head (head_with before.now behind.now x)) out.new result }
 {
     let a = put_front(out, at, 52, x.prefix, x.base);
     let b = out::put::put_bytes(out, a, before);
@@ -298,7 +298,7 @@ pub fn put_movement(
 ) -> usize
     requires at_in_bounds { (at + 130 ≤ length out.old) × (length before.now ≡ 13) × (length behind.now ≡ 57) }
     requires prefix_bound { (x.prefix < 1000000) × (x.base < 10000000000) × (x.otherprefix < 1000000) × (x.otherbase < 10000000000) }
-    ensures { Wrote out.old at (spellMovement (movementWith before.now behind.now x)) out.new result }
+    ensures { Wrote out.old at (spell_movement (movement_with before.now behind.now x)) out.new result }
 {
     let a = put_front(out, at, 53, x.prefix, x.base);
     let b = internal::put_internal(out, a, x.otherprefix, x.otherbase);

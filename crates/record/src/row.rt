@@ -1,15 +1,15 @@
 // A record in a row: its words read and tested, and all of it put.
 ghost use Rattle.std.specs.Prelude.{◌≡◌, ◌+◌, ◌≤◌, length};
 ghost use Rattle.base.specs.Put.{Wrote};
-ghost use Rattle.gpc.specs.StatementRows.{headIn, movementIn, thingIn, headTested, movementTested, tested, headRow, movementRow};
-ghost use Rattle.record.specs.Told.{Kept, in_row, headWith, movementWith, head_of, movementOf, toldHead, toldMovement, told, SmallHeadRead, SmallMovementRead, Small, FitsHeadRead, FitsMovementRead, Fits};
+ghost use Rattle.gpc.specs.StatementRows.{head_in, movement_in, thing_in, head_tested, movement_tested, tested, head_row, movement_row};
+ghost use Rattle.record.specs.Told.{Kept, in_row, head_with, movement_with, head_of, movement_of, told_head, told_movement, told, SmallHeadRead, SmallMovementRead, Small, FitsHeadRead, FitsMovementRead, Fits};
 
 use crate::{Entry, HeadFields, HeadRead, MovementFields, MovementRead};
 use turnover::signed::Signed;
 
 // The numbers of a head: the first word that passes its digits is refused.
 fn head_tested(x: HeadFields) -> HeadRead
-    ensures result_value { (k : Kept) → toldHead k result ≡ headTested (head_of k x) }
+    ensures result_value { (k : Kept) → told_head k result ≡ head_tested (head_of k x) }
     ensures small_head_read { SmallHeadRead result }
     ensures fits_head_read { FitsHeadRead result }
 {
@@ -41,7 +41,7 @@ fn head_tested(x: HeadFields) -> HeadRead
 // The words of a head's row.
 fn read_head(r: &[u8]) -> HeadRead
     requires { 136 ≤ length r.now }
-    ensures result_value { toldHead (in_row r.now) result ≡ headTested (headIn r.now) }
+    ensures result_value { told_head (in_row r.now) result ≡ head_tested (head_in r.now) }
     ensures small_head_read { SmallHeadRead result }
     ensures fits_head_read { FitsHeadRead result }
 {
@@ -63,7 +63,7 @@ fn read_head(r: &[u8]) -> HeadRead
 
 // The numbers of a movement: the first word that passes its digits, or is no code, is refused.
 fn movement_tested(x: MovementFields) -> MovementRead
-    ensures result_value { (k : Kept) → toldMovement k result ≡ movementTested (movementOf k x) }
+    ensures result_value { (k : Kept) → told_movement k result ≡ movement_tested (movement_of k x) }
     ensures small_movement_read { SmallMovementRead result }
     ensures fits_movement_read { FitsMovementRead result }
 {
@@ -94,7 +94,7 @@ fn movement_tested(x: MovementFields) -> MovementRead
 // The words of a movement's row.
 fn read_movement(r: &[u8]) -> MovementRead
     requires { 136 ≤ length r.now }
-    ensures result_value { toldMovement (in_row r.now) result ≡ movementTested (movementIn r.now) }
+    ensures result_value { told_movement (in_row r.now) result ≡ movement_tested (movement_in r.now) }
     ensures small_movement_read { SmallMovementRead result }
     ensures fits_movement_read { FitsMovementRead result }
 {
@@ -112,7 +112,7 @@ fn read_movement(r: &[u8]) -> MovementRead
 // The 136 bytes of a row.
 pub fn read_row(r: &[u8]) -> Entry
     requires { length r.now ≡ 136 }
-    ensures result_value { told (in_row r.now) result ≡ tested (thingIn r.now) }
+    ensures result_value { told (in_row r.now) result ≡ tested (thing_in r.now) }
     ensures small { Small result }
     ensures fits { Fits result }
 {
@@ -135,7 +135,7 @@ pub fn read_row(r: &[u8]) -> Entry
 // Puts a head's row, with the kept bytes before and behind what is read.
 pub fn put_head(rows: &mut [u8], at: usize, x: HeadFields, before: &[u8], behind: &[u8]) -> usize
     requires { (at + 136 ≤ length rows.old) × (length before.now ≡ 26) × (length behind.now ≡ 23) }
-    ensures { Wrote rows.old at (headRow (headWith before.now behind.now x)) rows.new result }
+    ensures { Wrote rows.old at (head_row (head_with before.now behind.now x)) rows.new result }
 {
     let old = x.old;
     let new = x.new;
@@ -167,7 +167,7 @@ pub fn put_movement(
     behind: &[u8],
 ) -> usize
     requires { (at + 136 ≤ length rows.old) × (length before.now ≡ 13) × (length behind.now ≡ 57) }
-    ensures { Wrote rows.old at (movementRow (movementWith before.now behind.now x)) rows.new result }
+    ensures { Wrote rows.old at (movement_row (movement_with before.now behind.now x)) rows.new result }
 {
     let words = [
         75,

@@ -14,7 +14,7 @@ use Rattle.base.specs.Pick.{pick}
 use Rattle.base.proofs.Cases.{by-eq}
 use Rattle.fileline.specs.seen.Bits.{bit}
 use Rattle.register.specs.Marks.{Marks, taken}
-use Rattle.register.specs.Register.{noneAbove}
+use Rattle.register.specs.Register.{none_above}
 use Rattle.register.proofs.Digits.{on, at-half, low_digit, bit_in}
 
 -- ---- a count in parts
@@ -55,13 +55,13 @@ none-taken p (suc m) e j l =
     (λ d. none-taken p m (omega arith) j (omega arith))
 
 -- where none of 1,000 to 1,023 is marked, each of them is free
-pub above-free : (p : Marks) → noneAbove p ≡ true → (j : ℕ) → j < 24 → p (1000 + j) ≡ false
-unfolding noneAbove
+pub above-free : (p : Marks) → none_above p ≡ true → (j : ℕ) → j < 24 → p (1000 + j) ≡ false
+unfolding none_above
 above-free p e = none-taken (λ j. p (1000 + j)) 24 (eqb-true (taken (λ j. p (1000 + j)) 24) 0 e)
 
 -- .. and the numbers below 1,000 are all that are counted
-pub above-taken : (p : Marks) → noneAbove p ≡ true → taken p 1024 ≡ taken p 1000
-unfolding noneAbove
+pub above-taken : (p : Marks) → none_above p ≡ true → taken p 1024 ≡ taken p 1000
+unfolding none_above
 above-taken p e = omega (arith, taken_more p 1000 24, eqb-true (taken (λ j. p (1000 + j)) 24) 0 e)
 
 -- ---- the digits of a word
@@ -100,8 +100,8 @@ module _ (ws : List ℕ) (small : get_or ws 15 0 < 2 ^ 64) where
       ap (bit ws) e ∙ bit_in ws 15 (40 + j) (omega arith) ∙ ap (λ (x : ℕ). eqb (x % 2) 1) (sym (shr-shr (get_or ws 15 0) 40 j)))
       ∙ sym (digits-taken 24 (get_or ws 15 0 / 2 ^ 40))
 
-  pub high-none : eqb (get_or ws 15 0 / 2 ^ 40) 0 ≡ noneAbove (bit ws)
-  unfolding noneAbove
+  pub high-none : eqb (get_or ws 15 0 / 2 ^ 40) 0 ≡ none_above (bit ws)
+  unfolding none_above
   high-none =
       zeros (get_or ws 15 0 / 2 ^ 40) (taken (λ j. bit ws (1000 + j)) 24)
       (λ e. high_bits ∙ ap (ones_in 24) e ∙ digits-zero 24)

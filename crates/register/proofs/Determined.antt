@@ -2,12 +2,12 @@
 use mathlib.Core.Path.{◌≡◌, ap}
 use Rattle.register.specs.declared.AboRegister.{AboRegister}
 use Rattle.register.specs.Register.{RegisterAnswer}
-use Rattle.register.specs.Told.{toldAnswer}
+use Rattle.register.specs.Told.{told_answer}
 
 -- the answer that tells this
-abbrev answerFor : RegisterAnswer → AboRegister
-answerFor r = record { number = r.number; value = r.value }
+abbrev answer_for : RegisterAnswer → AboRegister
+answer_for r = record { number = r.number; value = r.value }
 
 -- two answers that tell the same are the same
-pub told-one : (a b : AboRegister) → toldAnswer a ≡ toldAnswer b → a ≡ b
-told-one a b e = ap answerFor e
+pub told-one : (a b : AboRegister) → told_answer a ≡ told_answer b → a ≡ b
+told-one a b e = ap answer_for e

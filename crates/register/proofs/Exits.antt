@@ -10,59 +10,59 @@ use Rattle.base.specs.Pick.{pick}
 use Rattle.base.proofs.Cases.{either, pick_true, pick-false, both-pick}
 use Rattle.base.proofs.Lists.{drop-none}
 use Rattle.paper.specs.Words.{word_of, words}
-use Rattle.paper.specs.Days.{realDay}
+use Rattle.paper.specs.Days.{real_day}
 use Rattle.paper.specs.FileLine.{member}
-use Rattle.out.specs.word.Places.{wordHere}
+use Rattle.out.specs.word.Places.{word_here}
 use Rattle.fileline.specs.declared.seen.Seen.{Seen}
 use Rattle.fileline.specs.seen.Bits.{bit, Holds}
 use Rattle.register.specs.declared.Loaded.{Loaded}
 use Rattle.register.specs.Marks.{Marks, none, without, free, lowest}
-use Rattle.register.specs.Register.{Register, malformed, of, used, registerSize, dateIn, marksIn, noneAbove, isLaid, registerOf, laidIn, answer, startAfter, lowestIn, freeIn, isGiven, giveIn, givenBytes, lowestAnswer, freeAnswer, giveAnswer, giveAfter}
+use Rattle.register.specs.Register.{Register, malformed, of, used, register_size, date_in, marks_in, none_above, is_laid, register_of, laid_in, answer, start_after, lowest_in, free_in, is_given, give_in, given_bytes, lowest_answer, free_answer, give_answer, give_after}
 use Rattle.register.specs.Told.{told, Sound}
 use Rattle.register.proofs.Laid.{says}
 
 -- ---- lent bytes loaded
 
-date-here : (lent : List ℕ) (date : ℕ) → date ≡ wordHere lent 0 → dateIn lent ≡ date
-unfolding dateIn
+date-here : (lent : List ℕ) (date : ℕ) → date ≡ word_here lent 0 → date_in lent ≡ date
+unfolding date_in
 date-here lent date e = sym (e ∙ ap (λ (s : List ℕ). word_of (take 8 s)) (drop-none lent))
 
-marks-here : (lent : List ℕ) (set : Seen) → set.words ≡ words 16 (drop 8 lent) → marksIn lent ≡ bit set.words
-unfolding marksIn
+marks-here : (lent : List ℕ) (set : Seen) → set.words ≡ words 16 (drop 8 lent) → marks_in lent ≡ bit set.words
+unfolding marks_in
 marks-here lent set e = ap bit (sym e)
 
 -- they are not laid out as a register
 module _ (lent : List ℕ) (r : Loaded) (unread : r.laid ≡ false) where
-  unlaid : isLaid lent ≡ false → told r ≡ registerOf lent
-  unfolding registerOf
+  unlaid : is_laid lent ≡ false → told r ≡ register_of lent
+  unfolding register_of
   unlaid e = pick-false _ _ unread ∙ sym (pick-false _ _ e)
 
-  pub load-short : length lent < registerSize → told r ≡ registerOf lent
-  unfolding isLaid
-  load-short l = unlaid (pick-false _ _ (lt-leb registerSize (length lent) l))
+  pub load-short : length lent < register_size → told r ≡ register_of lent
+  unfolding is_laid
+  load-short l = unlaid (pick-false _ _ (lt-leb register_size (length lent) l))
 
-  module _ (date : ℕ) (d : date ≡ wordHere lent 0) (t : Bool) (g : t ≡ realDay date) where
-    pub load-unreal : t ≡ false → told r ≡ registerOf lent
-    unfolding isLaid
+  module _ (date : ℕ) (d : date ≡ word_here lent 0) (t : Bool) (g : t ≡ real_day date) where
+    pub load-unreal : t ≡ false → told r ≡ register_of lent
+    unfolding is_laid
     load-unreal f =
-        unlaid (either (λ (b : Bool). b ≡ false) (leb registerSize (length lent)) (λ _. pick-false _ _ (ap realDay (date-here lent date d) ∙ sym g ∙ f)) (λ _. refl))
+        unlaid (either (λ (b : Bool). b ≡ false) (leb register_size (length lent)) (λ _. pick-false _ _ (ap real_day (date-here lent date d) ∙ sym g ∙ f)) (λ _. refl))
 
-  pub load-above : (set : Seen) → set.words ≡ words 16 (drop 8 lent) → (u : Bool) → u ≡ noneAbove (bit set.words) → u ≡ false → told r ≡ registerOf lent
-  unfolding isLaid
+  pub load-above : (set : Seen) → set.words ≡ words 16 (drop 8 lent) → (u : Bool) → u ≡ none_above (bit set.words) → u ≡ false → told r ≡ register_of lent
+  unfolding is_laid
   load-above set s u g f =
-      unlaid (either (λ (b : Bool). b ≡ false) (leb registerSize (length lent))
-      (λ _. either (λ (b : Bool). b ≡ false) (realDay (dateIn lent)) (λ _. ap noneAbove (marks-here lent set s) ∙ sym g ∙ f) (λ _. refl))
+      unlaid (either (λ (b : Bool). b ≡ false) (leb register_size (length lent))
+      (λ _. either (λ (b : Bool). b ≡ false) (real_day (date_in lent)) (λ _. ap none_above (marks-here lent set s) ∙ sym g ∙ f) (λ _. refl))
       (λ _. refl))
 
 -- they are
-pub load-laid : (lent : List ℕ) → registerSize ≤ length lent → (date : ℕ) → date ≡ wordHere lent 0 → (t : Bool) → t ≡ realDay date → t ≡ true
-    → (set : Seen) → set.words ≡ words 16 (drop 8 lent) → (u : Bool) → u ≡ noneAbove (bit set.words) → u ≡ true
-    → told (record { laid = true; date = date; set = set }) ≡ registerOf lent
-unfolding registerOf isLaid
+pub load-laid : (lent : List ℕ) → register_size ≤ length lent → (date : ℕ) → date ≡ word_here lent 0 → (t : Bool) → t ≡ real_day date → t ≡ true
+    → (set : Seen) → set.words ≡ words 16 (drop 8 lent) → (u : Bool) → u ≡ none_above (bit set.words) → u ≡ true
+    → told (record { laid = true; date = date; set = set }) ≡ register_of lent
+unfolding register_of is_laid
 load-laid lent long date d t g a set s u h b =
-    let laid : isLaid lent ≡ true =
-    both-pick _ _ (le-leb registerSize (length lent) long)
-    (both-pick _ _ (ap realDay (date-here lent date d) ∙ sym g ∙ a) (ap noneAbove (marks-here lent set s) ∙ sym h ∙ b)) in
+    let laid : is_laid lent ≡ true =
+    both-pick _ _ (le-leb register_size (length lent) long)
+    (both-pick _ _ (ap real_day (date-here lent date d) ∙ sym g ∙ a) (ap none_above (marks-here lent set s) ∙ sym h ∙ b)) in
     pick_true _ _ refl ∙ sym (pick_true _ _ laid ∙ (λ i. of (date-here lent date d i) (marks-here lent set s i)))
 
 -- the words hold what is marked
@@ -78,99 +78,99 @@ pub ruleset loads = (load-short, load-unreal, load-above, load-laid, laid-sound)
 
 -- ---- what a loaded register answers
 
-module _ (lent : List ℕ) (r : Loaded) (g : told r ≡ registerOf lent) where
+module _ (lent : List ℕ) (r : Loaded) (g : told r ≡ register_of lent) where
   module _ (e : r.laid ≡ true) where
-    loaded : registerOf lent ≡ of r.date (bit r.set.words)
+    loaded : register_of lent ≡ of r.date (bit r.set.words)
     loaded = sym g ∙ pick_true _ _ e
 
-    pub loaded-above : noneAbove (bit r.set.words) ≡ true
+    pub loaded-above : none_above (bit r.set.words) ≡ true
     loaded-above = (says lent r.date (bit r.set.words) loaded).above
 
-    pub loaded-long : registerSize ≤ length lent
+    pub loaded-long : register_size ≤ length lent
     loaded-long = (says lent r.date (bit r.set.words) loaded).long
 
-    pub lowest-said : (v : ℕ) → v ≡ lowest (bit r.set.words) 1000 → answer 0 v ≡ lowestAnswer lent
-    unfolding lowestAnswer lowestIn
-    lowest-said v f = ap (answer 0) f ∙ sym (ap lowestIn loaded)
+    pub lowest-said : (v : ℕ) → v ≡ lowest (bit r.set.words) 1000 → answer 0 v ≡ lowest_answer lent
+    unfolding lowest_answer lowest_in
+    lowest-said v f = ap (answer 0) f ∙ sym (ap lowest_in loaded)
 
-    pub free-said : (v : ℕ) → v ≡ free (bit r.set.words) 1000 → answer 0 v ≡ freeAnswer lent
-    unfolding freeAnswer freeIn
-    free-said v f = ap (answer 0) f ∙ sym (ap freeIn loaded)
+    pub free-said : (v : ℕ) → v ≡ free (bit r.set.words) 1000 → answer 0 v ≡ free_answer lent
+    unfolding free_answer free_in
+    free-said v f = ap (answer 0) f ∙ sym (ap free_in loaded)
 
     module _ (n : ℕ) where
       -- n is given back, or is not
-      module _ (may : isGiven (bit r.set.words) n ≡ true) where
-        gave : answer 0 0 ≡ giveAnswer lent n
-        unfolding giveAnswer giveIn
-        gave = sym (ap (λ (x : Register). giveIn x n) loaded ∙ pick_true _ _ may)
+      module _ (may : is_given (bit r.set.words) n ≡ true) where
+        gave : answer 0 0 ≡ give_answer lent n
+        unfolding give_answer give_in
+        gave = sym (ap (λ (x : Register). give_in x n) loaded ∙ pick_true _ _ may)
 
-        gave-bytes : (q : Marks) → q ≡ without n (bit r.set.words) → (o : List ℕ) → o ≡ laidIn lent r.date q → o ≡ giveAfter lent n
-        unfolding giveAfter givenBytes
-        gave-bytes q f o s = s ∙ ap (laidIn lent r.date) f ∙ sym (ap (λ (x : Register). givenBytes lent x n) loaded ∙ pick_true _ _ may)
+        gave-bytes : (q : Marks) → q ≡ without n (bit r.set.words) → (o : List ℕ) → o ≡ laid_in lent r.date q → o ≡ give_after lent n
+        unfolding give_after given_bytes
+        gave-bytes q f o s = s ∙ ap (laid_in lent r.date) f ∙ sym (ap (λ (x : Register). given_bytes lent x n) loaded ∙ pick_true _ _ may)
 
-      module _ (not : isGiven (bit r.set.words) n ≡ false) where
-        refused : answer 24 0 ≡ giveAnswer lent n
-        unfolding giveAnswer giveIn
-        refused = sym (ap (λ (x : Register). giveIn x n) loaded ∙ pick-false _ _ not)
+      module _ (not : is_given (bit r.set.words) n ≡ false) where
+        refused : answer 24 0 ≡ give_answer lent n
+        unfolding give_answer give_in
+        refused = sym (ap (λ (x : Register). give_in x n) loaded ∙ pick-false _ _ not)
 
-        refused-bytes : lent ≡ giveAfter lent n
-        unfolding giveAfter givenBytes
-        refused-bytes = sym (ap (λ (x : Register). givenBytes lent x n) loaded ∙ pick-false _ _ not)
+        refused-bytes : lent ≡ give_after lent n
+        unfolding give_after given_bytes
+        refused-bytes = sym (ap (λ (x : Register). given_bytes lent x n) loaded ∙ pick-false _ _ not)
 
       module _ (t : Bool) (h : t ≡ bit r.set.words n) (l : n < 1000) where
         -- it is marked
-        is-given : t ≡ true → isGiven (bit r.set.words) n ≡ true
-        unfolding isGiven
+        is-given : t ≡ true → is_given (bit r.set.words) n ≡ true
+        unfolding is_given
         is-given a = both-pick _ _ (lt-ltb n 1000 l) (sym h ∙ a)
 
-        pub give-said : t ≡ true → answer 0 0 ≡ giveAnswer lent n
+        pub give-said : t ≡ true → answer 0 0 ≡ give_answer lent n
         give-said a = gave (is-given a)
 
-        pub give-bytes : t ≡ true → (q : Marks) → q ≡ without n (bit r.set.words) → (o : List ℕ) → o ≡ laidIn lent r.date q → o ≡ giveAfter lent n
+        pub give-bytes : t ≡ true → (q : Marks) → q ≡ without n (bit r.set.words) → (o : List ℕ) → o ≡ laid_in lent r.date q → o ≡ give_after lent n
         give-bytes a = gave-bytes (is-given a)
 
         -- it is free
-        is_free : t ≡ false → isGiven (bit r.set.words) n ≡ false
-        unfolding isGiven
+        is_free : t ≡ false → is_given (bit r.set.words) n ≡ false
+        unfolding is_given
         is_free a = pick_true _ _ (lt-ltb n 1000 l) ∙ sym h ∙ a
 
-        pub unmarked-said : t ≡ false → answer 24 0 ≡ giveAnswer lent n
+        pub unmarked-said : t ≡ false → answer 24 0 ≡ give_answer lent n
         unmarked-said a = refused (is_free a)
 
-        pub unmarked-bytes : t ≡ false → lent ≡ giveAfter lent n
+        pub unmarked-bytes : t ≡ false → lent ≡ give_after lent n
         unmarked-bytes a = refused-bytes (is_free a)
 
       module _ (l : 1000 ≤ n) where
         -- it is no number of the register
-        is-above : isGiven (bit r.set.words) n ≡ false
-        unfolding isGiven
+        is-above : is_given (bit r.set.words) n ≡ false
+        unfolding is_given
         is-above = pick-false _ _ (le-ltb n 1000 l)
 
-        pub above-said : answer 24 0 ≡ giveAnswer lent n
+        pub above-said : answer 24 0 ≡ give_answer lent n
         above-said = refused is-above
 
-        pub above_bytes : lent ≡ giveAfter lent n
+        pub above_bytes : lent ≡ give_after lent n
         above_bytes = refused-bytes is-above
 
   module _ (e : r.laid ≡ false) where
-    unloaded : registerOf lent ≡ malformed
+    unloaded : register_of lent ≡ malformed
     unloaded = sym g ∙ pick-false _ _ e
 
-    pub lowest-malformed : answer 23 0 ≡ lowestAnswer lent
-    unfolding lowestAnswer lowestIn
-    lowest-malformed = sym (ap lowestIn unloaded)
+    pub lowest-malformed : answer 23 0 ≡ lowest_answer lent
+    unfolding lowest_answer lowest_in
+    lowest-malformed = sym (ap lowest_in unloaded)
 
-    pub free-malformed : answer 23 0 ≡ freeAnswer lent
-    unfolding freeAnswer freeIn
-    free-malformed = sym (ap freeIn unloaded)
+    pub free-malformed : answer 23 0 ≡ free_answer lent
+    unfolding free_answer free_in
+    free-malformed = sym (ap free_in unloaded)
 
-    pub give-malformed : (n : ℕ) → answer 23 0 ≡ giveAnswer lent n
-    unfolding giveAnswer giveIn
-    give-malformed n = sym (ap (λ (x : Register). giveIn x n) unloaded)
+    pub give-malformed : (n : ℕ) → answer 23 0 ≡ give_answer lent n
+    unfolding give_answer give_in
+    give-malformed n = sym (ap (λ (x : Register). give_in x n) unloaded)
 
-    pub malformed-bytes : (n : ℕ) → lent ≡ giveAfter lent n
-    unfolding giveAfter givenBytes
-    malformed-bytes n = sym (ap (λ (x : Register). givenBytes lent x n) unloaded)
+    pub malformed-bytes : (n : ℕ) → lent ≡ give_after lent n
+    unfolding give_after given_bytes
+    malformed-bytes n = sym (ap (λ (x : Register). given_bytes lent x n) unloaded)
 
 pub ruleset asked = (loaded-above, loaded-long, lowest-said, free-said, lowest-malformed, free-malformed)
 
@@ -187,8 +187,8 @@ none-held : (ws : List ℕ) → Holds ws [] → bit ws ≡ none
 unfolding none member
 none-held ws h = fun_ext (λ (k : ℕ). h k)
 
-pub start-bytes : (lent : List ℕ) (date : ℕ) (t : Bool) → t ≡ realDay date → t ≡ true → registerSize ≤ length lent → (ws : List ℕ) → Holds ws []
-    → (o : List ℕ) → o ≡ laidIn lent date (bit ws) → o ≡ startAfter date lent
-unfolding startAfter
+pub start-bytes : (lent : List ℕ) (date : ℕ) (t : Bool) → t ≡ real_day date → t ≡ true → register_size ≤ length lent → (ws : List ℕ) → Holds ws []
+    → (o : List ℕ) → o ≡ laid_in lent date (bit ws) → o ≡ start_after date lent
+unfolding start_after
 start-bytes lent date t g a long ws h o s =
-    s ∙ ap (laidIn lent date) (none-held ws h) ∙ sym (pick_true _ _ (sym g ∙ a) ∙ pick_true _ _ (le-leb registerSize (length lent) long))
+    s ∙ ap (laid_in lent date) (none-held ws h) ∙ sym (pick_true _ _ (sym g ∙ a) ∙ pick_true _ _ (le-leb register_size (length lent) long))

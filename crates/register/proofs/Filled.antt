@@ -7,7 +7,7 @@ use native.Mathlib.Omega.{arith}
 use lib.ListN.{length, drop, take, get_or, set, drop_of_length-le}
 use lib.Seq.{drop-cons, set_at, append_snoc, length-take-le, take-suc, take_all}
 use Rattle.paper.specs.Words.{words}
-use Rattle.out.specs.word.Places.{wordHere}
+use Rattle.out.specs.word.Places.{word_here}
 use Rattle.out.proofs.word.Laws.{word-here}
 
 pub words_count : (n : ℕ) (s : List ℕ) → length (words n s) ≡ n
@@ -25,7 +25,7 @@ front s q i l m = push (take i s) q i (get_or s i 0) (length-take-le i s (omega 
 -- o is filled up to i with the n words that begin at a place
 module _ (s q o : List ℕ) (n at i : ℕ) (inv : o ≡ take i (words n (drop at s)) ++ drop i q) where
   -- one word more
-  pub fill_more : (v : ℕ) → i < n → i < length q → v ≡ wordHere s (at + 8 * i) → set o i v ≡ take (i + 1) (words n (drop at s)) ++ drop (i + 1) q
+  pub fill_more : (v : ℕ) → i < n → i < length q → v ≡ word_here s (at + 8 * i) → set o i v ≡ take (i + 1) (words n (drop at s)) ++ drop (i + 1) q
   fill_more v l m e = rw (inv, e, ← word-here n s at i l) (front (words n (drop at s)) q i (omega (arith, words_count n (drop at s))) m)
 
   -- all are there

@@ -10,10 +10,10 @@ use borrow.Author.Tests.{le-leb, lt-leb, eq-eqb, ne_eqb}
 use Rattle.base.specs.Pick.{pick}
 use Rattle.base.proofs.Cases.{by-test, by-eq, by-lt, pick_true, pick-false, pick_same}
 use Rattle.paper.specs.Words.{words}
-use Rattle.paper.specs.Days.{realDay}
+use Rattle.paper.specs.Days.{real_day}
 use Rattle.paper.specs.FileLine.{member}
-use Rattle.register.specs.Marks.{Marks, none, with, without, taken, free, lowestFrom, lowest}
-use Rattle.register.specs.Register.{Register, malformed, of, registerSize, marksIn, registerOf, laidIn, RegisterAnswer, answer, startAnswer, startAfter, isGiven, giveIn, givenBytes, giveAnswer, giveAfter}
+use Rattle.register.specs.Marks.{Marks, none, with, without, taken, free, lowest_from, lowest}
+use Rattle.register.specs.Register.{Register, malformed, of, register_size, marks_in, register_of, laid_in, RegisterAnswer, answer, start_answer, start_after, is_given, give_in, given_bytes, give_answer, give_after}
 use Rattle.register.proofs.Digits.{bit-behind}
 use Rattle.register.proofs.Counted.{above-free}
 use Rattle.register.proofs.Filled.{words_count}
@@ -50,30 +50,30 @@ module _ (p : Marks) where
   marked_step n k l true e a rest b = by-eq n k (λ s. sym (ap p s) ∙ e) (λ d. rest (omega arith) b)
   marked_step n k l false e a rest b = absurd (omega arith)
 
-  marked_from : (n c k : ℕ) → n ≤ k → k < lowestFrom p n c → p k ≡ true
-  unfolding lowestFrom
+  marked_from : (n c k : ℕ) → n ≤ k → k < lowest_from p n c → p k ≡ true
+  unfolding lowest_from
   marked_from n zero k a b = absurd (omega arith)
-  marked_from n (suc c) k a b = marked_step n k (lowestFrom p (suc n) c) (p n) refl a (λ l. marked_from (suc n) c k (omega arith)) b
+  marked_from n (suc c) k a b = marked_step n k (lowest_from p (suc n) c) (p n) refl a (λ l. marked_from (suc n) c k (omega arith)) b
 
   free_step : (n e l : ℕ) (t : Bool) → p n ≡ t → (l < e → p l ≡ false) → pick t l n < e → p (pick t l n) ≡ false
   unfolding pick
   free_step n e l true q rest b = rest b
   free_step n e l false q rest b = q
 
-  free-from : (n c : ℕ) → lowestFrom p n c < n + c → p (lowestFrom p n c) ≡ false
-  unfolding lowestFrom
+  free-from : (n c : ℕ) → lowest_from p n c < n + c → p (lowest_from p n c) ≡ false
+  unfolding lowest_from
   free-from n zero b = absurd (omega arith)
-  free-from n (suc c) b = free_step n (n + suc c) (lowestFrom p (suc n) c) (p n) refl (λ l. free-from (suc n) c (omega arith)) b
+  free-from n (suc c) b = free_step n (n + suc c) (lowest_from p (suc n) c) (p n) refl (λ l. free-from (suc n) c (omega arith)) b
 
   most_step : (n e l : ℕ) (t : Bool) → n ≤ e → l ≤ e → pick t l n ≤ e
   unfolding pick
   most_step n e l true a b = b
   most_step n e l false a b = a
 
-  most-from : (n c : ℕ) → lowestFrom p n c ≤ n + c
-  unfolding lowestFrom
+  most-from : (n c : ℕ) → lowest_from p n c ≤ n + c
+  unfolding lowest_from
   most-from n zero = omega arith
-  most-from n (suc c) = most_step n (n + suc c) (lowestFrom p (suc n) c) (p n) (omega arith) (omega (arith, most-from (suc n) c))
+  most-from n (suc c) = most_step n (n + suc c) (lowest_from p (suc n) c) (p n) (omega arith) (omega (arith, most-from (suc n) c))
 
   module _ (m : ℕ) where
     -- all below it are marked
@@ -92,7 +92,7 @@ module _ (p : Marks) where
     lowest-least k l e = by-lt k (lowest p m) (λ b. absurd (true≢false (sym (lowest-marked k b) ∙ e))) (λ b. b)
 
 pub none-lowest : lowest none 1000 ≡ 0
-unfolding lowestFrom none pick
+unfolding lowest_from none pick
 none-lowest = refl
 
 -- ---- a number marked, and one given back
@@ -134,14 +134,14 @@ given-lowest n m p l = lowest-least (without n p) m n l (without-same n p)
 -- ---- the layout
 
 -- what was laid into lent bytes is what they say
-pub laid-back : (lent : List ℕ) (d : ℕ) (p : Marks) → registerSize ≤ length lent → realDay d ≡ true → ((n : ℕ) → 1000 ≤ n → p n ≡ false)
-    → registerOf (laidIn lent d p) ≡ of d p
-unfolding laidIn
-laid-back lent d p long real free = bytes_back (drop registerSize lent) d p real free
+pub laid-back : (lent : List ℕ) (d : ℕ) (p : Marks) → register_size ≤ length lent → real_day d ≡ true → ((n : ℕ) → 1000 ≤ n → p n ≡ false)
+    → register_of (laid_in lent d p) ≡ of d p
+unfolding laid_in
+laid-back lent d p long real free = bytes_back (drop register_size lent) d p real free
 
 -- lent bytes say a real day, and no number above 999
-pub laid-free : (lent : List ℕ) (d : ℕ) (p : Marks) → registerOf lent ≡ of d p → (realDay d ≡ true) × ((n : ℕ) → 1000 ≤ n → p n ≡ false)
-unfolding marksIn
+pub laid-free : (lent : List ℕ) (d : ℕ) (p : Marks) → register_of lent ≡ of d p → (real_day d ≡ true) × ((n : ℕ) → 1000 ≤ n → p n ≡ false)
+unfolding marks_in
 laid-free lent d p e =
     let s = says lent d p e in (
       s.real,
@@ -153,29 +153,29 @@ laid-free lent d p e =
 -- ---- calls one after another
 
 -- a day that was started has no number marked
-pub started : (lent : List ℕ) (d : ℕ) → realDay d ≡ true → registerSize ≤ length lent → registerOf (startAfter d lent) ≡ of d none
-unfolding startAfter none
+pub started : (lent : List ℕ) (d : ℕ) → real_day d ≡ true → register_size ≤ length lent → register_of (start_after d lent) ≡ of d none
+unfolding start_after none
 started lent d real long =
-    let after : startAfter d lent ≡ laidIn lent d none = pick_true _ _ real ∙ pick_true _ _ (le-leb registerSize (length lent) long) in
-    ap registerOf after ∙ laid-back lent d none long real (λ n l. refl)
+    let after : start_after d lent ≡ laid_in lent d none = pick_true _ _ real ∙ pick_true _ _ (le-leb register_size (length lent) long) in
+    ap register_of after ∙ laid-back lent d none long real (λ n l. refl)
 
-module _ (lent : List ℕ) (d : ℕ) (p : Marks) (n : ℕ) (said : registerOf lent ≡ of d p) (may : isGiven p n ≡ true) where
+module _ (lent : List ℕ) (d : ℕ) (p : Marks) (n : ℕ) (said : register_of lent ≡ of d p) (may : is_given p n ≡ true) where
   -- a number that was given back is marked no more
-  pub given : registerOf (giveAfter lent n) ≡ of d (without n p)
-  unfolding giveAfter givenBytes without
+  pub given : register_of (give_after lent n) ≡ of d (without n p)
+  unfolding give_after given_bytes without
   given =
-      let after : giveAfter lent n ≡ laidIn lent d (without n p) = rw said (pick_true _ _ may) in
+      let after : give_after lent n ≡ laid_in lent d (without n p) = rw said (pick_true _ _ may) in
       let f = laid-free lent d p said in
-      ap registerOf after
+      ap register_of after
       ∙ laid-back lent d (without n p) (says lent d p said).long f.0
       (λ k l. ap (pick (eqb k n) false) (f.1 k l) ∙ pick_same (eqb k n) false)
 
   -- and is not given back once more
-  pub given-again : giveAnswer (giveAfter lent n) n ≡ answer 24 0
-  unfolding giveAnswer giveIn isGiven
+  pub given-again : give_answer (give_after lent n) n ≡ answer 24 0
+  unfolding give_answer give_in is_given
   given-again =
-      let not : isGiven (without n p) n ≡ false = ap (λ (t : Bool). pick (ltb n 1000) t false) (without-same n p) ∙ pick_same (ltb n 1000) false in
-      ap (λ (r : Register). giveIn r n) given ∙ pick-false _ _ not
+      let not : is_given (without n p) n ≡ false = ap (λ (t : Bool). pick (ltb n 1000) t false) (without-same n p) ∙ pick_same (ltb n 1000) false in
+      ap (λ (r : Register). give_in r n) given ∙ pick-false _ _ not
 
 -- ---- a refusal changes nothing
 
@@ -183,20 +183,20 @@ module _ (lent : List ℕ) (d : ℕ) (p : Marks) (n : ℕ) (said : registerOf le
 abbrev number_of : RegisterAnswer → ℕ
 number_of a = a.number
 
-pub start-kept : (lent : List ℕ) (d : ℕ) → ((startAnswer d lent).number ≡ 0 → ⊥) → startAfter d lent ≡ lent
-unfolding startAnswer startAfter
+pub start-kept : (lent : List ℕ) (d : ℕ) → ((start_answer d lent).number ≡ 0 → ⊥) → start_after d lent ≡ lent
+unfolding start_answer start_after
 start-kept lent d refusal =
-    by-test (realDay d)
-    (λ e. pick_true _ _ e ∙ by-lt (length lent) registerSize
-    (λ l. pick-false _ _ (lt-leb registerSize (length lent) l))
-    (λ l. absurd (refusal (ap number_of (pick_true _ _ e ∙ pick_true _ _ (le-leb registerSize (length lent) l))))))
+    by-test (real_day d)
+    (λ e. pick_true _ _ e ∙ by-lt (length lent) register_size
+    (λ l. pick-false _ _ (lt-leb register_size (length lent) l))
+    (λ l. absurd (refusal (ap number_of (pick_true _ _ e ∙ pick_true _ _ (le-leb register_size (length lent) l))))))
     (λ e. pick-false _ _ e)
 
-kept_in : (lent : List ℕ) (r : Register) (n : ℕ) → ((giveIn r n).number ≡ 0 → ⊥) → givenBytes lent r n ≡ lent
-unfolding giveIn givenBytes
-kept_in lent malformed n refusal = refl
-kept_in lent (of d p) n refusal = by-test (isGiven p n) (λ e. absurd (refusal (ap number_of (pick_true _ _ e)))) (λ e. pick-false _ _ e)
+kept-in : (lent : List ℕ) (r : Register) (n : ℕ) → ((give_in r n).number ≡ 0 → ⊥) → given_bytes lent r n ≡ lent
+unfolding give_in given_bytes
+kept-in lent malformed n refusal = refl
+kept-in lent (of d p) n refusal = by-test (is_given p n) (λ e. absurd (refusal (ap number_of (pick_true _ _ e)))) (λ e. pick-false _ _ e)
 
-pub give_kept : (lent : List ℕ) (n : ℕ) → ((giveAnswer lent n).number ≡ 0 → ⊥) → giveAfter lent n ≡ lent
-unfolding giveAnswer giveAfter
-give_kept lent n refusal = kept_in lent (registerOf lent) n refusal
+pub give_kept : (lent : List ℕ) (n : ℕ) → ((give_answer lent n).number ≡ 0 → ⊥) → give_after lent n ≡ lent
+unfolding give_answer give_after
+give_kept lent n refusal = kept-in lent (register_of lent) n refusal

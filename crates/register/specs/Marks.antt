@@ -30,10 +30,10 @@ free p zero = 0
 free p (suc m) = free p m + pick (p m) 0 1
 
 -- the lowest free number of those from n on, of which there are k; behind them if none is free
-unfoldable pub lowestFrom : Marks → ℕ → ℕ → ℕ
-lowestFrom p n zero = n
-lowestFrom p n (suc k) = pick (p n) (lowestFrom p (suc n) k) n
+unfoldable pub lowest_from : Marks → ℕ → ℕ → ℕ
+lowest_from p n zero = n
+lowest_from p n (suc k) = pick (p n) (lowest_from p (suc n) k) n
 
 -- the lowest free number below m, or m
 abbrev pub lowest : Marks → ℕ → ℕ
-lowest p m = lowestFrom p 0 m
+lowest p m = lowest_from p 0 m

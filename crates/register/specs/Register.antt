@@ -2,8 +2,8 @@
 -- docs/ROWS.md. Assumes nothing.
 use Rattle.std.specs.Prelude.{ℕ, zero, suc, ◌+◌, ◌*◌, Bool, false, List, [], ◌∷◌, ◌++◌, eqb, ltb, leb, length, take, drop}
 use Rattle.base.specs.Pick.{pick}
-use Rattle.paper.specs.Days.{realDay}
-use Rattle.paper.specs.Words.{word_of, words, wordsBytes}
+use Rattle.paper.specs.Days.{real_day}
+use Rattle.paper.specs.Words.{word_of, words, words_bytes}
 use Rattle.fileline.specs.seen.Bits.{bit}
 use Rattle.register.specs.Marks.{Marks, none, without, taken, free, lowest}
 
@@ -14,28 +14,28 @@ pub data Register : Type 0 where
 
 -- ---- the layout: 17 words; word 0 is the date, and number n is bit n mod 64 of word 1 + n div 64
 
-abbrev pub registerSize : ℕ
-registerSize = 136
+abbrev pub register_size : ℕ
+register_size = 136
 
 -- the date
-unfoldable pub dateIn : List ℕ → ℕ
-dateIn lent = word_of (take 8 lent)
+unfoldable pub date_in : List ℕ → ℕ
+date_in lent = word_of (take 8 lent)
 
 -- the numbers; the words have room for 1,024
-unfoldable pub marksIn : List ℕ → Marks
-marksIn lent = bit (words 16 (drop 8 lent))
+unfoldable pub marks_in : List ℕ → Marks
+marks_in lent = bit (words 16 (drop 8 lent))
 
 -- none of 1,000 to 1,023 is marked
-unfoldable pub noneAbove : Marks → Bool
-noneAbove p = eqb (taken (λ j. p (1000 + j)) 24) 0
+unfoldable pub none_above : Marks → Bool
+none_above p = eqb (taken (λ j. p (1000 + j)) 24) 0
 
 -- 136 bytes or more, a real day, no number above 999
-unfoldable pub isLaid : List ℕ → Bool
-isLaid lent = pick (leb registerSize (length lent)) (pick (realDay (dateIn lent)) (noneAbove (marksIn lent)) false) false
+unfoldable pub is_laid : List ℕ → Bool
+is_laid lent = pick (leb register_size (length lent)) (pick (real_day (date_in lent)) (none_above (marks_in lent)) false) false
 
 -- what lent bytes say; those behind the first 136 say nothing
-unfoldable pub registerOf : List ℕ → Register
-registerOf lent = pick (isLaid lent) (of (dateIn lent) (marksIn lent)) malformed
+unfoldable pub register_of : List ℕ → Register
+register_of lent = pick (is_laid lent) (of (date_in lent) (marks_in lent)) malformed
 
 -- is it for this day? A malformed one is for none.
 unfoldable pub fits : Register → ℕ → Bool
@@ -48,22 +48,22 @@ used malformed = none
 used (of date p) = p
 
 -- k numbers from n on as a word: the first is worth 1, each next one twice as much
-unfoldable pub wordFrom : Marks → ℕ → ℕ → ℕ
-wordFrom p n zero = 0
-wordFrom p n (suc k) = pick (p n) 1 0 + 2 * wordFrom p (suc n) k
+unfoldable pub word_from : Marks → ℕ → ℕ → ℕ
+word_from p n zero = 0
+word_from p n (suc k) = pick (p n) 1 0 + 2 * word_from p (suc n) k
 
 -- m words of 64 numbers each
-unfoldable pub wordsFrom : Marks → ℕ → ℕ → List ℕ
-wordsFrom p n zero = []
-wordsFrom p n (suc m) = wordFrom p n 64 ∷ wordsFrom p (n + 64) m
+unfoldable pub words_from : Marks → ℕ → ℕ → List ℕ
+words_from p n zero = []
+words_from p n (suc m) = word_from p n 64 ∷ words_from p (n + 64) m
 
 -- a date and marks as bytes
-unfoldable pub registerBytes : ℕ → Marks → List ℕ
-registerBytes date p = wordsBytes (date ∷ wordsFrom p 0 16)
+unfoldable pub register_bytes : ℕ → Marks → List ℕ
+register_bytes date p = words_bytes (date ∷ words_from p 0 16)
 
 -- they are put in front of what was lent behind the register
-unfoldable pub laidIn : List ℕ → ℕ → Marks → List ℕ
-laidIn lent date p = registerBytes date p ++ drop registerSize lent
+unfoldable pub laid_in : List ℕ → ℕ → Marks → List ℕ
+laid_in lent date p = register_bytes date p ++ drop register_size lent
 
 -- ---- the calls: an answer is a number, and a value where one is named, else 0
 
@@ -76,46 +76,46 @@ abbrev pub answer : ℕ → ℕ → RegisterAnswer
 answer n v = record { number = n; value = v }
 
 -- a day is started: 2 for a day that is not real, then 16 with the bytes needed; what stood there is not looked at
-unfoldable pub startAnswer : ℕ → List ℕ → RegisterAnswer
-startAnswer date lent = pick (realDay date) (pick (leb registerSize (length lent)) (answer 0 0) (answer 16 registerSize)) (answer 2 0)
+unfoldable pub start_answer : ℕ → List ℕ → RegisterAnswer
+start_answer date lent = pick (real_day date) (pick (leb register_size (length lent)) (answer 0 0) (answer 16 register_size)) (answer 2 0)
 
 -- nothing is marked then
-unfoldable pub startAfter : ℕ → List ℕ → List ℕ
-startAfter date lent = pick (realDay date) (pick (leb registerSize (length lent)) (laidIn lent date none) lent) lent
+unfoldable pub start_after : ℕ → List ℕ → List ℕ
+start_after date lent = pick (real_day date) (pick (leb register_size (length lent)) (laid_in lent date none) lent) lent
 
 -- the lowest free number, 1,000 if none is; 23 for a malformed register
-unfoldable pub lowestIn : Register → RegisterAnswer
-lowestIn malformed = answer 23 0
-lowestIn (of date p) = answer 0 (lowest p 1000)
+unfoldable pub lowest_in : Register → RegisterAnswer
+lowest_in malformed = answer 23 0
+lowest_in (of date p) = answer 0 (lowest p 1000)
 
 -- how many numbers are free
-unfoldable pub freeIn : Register → RegisterAnswer
-freeIn malformed = answer 23 0
-freeIn (of date p) = answer 0 (free p 1000)
+unfoldable pub free_in : Register → RegisterAnswer
+free_in malformed = answer 23 0
+free_in (of date p) = answer 0 (free p 1000)
 
 -- may n be given back? It is at most 999, and marked
-unfoldable pub isGiven : Marks → ℕ → Bool
-isGiven p n = pick (ltb n 1000) (p n) false
+unfoldable pub is_given : Marks → ℕ → Bool
+is_given p n = pick (ltb n 1000) (p n) false
 
 -- n is given back: 24 where it may not be
-unfoldable pub giveIn : Register → ℕ → RegisterAnswer
-giveIn malformed n = answer 23 0
-giveIn (of date p) n = pick (isGiven p n) (answer 0 0) (answer 24 0)
+unfoldable pub give_in : Register → ℕ → RegisterAnswer
+give_in malformed n = answer 23 0
+give_in (of date p) n = pick (is_given p n) (answer 0 0) (answer 24 0)
 
 -- it is marked no more
-unfoldable pub givenBytes : List ℕ → Register → ℕ → List ℕ
-givenBytes lent malformed n = lent
-givenBytes lent (of date p) n = pick (isGiven p n) (laidIn lent date (without n p)) lent
+unfoldable pub given_bytes : List ℕ → Register → ℕ → List ℕ
+given_bytes lent malformed n = lent
+given_bytes lent (of date p) n = pick (is_given p n) (laid_in lent date (without n p)) lent
 
 -- the same of lent bytes
-unfoldable pub lowestAnswer : List ℕ → RegisterAnswer
-lowestAnswer lent = lowestIn (registerOf lent)
+unfoldable pub lowest_answer : List ℕ → RegisterAnswer
+lowest_answer lent = lowest_in (register_of lent)
 
-unfoldable pub freeAnswer : List ℕ → RegisterAnswer
-freeAnswer lent = freeIn (registerOf lent)
+unfoldable pub free_answer : List ℕ → RegisterAnswer
+free_answer lent = free_in (register_of lent)
 
-unfoldable pub giveAnswer : List ℕ → ℕ → RegisterAnswer
-giveAnswer lent n = giveIn (registerOf lent) n
+unfoldable pub give_answer : List ℕ → ℕ → RegisterAnswer
+give_answer lent n = give_in (register_of lent) n
 
-unfoldable pub giveAfter : List ℕ → ℕ → List ℕ
-giveAfter lent n = givenBytes lent (registerOf lent) n
+unfoldable pub give_after : List ℕ → ℕ → List ℕ
+give_after lent n = given_bytes lent (register_of lent) n

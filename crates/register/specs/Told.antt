@@ -15,5 +15,5 @@ abbrev pub Sound : Loaded → Type 0
 Sound r = bit r.set.words ≡ used (told r)
 
 -- the number returned and the value
-abbrev pub toldAnswer : AboRegister → RegisterAnswer
-toldAnswer a = answer a.number a.value
+abbrev pub told_answer : AboRegister → RegisterAnswer
+told_answer a = answer a.number a.value

@@ -4,8 +4,8 @@ pub mod questions;
 ghost use Rattle.std.specs.Prelude.{◌≡◌, false, ◌≤◌, length, drop};
 ghost use Rattle.paper.specs.Words.{words};
 ghost use Rattle.fileline.specs.seen.Bits.{bit};
-ghost use Rattle.register.specs.Register.{registerSize, noneAbove, registerOf, laidIn, startAnswer, startAfter, lowestAnswer, freeAnswer, giveAnswer, giveAfter};
-ghost use Rattle.register.specs.Told.{told, Sound, toldAnswer};
+ghost use Rattle.register.specs.Register.{register_size, none_above, register_of, laid_in, start_answer, start_after, lowest_answer, free_answer, give_answer, give_after};
+ghost use Rattle.register.specs.Told.{told, Sound, told_answer};
 
 use fileline::seen::Seen;
 
@@ -39,7 +39,7 @@ fn malformed() -> Loaded
 
 // The sixteen words of numbers.
 fn numbers_in(lent: &[u8]) -> Seen
-    requires { registerSize ≤ length lent.now }
+    requires { register_size ≤ length lent.now }
     ensures { result.words ≡ words 16 (drop 8 lent.now) }
 {
     let mut set = [0u64; 16];
@@ -53,14 +53,14 @@ fn numbers_in(lent: &[u8]) -> Seen
 
 // Is none of the numbers 1,000 to 1,023 in the set? They are the bits of the last word from 40 on.
 fn none_above(set: Seen) -> bool
-    ensures { result ≡ noneAbove (bit set.words) }
+    ensures { result ≡ none_above (bit set.words) }
 {
     set.words[15] >> 40 == 0
 }
 
 // What lent bytes say.
 pub fn load(lent: &[u8]) -> Loaded
-    ensures result_value { told result ≡ registerOf lent.now }
+    ensures result_value { told result ≡ register_of lent.now }
     ensures sound { Sound result }
 {
     if lent.len() < 136 {
@@ -82,8 +82,8 @@ pub fn load(lent: &[u8]) -> Loaded
 
 // Puts a date and the numbers of a set into lent bytes; those behind the register stay.
 pub fn store(lent: &mut [u8], date: u64, set: Seen)
-    requires { registerSize ≤ length lent.old }
-    ensures { lent.new ≡ laidIn lent.old date (bit set.words) }
+    requires { register_size ≤ length lent.old }
+    ensures { lent.new ≡ laid_in lent.old date (bit set.words) }
 {
     let words = set.words;
     let at = out::word::put_word(lent, 0, date);
@@ -94,8 +94,8 @@ pub fn store(lent: &mut [u8], date: u64, set: Seen)
 
 // Starts a day: no number is marked.
 pub fn start(date: u64, lent: &mut [u8]) -> AboRegister
-    ensures result_value { toldAnswer result ≡ startAnswer date lent.old }
-    ensures lent_after { lent.new ≡ startAfter date lent.old }
+    ensures result_value { told_answer result ≡ start_answer date lent.old }
+    ensures lent_after { lent.new ≡ start_after date lent.old }
 {
     if calendar::real_day(date) {
         if lent.len() < 136 {
@@ -118,7 +118,7 @@ pub fn start(date: u64, lent: &mut [u8]) -> AboRegister
 
 // The lowest free number, 1,000 if none is.
 pub fn lowest_number(lent: &[u8]) -> AboRegister
-    ensures { toldAnswer result ≡ lowestAnswer lent.now }
+    ensures { told_answer result ≡ lowest_answer lent.now }
 {
     let r = load(lent);
     if r.laid {
@@ -135,7 +135,7 @@ pub fn lowest_number(lent: &[u8]) -> AboRegister
 
 // How many numbers are free.
 pub fn free_numbers(lent: &[u8]) -> AboRegister
-    ensures { toldAnswer result ≡ freeAnswer lent.now }
+    ensures { told_answer result ≡ free_answer lent.now }
 {
     let r = load(lent);
     if r.laid {
@@ -152,8 +152,8 @@ pub fn free_numbers(lent: &[u8]) -> AboRegister
 
 // Gives the number n back: it is free again.
 pub fn give_back(lent: &mut [u8], n: u64) -> AboRegister
-    ensures result_value { toldAnswer result ≡ giveAnswer lent.old n }
-    ensures lent_after { lent.new ≡ giveAfter lent.old n }
+    ensures result_value { told_answer result ≡ give_answer lent.old n }
+    ensures lent_after { lent.new ≡ give_after lent.old n }
 {
     let r = load(lent);
     if r.laid {

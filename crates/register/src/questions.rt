@@ -2,13 +2,13 @@
 ghost use Rattle.std.specs.Prelude.{◌≡◌, true, ◌<◌};
 ghost use Rattle.fileline.specs.seen.Bits.{bit};
 ghost use Rattle.register.specs.Marks.{without, free, lowest};
-ghost use Rattle.register.specs.Register.{noneAbove};
+ghost use Rattle.register.specs.Register.{none_above};
 
 use fileline::seen::Seen;
 
 // How many numbers are free: 1,000 less the ones of all words.
 pub fn count_free(set: Seen) -> u64
-    requires { noneAbove (bit set.words) ≡ true }
+    requires { none_above (bit set.words) ≡ true }
     ensures { result ≡ free (bit set.words) 1000 }
 {
     let mut marked: u64 = 0;
@@ -23,7 +23,7 @@ pub fn count_free(set: Seen) -> u64
 // The lowest free number: the trailing zeros of the first complement that is not 0. In a full register that is bit 40 of the last word's, which
 // stands for 1,000.
 pub fn lowest_free(set: Seen) -> u64
-    requires { noneAbove (bit set.words) ≡ true }
+    requires { none_above (bit set.words) ≡ true }
     ensures { result ≡ lowest (bit set.words) 1000 }
 {
     let mut i: usize = 0;

@@ -7,7 +7,7 @@ use native.Mathlib.Omega.{arith}
 use lib.Dec.{eqb}
 use lib.ListN.{length, take, drop}
 use Rattle.base.specs.Pick.{pick}
-use Rattle.paper.specs.Days.{shortDay, readDay}
+use Rattle.paper.specs.Days.{short_day, read_day}
 use Rattle.paper.specs.Entries.{got, no}
 use Rattle.numeral.specs.declared.Num.{Num}
 use Rattle.numeral.specs.declared.Num.TheVariants.{Value, Refused}
@@ -16,47 +16,47 @@ use Rattle.numeral.proofs.field.Steps.{step-place}
 use Rattle.firstline.proofs.Steps.{step-no-date, step-day, step-no-day}
 use Rattle.register.specs.declared.Loaded.{Loaded}
 use Rattle.register.specs.Register.{fits}
-use Rattle.register.specs.Told.{told as toldRegister}
-use Rattle.against.specs.Against.{dayOf, isOther}
+use Rattle.register.specs.Told.{told as told_register}
+use Rattle.against.specs.Against.{day_of, is_other}
 
 module _ (reg : Loaded) (d : ℕ) where
-  fits-laid : reg.laid ≡ true → fits (toldRegister reg) d ≡ eqb d reg.date
+  fits-laid : reg.laid ≡ true → fits (told_register reg) d ≡ eqb d reg.date
   unfolding fits pick
   fits-laid e = rw e
 
-  fits-none : reg.laid ≡ false → fits (toldRegister reg) d ≡ false
+  fits-none : reg.laid ≡ false → fits (told_register reg) d ≡ false
   unfolding fits pick
   fits-none e = rw e
 
 module _ (s : List ℕ) (reg : Loaded) where
   -- the line ends before the date does
-  pub no-date : length s < 10 → false ≡ isOther (toldRegister reg) (dayOf s)
-  unfolding dayOf isOther
-  no-date h = ap (isOther (toldRegister reg)) (step-no-date (no 4 4) shortDay s _ h refl)
+  pub no-date : length s < 10 → false ≡ is_other (told_register reg) (day_of s)
+  unfolding day_of is_other
+  no-date h = ap (is_other (told_register reg)) (step-no-date (no 4 4) short_day s _ h refl)
 
   -- m is what the reader of dates answered
-  module _ (m : Num) (g : told m ≡ readDay false (take 6 (drop 4 s))) (long : 10 ≤ length s) where
-    read_as : (d : ℕ) → m ≡ Value d → got d ≡ dayOf s
-    unfolding dayOf
-    read_as d e = step-place (got d) 6 shortDay s 4 _ (omega arith) (step-day (got d) 4 (take 6 (drop 4 s)) _ m g d e refl)
+  module _ (m : Num) (g : told m ≡ read_day false (take 6 (drop 4 s))) (long : 10 ≤ length s) where
+    read-as : (d : ℕ) → m ≡ Value d → got d ≡ day_of s
+    unfolding day_of
+    read-as d e = step-place (got d) 6 short_day s 4 _ (omega arith) (step-day (got d) 4 (take 6 (drop 4 s)) _ m g d e refl)
 
-    unread-as : (c : ℕ) → m ≡ Refused c → no c 4 ≡ dayOf s
-    unfolding dayOf
-    unread-as c e = step-place (no c 4) 6 shortDay s 4 _ (omega arith) (step-no-day (no c 4) 4 (take 6 (drop 4 s)) _ m g c e refl)
+    unread-as : (c : ℕ) → m ≡ Refused c → no c 4 ≡ day_of s
+    unfolding day_of
+    unread-as c e = step-place (no c 4) 6 short_day s 4 _ (omega arith) (step-no-day (no c 4) 4 (take 6 (drop 4 s)) _ m g c e refl)
 
     -- it cannot be read
-    pub date-unread : (c : ℕ) → m ≡ Refused c → false ≡ isOther (toldRegister reg) (dayOf s)
-    unfolding isOther
-    date-unread c e = ap (isOther (toldRegister reg)) (unread-as c e)
+    pub date-unread : (c : ℕ) → m ≡ Refused c → false ≡ is_other (told_register reg) (day_of s)
+    unfolding is_other
+    date-unread c e = ap (is_other (told_register reg)) (unread-as c e)
 
     -- it is compared with the register's
-    pub date-read : (d : ℕ) → m ≡ Value d → reg.laid ≡ true → not (eqb d reg.date) ≡ isOther (toldRegister reg) (dayOf s)
-    unfolding isOther
-    date-read d e laid = ap not (sym (fits-laid reg d laid)) ∙ ap (isOther (toldRegister reg)) (read_as d e)
+    pub date-read : (d : ℕ) → m ≡ Value d → reg.laid ≡ true → not (eqb d reg.date) ≡ is_other (told_register reg) (day_of s)
+    unfolding is_other
+    date-read d e laid = ap not (sym (fits-laid reg d laid)) ∙ ap (is_other (told_register reg)) (read-as d e)
 
     -- a malformed register is for no day
-    pub date-malformed : (d : ℕ) → m ≡ Value d → reg.laid ≡ false → true ≡ isOther (toldRegister reg) (dayOf s)
-    unfolding isOther
-    date-malformed d e laid = ap not (sym (fits-none reg d laid)) ∙ ap (isOther (toldRegister reg)) (read_as d e)
+    pub date-malformed : (d : ℕ) → m ≡ Value d → reg.laid ≡ false → true ≡ is_other (told_register reg) (day_of s)
+    unfolding is_other
+    date-malformed d e laid = ap not (sym (fits-none reg d laid)) ∙ ap (is_other (told_register reg)) (read-as d e)
 
 pub ruleset dates = (no-date, date-unread, date-read, date-malformed)

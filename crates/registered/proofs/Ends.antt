@@ -11,9 +11,9 @@ use Rattle.base.proofs.Cases.{pick_true, pick-false}
 use Rattle.sheet.specs.declared.Sheet.{Sheet}
 use Rattle.paper.specs.Batch.{Header}
 use Rattle.paper.specs.Lines.{Line, line, lines_of, lines_from}
-use Rattle.paper.specs.Entries.{headLine, kind_of}
+use Rattle.paper.specs.Entries.{head_line, kind_of}
 use Rattle.paper.specs.FileLine.{member}
-use Rattle.paper.specs.Judge.{Refused, atFirst, stop, is, isDue, end_of}
+use Rattle.paper.specs.Judge.{Refused, at_first, stop, is, is_due, end_of}
 use Rattle.scan.specs.declared.line.Cut.{Cut}
 use Rattle.scan.specs.line.Cutting.{Cuts}
 use Rattle.scan.specs.declared.kind.LineKind.{LineKind}
@@ -29,9 +29,9 @@ use Rattle.judge.specs.declared.file.FileJudged.TheVariants as judged
 use Rattle.judge.specs.file.Answer.{told, Concluded, Kept}
 use Rattle.register.specs.declared.Loaded.{Loaded}
 use Rattle.register.specs.Register.{Register, used}
-use Rattle.register.specs.Told.{told as toldRegister, Sound}
-use Rattle.against.specs.Against.{dayOf, isOther, lineOn, stepOn, runOn, judgeOn}
-use Rattle.against.specs.Turned.{struck, isNine, turned}
+use Rattle.register.specs.Told.{told as told_register, Sound}
+use Rattle.against.specs.Against.{day_of, is_other, line_on, step_on, run_on, judge_on}
+use Rattle.against.specs.Turned.{struck, is_nine, turned}
 use Rattle.against.proofs.Outcome.{stopped-on}
 use Rattle.against.proofs.Answers.{strikes, turned-is, grown, marks-list}
 use Rattle.registered.specs.Judged.{Numbered, Judged}
@@ -48,7 +48,7 @@ never e = absurd (let z : ◌≡◌ {A = ℕ} 0 1 = cc in omega arith)
 
 turned-no : (own : Brief) (n l p : ℕ) → (k : ℕ) × (turned own (No n l p) ≡ No k l p)
 unfolding turned pick
-turned-no own n l p = go (eqb n 9) (isNine l p own)
+turned-no own n l p = go (eqb n 9) (is_nine l p own)
   where
     go : (a b : Bool) → (k : ℕ) × (pick a (pick b (No 9 l p) (No 22 l p)) (No n l p) ≡ No k l p)
     go true true = (9, refl)
@@ -69,17 +69,17 @@ no-accepted f x n l p e h r w q = never (ap (told f) (sym q) ∙ e)
 
 -- ---- the machine stops
 
-no_lines : (reg : Register) (sh : Sheet) (today : ℕ) (f : List ℕ) → length f ≡ 0 → runOn reg sh today (length f) 1 (lines_of 0 f) atFirst ≡ Refused 3 1 0
-unfolding runOn lines_of end_of
+no_lines : (reg : Register) (sh : Sheet) (today : ℕ) (f : List ℕ) → length f ≡ 0 → run_on reg sh today (length f) 1 (lines_of 0 f) at_first ≡ Refused 3 1 0
+unfolding run_on lines_of end_of
 no_lines reg sh today [] e = refl
 no_lines reg sh today (x ∷ f) e = absurd (omega arith)
 
 module _ (reg : Loaded) (sh : Sheet) (i : sh.interval ≡ true) (today : ℕ) (f : List ℕ) where
   abbrev r : Register
-  r = toldRegister reg
+  r = told_register reg
 
   -- a refusal has no numbers
-  refused : (n l p : ℕ) (set : Seen) → judgeOn r sh today f ≡ Refused n l p → Judged r sh today f (record { judged = judged.Refused n l p; seen = set })
+  refused : (n l p : ℕ) (set : Seen) → judge_on r sh today f ≡ Refused n l p → Judged r sh today f (record { judged = judged.Refused n l p; seen = set })
   unfolding brief
   refused n l p set e =
       record {
@@ -88,8 +88,8 @@ module _ (reg : Loaded) (sh : Sheet) (i : sh.interval ≡ true) (today : ℕ) (f
         numbered = λ h rows warnings q. no-accepted f (judged.Refused n l p) n l p refl h rows warnings q;
       }
 
-  on-empty : length f ≡ 0 → judgeOn r sh today f ≡ Refused 3 1 0
-  unfolding judgeOn
+  on-empty : length f ≡ 0 → judge_on r sh today f ≡ Refused 3 1 0
+  unfolding judge_on
   on-empty e = pick_true _ _ i ∙ no_lines r sh today f e
 
   -- the file is empty
@@ -97,24 +97,24 @@ module _ (reg : Loaded) (sh : Sheet) (i : sh.interval ≡ true) (today : ℕ) (f
   ends-empty set e = refused 3 1 0 set (on-empty e)
 
   module _ (cut : Cut) (cuts : Cuts f 0 cut) where
-    first_step : is headLine (kind_of (top f cut)) ≡ false → stepOn r sh today 1 (line 0 (top f cut)) atFirst ≡ stop (Refused 3 1 0)
-    unfolding stepOn lineOn isDue
+    first_step : is head_line (kind_of (top f cut)) ≡ false → step_on r sh today 1 (line 0 (top f cut)) at_first ≡ stop (Refused 3 1 0)
+    unfolding step_on line_on is_due
     first_step e = pick-false _ _ e
 
-    first_stops : is headLine (kind_of (top f cut)) ≡ false → runOn r sh today (length f) 1 (line 0 (top f cut) ∷ lines_from f cut.next) atFirst ≡ Refused 3 1 0
-    unfolding runOn
-    first_stops e = ap (runOn r sh today (length f) 2 (lines_from f cut.next)) (first_step e) ∙ stopped-on r sh today (length f) 2 (lines_from f cut.next) (Refused 3 1 0)
+    first_stops : is head_line (kind_of (top f cut)) ≡ false → run_on r sh today (length f) 1 (line 0 (top f cut) ∷ lines_from f cut.next) at_first ≡ Refused 3 1 0
+    unfolding run_on
+    first_stops e = ap (run_on r sh today (length f) 2 (lines_from f cut.next)) (first_step e) ∙ stopped-on r sh today (length f) 2 (lines_from f cut.next) (Refused 3 1 0)
 
-    on-other : is headLine (kind_of (top f cut)) ≡ false → judgeOn r sh today f ≡ Refused 3 1 0
-    unfolding judgeOn lines_from
-    on-other e = pick_true _ _ i ∙ (ap (λ (ls : List Line). runOn r sh today (length f) 1 ls atFirst) cuts.lines ∙ first_stops e)
+    on-other : is head_line (kind_of (top f cut)) ≡ false → judge_on r sh today f ≡ Refused 3 1 0
+    unfolding judge_on lines_from
+    on-other e = pick_true _ _ i ∙ (ap (λ (ls : List Line). run_on r sh today (length f) 1 ls at_first) cuts.lines ∙ first_stops e)
 
     -- 3: k is the kind that was found, v its name
-    pub ends-other : (set : Seen) (k : LineKind) → kinds.told k ≡ kind_of (top f cut) → (v : LineKind) → k ≡ v → is headLine (kinds.told v) ≡ false
+    pub ends-other : (set : Seen) (k : LineKind) → kinds.told k ≡ kind_of (top f cut) → (v : LineKind) → k ≡ v → is head_line (kinds.told v) ≡ false
         → Judged r sh today f (record { judged = judged.Refused 3 1 0; seen = set })
     ends-other set k t v e d = refused 3 1 0 set (on-other (rw (← t, e) d))
 
-    module _ (kind : kind_of (top f cut) ≡ headLine) (t : Bool) (g : t ≡ isOther r (dayOf (top f cut))) where
+    module _ (kind : kind_of (top f cut) ≡ head_line) (t : Bool) (g : t ≡ is_other r (day_of (top f cut))) where
       struck-is : struck r (lines_of 0 f) ≡ t
       unfolding struck lines_from pick
       struck-is = rw (cuts.lines, kind) (sym g)
@@ -134,7 +134,7 @@ module _ (reg : Loaded) (sh : Sheet) (i : sh.interval ≡ true) (today : ℕ) (f
         is-used : (n : ℕ) → used r n ≡ member n u
         is-used n = ap (λ (p : ℕ → Bool). p n) (sym sound) ∙ held n
 
-        answer : brief (judgeOn r sh today f) ≡ turned (tally sh today f) (told f ended.judged)
+        answer : brief (judge_on r sh today f) ≡ turned (tally sh today f) (told f ended.judged)
         answer = turned-is r sh today f i u is-used (struck-is ∙ not) ∙ ap (turned (tally sh today f)) (sym (concluded u held).same)
 
         -- refused, and told apart as x

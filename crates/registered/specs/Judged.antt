@@ -11,18 +11,18 @@ use Rattle.judge.specs.declared.file.FileJudged.TheVariants as judged
 use Rattle.judge.specs.file.Answer.{head_of, told, Kept}
 use Rattle.register.specs.Marks.{with}
 use Rattle.register.specs.Register.{Register, used}
-use Rattle.against.specs.Against.{judgeOn}
+use Rattle.against.specs.Against.{judge_on}
 
 -- an accepted file: its batch, which the file alone is accepted as too, and in the words its numbers besides those that were marked
 pub record Numbered (reg : Register) (sh : Sheet) (today : ℕ) (f : List ℕ) (h : Head) (rows warnings : ℕ) (words : List ℕ) : Type 0 where
   pub batch : Batch
   pub alone : judge sh today f ≡ Accepted (head_of f h) batch warnings
-  pub against : judgeOn reg sh today f ≡ Accepted (head_of f h) batch warnings
+  pub against : judge_on reg sh today f ≡ Accepted (head_of f h) batch warnings
   pub rows_all : rows ≡ length (things batch)
   pub holds : bit words ≡ with (seen batch) (used reg)
 
 -- r is what the file comes to against the register
 pub record Judged (reg : Register) (sh : Sheet) (today : ℕ) (f : List ℕ) (r : Ended) : Type 0 where
-  pub same : told f r.judged ≡ brief (judgeOn reg sh today f)
+  pub same : told f r.judged ≡ brief (judge_on reg sh today f)
   pub kept : Kept f r.judged
   pub numbered : (h : Head) (rows warnings : ℕ) → r.judged ≡ judged.Accepted h rows warnings → Numbered reg sh today f h rows warnings r.seen.words

@@ -3,18 +3,18 @@
 ghost use Rattle.std.specs.Prelude.{◌≡◌, true, ◌-◌, ◌/◌, length, take, drop};
 ghost use Rattle.sheet.specs.declared.Known.TheVariants as known;
 ghost use Rattle.sheet.proofs.Laws.{Sane};
-ghost use Rattle.paper.specs.Days.{realDay};
-ghost use Rattle.paper.specs.Entries.{headLine, kind_of};
-ghost use Rattle.paper.specs.Rows.{rowSize};
+ghost use Rattle.paper.specs.Days.{real_day};
+ghost use Rattle.paper.specs.Entries.{head_line, kind_of};
+ghost use Rattle.paper.specs.Rows.{row_size};
 ghost use Rattle.scan.specs.line.Cutting.{Cuts};
 ghost use Rattle.tally.specs.Short.{No, tally};
-ghost use Rattle.judge.specs.file.Answer.{told as toldJudged};
-ghost use Rattle.read.specs.Told.{told as toldRead};
-ghost use Rattle.register.specs.Register.{registerOf};
-ghost use Rattle.register.specs.Told.{told as toldRegister, Sound};
-ghost use Rattle.against.specs.Against.{dayOf, isOther};
+ghost use Rattle.judge.specs.file.Answer.{told as told_judged};
+ghost use Rattle.read.specs.Told.{told as told_read};
+ghost use Rattle.register.specs.Register.{register_of};
+ghost use Rattle.register.specs.Told.{told as told_register, Sound};
+ghost use Rattle.against.specs.Against.{day_of, is_other};
 ghost use Rattle.against.specs.Turned.{turned};
-ghost use Rattle.against.specs.Registered.{registeredWith, registeredAnswer, registeredRowsWith, registeredRows, registerWith, registerAfter};
+ghost use Rattle.against.specs.Registered.{registered_with, registered_answer, registered_rows_with, registered_rows, register_with, register_after};
 ghost use Rattle.registered.specs.Judged.{Judged};
 
 use judge::file::{Ended, FileJudged};
@@ -29,7 +29,7 @@ use sheet::{Known, Sheet};
 
 // Has a first line a date that can be read and that the register is not for?
 fn other_day(s: &[u8], reg: Loaded) -> bool
-    ensures { result ≡ isOther (toldRegister reg) (dayOf s.now) }
+    ensures { result ≡ is_other (told_register reg) (day_of s.now) }
 {
     if s.len() < 10 {
         return false;
@@ -42,8 +42,8 @@ fn other_day(s: &[u8], reg: Loaded) -> bool
 
 // A refusal of the file with the register's numbers seen before. A 9 is the file's own, if the file gets it without them too; else 22.
 fn told_apart(f: &[u8], sh: Sheet, today: u64, n: u64, line: u64, byte: u64) -> FileJudged
-    requires { Sane sh × (realDay today ≡ true) }
-    ensures { toldJudged f.now result ≡ turned (tally sh today f.now) (No n line byte) }
+    requires { Sane sh × (real_day today ≡ true) }
+    ensures { told_judged f.now result ≡ turned (tally sh today f.now) (No n line byte) }
 {
     if n != 9 {
         return FileJudged::Refused(n, line, byte);
@@ -69,11 +69,11 @@ fn told_apart(f: &[u8], sh: Sheet, today: u64, n: u64, line: u64, byte: u64) -> 
 
 // The first line, which is known as one, and everything behind it.
 fn from_first(f: &[u8], sh: Sheet, today: u64, cut: Cut, reg: Loaded) -> Ended
-    requires sane { Sane sh × (realDay today ≡ true) × (sh.interval ≡ true) }
+    requires sane { Sane sh × (real_day today ≡ true) × (sh.interval ≡ true) }
     requires cuts { Cuts f.now 0 cut }
-    requires f_value { kind_of (take (cut.stop - 0) (drop 0 f.now)) ≡ headLine }
+    requires f_value { kind_of (take (cut.stop - 0) (drop 0 f.now)) ≡ head_line }
     requires sound { Sound reg }
-    ensures { Judged (toldRegister reg) sh today f.now result }
+    ensures { Judged (told_register reg) sh today f.now result }
 {
     let stop = cut.stop;
     let set = reg.set;
@@ -103,9 +103,9 @@ fn from_first(f: &[u8], sh: Sheet, today: u64, cut: Cut, reg: Loaded) -> Ended
 
 // The answer of a whole file on a sheet that looks at the register, with the numbers seen by then.
 fn judge_file(f: &[u8], sh: Sheet, today: u64, reg: Loaded) -> Ended
-    requires sane { Sane sh × (realDay today ≡ true) × (sh.interval ≡ true) }
+    requires sane { Sane sh × (real_day today ≡ true) × (sh.interval ≡ true) }
     requires sound { Sound reg }
-    ensures { Judged (toldRegister reg) sh today f.now result }
+    ensures { Judged (told_register reg) sh today f.now result }
 {
     let set = reg.set;
     let early = Ended {
@@ -137,10 +137,10 @@ fn read_numbered(
     rows: &mut [u8],
     register: &mut [u8],
 ) -> AboAnswer
-    requires { Sane sh × (realDay today ≡ true) × (sh.interval ≡ true) }
-    ensures result_value { toldRead result ≡ registeredWith (known.Sheet sh) today file.now (length rows.old / rowSize) (registerOf register.old) }
-    ensures rows_after { rows.new ≡ registeredRowsWith (known.Sheet sh) today file.now rows.old (registerOf register.old) }
-    ensures register_after { register.new ≡ registerWith (known.Sheet sh) today file.now (length rows.old / rowSize) register.old }
+    requires { Sane sh × (real_day today ≡ true) × (sh.interval ≡ true) }
+    ensures result_value { told_read result ≡ registered_with (known.Sheet sh) today file.now (length rows.old / row_size) (register_of register.old) }
+    ensures rows_after { rows.new ≡ registered_rows_with (known.Sheet sh) today file.now rows.old (register_of register.old) }
+    ensures register_after { register.new ≡ register_with (known.Sheet sh) today file.now (length rows.old / row_size) register.old }
 {
     let reg = register::load(register);
     let ended = judge_file(file, sh, today, reg);
@@ -165,9 +165,9 @@ fn read_numbered(
 // The answer on the sheet sh. Where it does not look at the register, or the day is not real, reading's own.
 fn read_on(file: &[u8], sh: Sheet, today: u64, rows: &mut [u8], register: &mut [u8]) -> AboAnswer
     requires { Sane sh }
-    ensures result_value { toldRead result ≡ registeredWith (known.Sheet sh) today file.now (length rows.old / rowSize) (registerOf register.old) }
-    ensures rows_after { rows.new ≡ registeredRowsWith (known.Sheet sh) today file.now rows.old (registerOf register.old) }
-    ensures register_after { register.new ≡ registerWith (known.Sheet sh) today file.now (length rows.old / rowSize) register.old }
+    ensures result_value { told_read result ≡ registered_with (known.Sheet sh) today file.now (length rows.old / row_size) (register_of register.old) }
+    ensures rows_after { rows.new ≡ registered_rows_with (known.Sheet sh) today file.now rows.old (register_of register.old) }
+    ensures register_after { register.new ≡ register_with (known.Sheet sh) today file.now (length rows.old / row_size) register.old }
 {
     if sh.interval {
         if calendar::real_day(today) {
@@ -186,9 +186,9 @@ pub fn read_registered(
     rows: &mut [u8],
     register: &mut [u8],
 ) -> AboAnswer
-    ensures result_value { toldRead result ≡ registeredAnswer sheet today file.now rows.old register.old }
-    ensures rows_after { rows.new ≡ registeredRows sheet today file.now rows.old register.old }
-    ensures register_after { register.new ≡ registerAfter sheet today file.now rows.old register.old }
+    ensures result_value { told_read result ≡ registered_answer sheet today file.now rows.old register.old }
+    ensures rows_after { rows.new ≡ registered_rows sheet today file.now rows.old register.old }
+    ensures register_after { register.new ≡ register_after sheet today file.now rows.old register.old }
 {
     match sheet::sheet_of(sheet) {
         Known::Sheet(sh) => read_on(file, sh, today, rows, register),

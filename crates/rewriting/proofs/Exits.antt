@@ -9,19 +9,19 @@ use Rattle.base.specs.Put.{Wrote}
 use Rattle.base.proofs.Lists.{rest-whole}
 use Rattle.sheet.specs.declared.Sheet.{Sheet}
 use Rattle.sheet.specs.declared.Known.TheVariants as known
-use Rattle.sheet.specs.Sheets.{sheetOf}
-use Rattle.paper.specs.Days.{realDay}
+use Rattle.sheet.specs.Sheets.{sheet_of}
+use Rattle.paper.specs.Days.{real_day}
 use Rattle.paper.specs.Judge.{judge}
-use Rattle.paper.specs.Reading.{readAnswer, rowsAfter}
-use Rattle.paper.specs.Explaining.{refusedLine}
+use Rattle.paper.specs.Reading.{read_answer, rows_after}
+use Rattle.paper.specs.Explaining.{refused_line}
 use Rattle.paper.specs.Writing.{drafted, draft}
 use Rattle.paper.specs.Rewriting.{rewritten, rewriting}
 use Rattle.read.specs.declared.AboAnswer.{AboAnswer}
-use Rattle.read.specs.Told.{toldHeader, told}
+use Rattle.read.specs.Told.{told_header, told}
 use Rattle.rewriting.specs.declared.request.Request.{Request}
 use Rattle.rewriting.specs.declared.request.Request.TheVariants as request
 use Rattle.rewriting.specs.request.Asked.{answer, Sound}
-use Rattle.bounds.specs.Most.{mostInput, mostRows, mostOutput}
+use Rattle.bounds.specs.Most.{most_input, most_rows, most_output}
 use Rattle.numeral.specs.counted.Counted.{Counted}
 use Rattle.numeral.proofs.counted.Laws.{counted-wrote}
 use Rattle.verdict.proofs.Wording.{refused-most}
@@ -29,47 +29,47 @@ use Rattle.rewriting.proofs.Front.{wrote-same}
 use Rattle.rewriting.proofs.Read.{Outcome, refuses, accepts, outcome}
 
 -- a refusal's line has room, so that what was counted was written
-pub line_wrote : (n l p : ℕ) {o o' : List ℕ} {r : ℕ} → mostOutput ≤ length o → Counted o 0 (refusedLine n l p) o' r → Wrote o 0 (refusedLine n l p) o' r
+pub line_wrote : (n l p : ℕ) {o o' : List ℕ} {r : ℕ} → most_output ≤ length o → Counted o 0 (refused_line n l p) o' r → Wrote o 0 (refused_line n l p) o' r
 line_wrote n l p h w = counted-wrote w (omega (arith, refused-most n l p)) (omega (arith, refused-most n l p))
 
 -- ---- rewrite_file: a is what read_file answered, left the rows behind it
 
 module _ (sh : Sheet) (today : ℕ) (f : List ℕ)
-    (known : (sheetOf sh.number ≡ known.Sheet sh) × (realDay today ≡ true) × (length f ≤ mostInput))
-    (lent : List ℕ) (room : 192 * mostRows ≤ length lent)
-    (a : AboAnswer) (g : told a ≡ readAnswer sh.number today f lent) (left : List ℕ) (i : left ≡ rowsAfter sh.number today f lent) where
+    (known : (sheet_of sh.number ≡ known.Sheet sh) × (real_day today ≡ true) × (length f ≤ most_input))
+    (lent : List ℕ) (room : 192 * most_rows ≤ length lent)
+    (a : AboAnswer) (g : told a ≡ read_answer sh.number today f lent) (left : List ℕ) (i : left ≡ rows_after sh.number today f lent) where
   out : Outcome sh today f left (told a)
   out = outcome sh known.0 today known.1 f lent known.2 room (told a) left g i
 
-  few : a.number ≡ 0 → Outcome sh today f left (told a) → a.rows ≤ mostRows
+  few : a.number ≡ 0 → Outcome sh today f left (told a) → a.rows ≤ most_rows
   few z (refuses n e) = absurd (n z)
   few z (accepts n r l e) = r
 
   pub rows_few : a.number ≡ 0 → a.rows ≤ 1024
   rows_few z = few z out
 
-  module _ (o o' : List ℕ) (r : ℕ) (most : mostOutput ≤ length o) where
+  module _ (o o' : List ℕ) (r : ℕ) (most : most_output ≤ length o) where
     -- what write_back did with the rows that were read
     back : a.number ≡ 0 → Outcome sh today f left (told a)
-        → ((s : List ℕ) → draft sh.number today (toldHeader a.header) (take (192 * a.rows) left) f ≡ drafted s → length s ≤ length o → Wrote o 0 s o' r)
+        → ((s : List ℕ) → draft sh.number today (told_header a.header) (take (192 * a.rows) left) f ≡ drafted s → length s ≤ length o → Wrote o 0 s o' r)
         → Wrote o 0 (rewritten sh (judge sh today f)) o' r
     back z (refuses n e) w = absurd (n z)
     back z (accepts n q l e) w = w (rewritten sh (judge sh today f)) e (omega arith)
 
     pub written_back : a.number ≡ 0
-        → ((s : List ℕ) → draft sh.number today (toldHeader a.header) (take (192 * a.rows - 0) (drop 0 left)) f ≡ drafted s → length s ≤ length o → Wrote o 0 s o' r)
+        → ((s : List ℕ) → draft sh.number today (told_header a.header) (take (192 * a.rows - 0) (drop 0 left)) f ≡ drafted s → length s ≤ length o → Wrote o 0 s o' r)
         → Wrote o 0 (rewritten sh (judge sh today f)) o' r
     written_back z w =
         let n : 192 * a.rows - 0 ≡ 192 * a.rows = omega arith in
         let part : take (192 * a.rows - 0) left ≡ take (192 * a.rows) left = ap (λ (m : ℕ). take m left) n in
-        back z out (λ s e l. w s (ap (λ (p : List ℕ). draft sh.number today (toldHeader a.header) p f) part ∙ e) l)
+        back z out (λ s e l. w s (ap (λ (p : List ℕ). draft sh.number today (told_header a.header) p f) part ∙ e) l)
 
-    line : (a.number ≡ 0 → ⊥) → Outcome sh today f left (told a) → Wrote o 0 (refusedLine a.number a.line a.byte) o' r
+    line : (a.number ≡ 0 → ⊥) → Outcome sh today f left (told a) → Wrote o 0 (refused_line a.number a.line a.byte) o' r
         → Wrote o 0 (rewritten sh (judge sh today f)) o' r
-    line z (refuses n e) w = wrote-same o (refusedLine a.number a.line a.byte) (rewritten sh (judge sh today f)) o' r (sym e) w
+    line z (refuses n e) w = wrote-same o (refused_line a.number a.line a.byte) (rewritten sh (judge sh today f)) o' r (sym e) w
     line z (accepts n q l e) w = absurd (z n)
 
-    pub refused-line : (a.number ≡ 0 → ⊥) → Wrote o 0 (refusedLine a.number a.line a.byte) o' r → Wrote o 0 (rewritten sh (judge sh today f)) o' r
+    pub refused-line : (a.number ≡ 0 → ⊥) → Wrote o 0 (refused_line a.number a.line a.byte) o' r → Wrote o 0 (rewritten sh (judge sh today f)) o' r
     refused-line z w = line z out w
 
 pub ruleset files = (line_wrote, rows_few, written_back, refused-line)
@@ -77,8 +77,8 @@ pub ruleset files = (line_wrote, rows_few, written_back, refused-line)
 -- ---- rewrite: q is the request
 
 module _ (f : List ℕ) (q : Request) (g : answer f q ≡ rewriting f) (sound : Sound f q) where
-  pub no-file : (n : ℕ) → q ≡ request.Refused n → (o o' : List ℕ) (r : ℕ) → Wrote o 0 (refusedLine n 0 0) o' r → Wrote o 0 (rewriting f) o' r
-  no-file n e o o' r w = let h : answer f (request.Refused n) ≡ rewriting f = rw e at g in wrote-same o (refusedLine n 0 0) (rewriting f) o' r h w
+  pub no-file : (n : ℕ) → q ≡ request.Refused n → (o o' : List ℕ) (r : ℕ) → Wrote o 0 (refused_line n 0 0) o' r → Wrote o 0 (rewriting f) o' r
+  no-file n e o o' r w = let h : answer f (request.Refused n) ≡ rewriting f = rw e at g in wrote-same o (refused_line n 0 0) (rewriting f) o' r h w
 
   module _ (sh : Sheet) (today at : ℕ) (e : q ≡ request.File sh today at) where
     said : Sound f (request.File sh today at)
@@ -87,13 +87,13 @@ module _ (f : List ℕ) (q : Request) (g : answer f q ≡ rewriting f) (sound : 
     pub file-place : at ≤ length f
     file-place = said.2
 
-    pub file-sheet : sheetOf sh.number ≡ known.Sheet sh
+    pub file-sheet : sheet_of sh.number ≡ known.Sheet sh
     file-sheet = said.0
 
-    pub file-day : realDay today ≡ true
+    pub file-day : real_day today ≡ true
     file-day = said.1
 
-    pub file-small : length (take (length f - at) (drop at f)) ≤ mostInput
+    pub file-small : length (take (length f - at) (drop at f)) ≤ most_input
     file-small = rw (rest-whole f at) (let l : length f ≤ 8192 = said.3 in omega (arith, l, length-drop at f))
 
     pub file-rewritten : (o o' : List ℕ) (r : ℕ) → Wrote o 0 (rewritten sh (judge sh today (take (length f - at) (drop at f)))) o' r → Wrote o 0 (rewriting f) o' r

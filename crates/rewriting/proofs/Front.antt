@@ -7,7 +7,7 @@ use lib.ListN.{length, drop}
 use borrow.Author.Tests.{le-ltb}
 use Rattle.base.specs.Put.{put, Wrote}
 use Rattle.base.proofs.Cases.{pick-false}
-use Rattle.paper.specs.Writing.{Draft, drafted, WriteAnswer, writtenIn, outputAfter}
+use Rattle.paper.specs.Writing.{Draft, drafted, WriteAnswer, written_in, output_after}
 use Rattle.write.specs.declared.AboWritten.{AboWritten}
 use Rattle.write.specs.Told.{told}
 
@@ -21,13 +21,13 @@ pub determined : (o s o' o'' : List ℕ) (r r' : ℕ) → Wrote o 0 s o' r → W
 determined o s o' o'' r r' w v = (w.next ∙ sym v.next, w.left ∙ sym v.left)
 
 -- w is the answer of writing, with the output it left: a draft that has room was written at the front
-pub draft-wrote : (w : AboWritten) (o o' : List ℕ) (d : Draft) → told w ≡ writtenIn (length o) d → o' ≡ outputAfter o d
+pub draft-wrote : (w : AboWritten) (o o' : List ℕ) (d : Draft) → told w ≡ written_in (length o) d → o' ≡ output_after o d
     → (s : List ℕ) → d ≡ drafted s → length s ≤ length o → Wrote o 0 s o' w.bytes
-unfolding writtenIn outputAfter
+unfolding written_in output_after
 draft-wrote w o o' d a l s e room =
     let f = le-ltb (length o) (length s) room in
-    let n : w.bytes ≡ length s = ap (λ (x : WriteAnswer). x.bytes) (a ∙ ap (writtenIn (length o)) e ∙ pick-false _ _ f) in
-    record { room = omega arith; next = omega arith; left = l ∙ ap (outputAfter o) e ∙ pick-false _ _ f ∙ front-put o s }
+    let n : w.bytes ≡ length s = ap (λ (x : WriteAnswer). x.bytes) (a ∙ ap (written_in (length o)) e ∙ pick-false _ _ f) in
+    record { room = omega arith; next = omega arith; left = l ∙ ap (output_after o) e ∙ pick-false _ _ f ∙ front-put o s }
 
 -- the same bytes under another name
 pub wrote-same : (o s t o' : List ℕ) (r : ℕ) → s ≡ t → Wrote o 0 s o' r → Wrote o 0 t o' r

@@ -4,13 +4,13 @@ pub mod request;
 ghost use Rattle.std.specs.Prelude.{◌≡◌, true, List, ℕ, ◌*◌, ◌≤◌, length};
 ghost use Rattle.base.specs.Put.{Wrote};
 ghost use Rattle.sheet.specs.declared.Known.TheVariants as known;
-ghost use Rattle.sheet.specs.Sheets.{sheetOf};
-ghost use Rattle.paper.specs.Days.{realDay};
+ghost use Rattle.sheet.specs.Sheets.{sheet_of};
+ghost use Rattle.paper.specs.Days.{real_day};
 ghost use Rattle.paper.specs.Judge.{judge};
 ghost use Rattle.paper.specs.Writing.{drafted, draft};
 ghost use Rattle.paper.specs.Rewriting.{rewritten, rewriting};
-ghost use Rattle.read.specs.Told.{toldHeader};
-ghost use Rattle.bounds.specs.Most.{mostInput, mostRows, mostOutput};
+ghost use Rattle.read.specs.Told.{told_header};
+ghost use Rattle.bounds.specs.Most.{most_input, most_rows, most_output};
 
 use crate::request::Request;
 use read::AboHeader;
@@ -25,7 +25,7 @@ fn write_back(
     today: u64,
     out: &mut [u8],
 ) -> usize
-    ensures { (s : List ℕ) → draft sheet today (toldHeader h) rows.now file.now ≡ drafted s → length s ≤ length out.old → Wrote out.old 0 s out.new result }
+    ensures { (s : List ℕ) → draft sheet today (told_header h) rows.now file.now ≡ drafted s → length s ≤ length out.old → Wrote out.old 0 s out.new result }
 {
     let w = write::write_file(
         rows, file, h.date, &h.name, h.client, h.from, h.to, sheet, today, out,
@@ -35,8 +35,8 @@ fn write_back(
 
 // Rewrites a file on a known sheet and a real day.
 fn rewrite_file(file: &[u8], sh: Sheet, today: u64, rows: &mut [u8], out: &mut [u8]) -> usize
-    requires number_value { (sheetOf sh.number ≡ known.Sheet sh) × (realDay today ≡ true) × (length file.now ≤ mostInput) }
-    requires most_rows_in_bounds { (192 * mostRows ≤ length rows.old) × (mostOutput ≤ length out.old) }
+    requires number_value { (sheet_of sh.number ≡ known.Sheet sh) × (real_day today ≡ true) × (length file.now ≤ most_input) }
+    requires most_rows_in_bounds { (192 * most_rows ≤ length rows.old) × (most_output ≤ length out.old) }
     ensures { Wrote out.old 0 (rewritten sh (judge sh today file.now)) out.new result }
 {
     let a = read::read_file(file, sh.number, today, rows);
@@ -50,7 +50,7 @@ fn rewrite_file(file: &[u8], sh: Sheet, today: u64, rows: &mut [u8], out: &mut [
 // Puts at the output's front what the program writes for the input; the rows are room to work in. A line that gives a row has 8 bytes or
 // more, so that 8 KiB give 1,024 rows at most; and a row's lines have at most 345 bytes in the canonical file.
 pub fn rewrite(input: &[u8], rows: &mut [u8], out: &mut [u8]) -> usize
-    requires { (192 * mostRows ≤ length rows.old) × (mostOutput ≤ length out.old) }
+    requires { (192 * most_rows ≤ length rows.old) × (most_output ≤ length out.old) }
     ensures { Wrote out.old 0 (rewriting input.now) out.new result }
 {
     match crate::request::read_request(input) {

@@ -1,8 +1,8 @@
 // The first line of the rewriting program's input: the sheet's letter, a space, and today.
 ghost use Rattle.std.specs.Prelude.{◌≡◌, ◌<◌, length, get_or};
 ghost use Rattle.sheet.specs.declared.Known.TheVariants as known;
-ghost use Rattle.sheet.specs.Sheets.{sheetBy};
-ghost use Rattle.paper.specs.Rewriting.{dayField, rewriting};
+ghost use Rattle.sheet.specs.Sheets.{sheet_by};
+ghost use Rattle.paper.specs.Rewriting.{day_field, rewriting};
 ghost use Rattle.numeral.specs.Told.{told};
 ghost use Rattle.rewriting.specs.request.Asked.{answer, Sound};
 
@@ -19,7 +19,7 @@ pub enum Request {
 
 // A space, and today as DDMMRR.
 fn read_today(s: &[u8]) -> Num
-    ensures { told result ≡ dayField s.now }
+    ensures { told result ≡ day_field s.now }
 {
     if s.len() == 0 {
         return Num::Refused(2);
@@ -33,7 +33,7 @@ fn read_today(s: &[u8]) -> Num
 // Behind the letter, which names the sheet sh: 2, then 16, then the file.
 fn on_sheet(input: &[u8], sh: Sheet) -> Request
     requires input_nonzero { 0 < length input.now }
-    requires input_value { sheetBy (get_or input.now 0 0) ≡ known.Sheet sh }
+    requires input_value { sheet_by (get_or input.now 0 0) ≡ known.Sheet sh }
     ensures result_value { answer input.now result ≡ rewriting input.now }
     ensures sound { Sound input.now result }
 {

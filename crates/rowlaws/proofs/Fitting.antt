@@ -3,7 +3,7 @@ use mathlib.Core.List.{List, [], ◌∷◌}
 use Prim.Native.Nat.{ℕ, ◌^◌, ◌<◌, ◌≤◌}
 use native.Mathlib.Omega.{arith}
 use lib.ListN.{length}
-use Rattle.paper.specs.Batch.{Item, Group, AccountFile, Batch, Thing, itemThings, groupThings, things, sum, most14}
+use Rattle.paper.specs.Batch.{Item, Group, AccountFile, Batch, Thing, item_things, group_things, things, sum, most14}
 use Rattle.paper.specs.Spells.{GroupRules, FileRules}
 use Rattle.out.specs.word.Sizes.{Smalls}
 use Rattle.rowlaws.proofs.Row.{Fair}
@@ -20,13 +20,13 @@ rows_fit (next r rs) l (a, b) = (r.small l a, rows_fit rs l b)
 
 -- ---- for a group's sum has at most 14 digits
 
-fair-items : (xs : List Item) (r : List Thing) → sum xs ≤ most14 → Fairs r → Fairs (itemThings xs r)
-unfolding itemThings sum
+fair-items : (xs : List Item) (r : List Thing) → sum xs ≤ most14 → Fairs r → Fairs (item_things xs r)
+unfolding item_things sum
 fair-items [] r h a = a
 fair-items (x ∷ xs) r h a = (omega arith, fair-items xs r (omega arith) a)
 
-fair-groups : (gs : List Group) (r : List Thing) → GroupRules gs → Fairs r → Fairs (groupThings gs r)
-unfolding groupThings
+fair-groups : (gs : List Group) (r : List Thing) → GroupRules gs → Fairs r → Fairs (group_things gs r)
+unfolding group_things
 fair-groups [] r h a = a
 fair-groups (g ∷ gs) r (_, s, h) a = (tt, fair-items g.items _ s (fair-groups gs r h a))
 

@@ -9,8 +9,8 @@ use Rattle.sheet.specs.declared.Sheet.{Sheet}
 use Rattle.paper.specs.Batch.{Batch, Header, things}
 use Rattle.paper.specs.Lines.{Line, lines_of}
 use Rattle.paper.specs.Judge.{Accepted, judge}
-use Rattle.paper.specs.Words.{rowsBytes}
-use Rattle.paper.specs.Rows.{rowsIn, thingsIn, linesRows}
+use Rattle.paper.specs.Words.{rows_bytes}
+use Rattle.paper.specs.Rows.{rows_in, things_in, lines_rows}
 use Rattle.out.specs.word.Sizes.{Long, Smalls}
 use Rattle.out.proofs.word.Rows.{rows-length, rows_back}
 use Rattle.scan.proofs.line.Places.{lines-stand}
@@ -20,29 +20,29 @@ use Rattle.rowlaws.proofs.Fitting.{batch-small}
 use Rattle.rowlaws.proofs.Lengths.{lines_long}
 
 -- every row of any lines has 24 words
-pub row_words : (sh : Sheet) (today : ℕ) (single : Bool) (ls : List Line) → Long 24 (linesRows sh today single ls)
-row_words = lines_long
+pub row-words : (sh : Sheet) (today : ℕ) (single : Bool) (ls : List Line) → Long 24 (lines_rows sh today single ls)
+row-words = lines_long
 
 module _ (sh : Sheet) (today : ℕ) (f : List ℕ) (h : Header) (b : Batch) (w : ℕ) (accepted : judge sh today f ≡ Accepted h b w) where
-  all-rows : Rows f (linesRows sh today false (lines_of 0 f)) (things b)
+  all-rows : Rows f (lines_rows sh today false (lines_of 0 f)) (things b)
   all-rows = batch-rows sh today f h b w (lines-stand f) ((exact sh today f h b w).0 accepted).lines
 
   -- there are as many rows as the batch has account files, groups and items,
-  pub row_count : length (linesRows sh today false (lines_of 0 f)) ≡ length (things b)
-  row_count = rows-count all-rows
+  pub row-count : length (lines_rows sh today false (lines_of 0 f)) ≡ length (things b)
+  row-count = rows-count all-rows
 
   -- 192 bytes for each;
-  pub row-bytes : length (rowsBytes (linesRows sh today false (lines_of 0 f))) ≡ 192 * length (things b)
-  row-bytes = rows-length 24 _ (row_words sh today false (lines_of 0 f)) ∙ ap (λ (n : ℕ). 192 * n) row_count
+  pub row-bytes : length (rows_bytes (lines_rows sh today false (lines_of 0 f))) ≡ 192 * length (things b)
+  row-bytes = rows-length 24 _ (row-words sh today false (lines_of 0 f)) ∙ ap (λ (n : ℕ). 192 * n) row-count
 
   -- over the file's own bytes they hold the batch;
-  pub rows-hold : thingsIn f (linesRows sh today false (lines_of 0 f)) ≡ things b
+  pub rows-hold : things_in f (lines_rows sh today false (lines_of 0 f)) ≡ things b
   rows-hold = rows_tell all-rows
 
   -- and where the file's places fit eight bytes, so do the words,
-  pub rows-small : length f < 2 ^ 64 → Smalls (linesRows sh today false (lines_of 0 f))
+  pub rows-small : length f < 2 ^ 64 → Smalls (lines_rows sh today false (lines_of 0 f))
   rows-small l = batch-small f _ b all-rows ((exact sh today f h b w).0 accepted).rules.3 l
 
   -- so that the rows are got back from their bytes.
-  pub rows-return : length f < 2 ^ 64 → rowsIn (rowsBytes (linesRows sh today false (lines_of 0 f))) ≡ linesRows sh today false (lines_of 0 f)
-  rows-return l = rows_back 24 (lit< tt) _ (row_words sh today false (lines_of 0 f)) (rows-small l)
+  pub rows-return : length f < 2 ^ 64 → rows_in (rows_bytes (lines_rows sh today false (lines_of 0 f))) ≡ lines_rows sh today false (lines_of 0 f)
+  rows-return l = rows_back 24 (lit< tt) _ (row-words sh today false (lines_of 0 f)) (rows-small l)

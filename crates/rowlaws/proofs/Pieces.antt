@@ -9,17 +9,17 @@ use Rattle.base.proofs.Cases.{either}
 use Rattle.sheet.specs.declared.Style.{Style}
 use Rattle.paper.specs.Read.{Field, value, fault}
 use Rattle.paper.specs.Bytes.{bar, null}
-use Rattle.paper.specs.Texts.{Piece, piece, Noted, others, divide, cut, pad, fitted, finish, messageEnd, message, marked, readText}
+use Rattle.paper.specs.Texts.{Piece, piece, Noted, others, divide, cut, pad, fitted, finish, message_end, message, marked, read_text}
 use Rattle.rowlaws.specs.Places.{Here, Lies, Lie, Placed}
 use Rattle.rowlaws.proofs.Here.{here-take, here-drop}
 
 -- what is read has its pieces in their places
 pub data Outcome (w : List ℕ) : Field Noted → Type 0 where
-  of-value : {x : Noted} → Placed w x → Outcome w (value x)
-  of-fault : {n : ℕ} → Outcome w (fault n)
+  of_value : {x : Noted} → Placed w x → Outcome w (value x)
+  of_fault : {n : ℕ} → Outcome w (fault n)
 
 pub outcome-value : {w : List ℕ} {x : Noted} → Outcome w (value x) → Placed w x
-outcome-value (of-value p) = p
+outcome-value (of_value p) = p
 
 module _ (w : List ℕ) where
   lies-cut : (p : Piece) → Lies w p → Lies w (cut p)
@@ -58,37 +58,37 @@ module _ (w : List ℕ) where
     fits : (ps : List Piece) (n : Piece) → Lie w ps → Lies w n → Outcome w (fitted y ps n)
     unfolding fitted
     fits ps n h i =
-        either (Outcome w) _ (λ _. of-fault)
+        either (Outcome w) _ (λ _. of_fault)
         (λ _. either (Outcome w) _
-        (λ _. of-value (record { four = pad-length 4 (map cut ps); parts = lie-pad 4 (map cut ps) (lie_cut ps h); name = lies-cut n i }))
-        (λ _. of-fault))
+        (λ _. of_value (record { four = pad-length 4 (map cut ps); parts = lie-pad 4 (map cut ps) (lie_cut ps h); name = lies-cut n i }))
+        (λ _. of_fault))
 
     finished : (ps : List Piece) (n : Piece) → Lie w ps → Lies w n → Outcome w (finish y ps n)
     unfolding finish
-    finished ps n h i = either (Outcome w) _ (λ _. fits ps n h i) (λ _. of-fault)
+    finished ps n h i = either (Outcome w) _ (λ _. fits ps n h i) (λ _. of_fault)
 
     messaged : (at : ℕ) (m : List ℕ) → Here w at m → Outcome w (message y at m)
     unfolding message
     messaged at m h =
-        finished (divide at (take (messageEnd y m) m)) (piece (at + (messageEnd y m + 4)) (drop (messageEnd y m + 4) m))
-        (lie-divide at (take (messageEnd y m) m) (here-take w at m h (messageEnd y m)))
-        (here-drop w at m h (messageEnd y m + 4))
+        finished (divide at (take (message_end y m) m)) (piece (at + (message_end y m + 4)) (drop (message_end y m + 4) m))
+        (lie-divide at (take (message_end y m) m) (here-take w at m h (message_end y m)))
+        (here-drop w at m h (message_end y m + 4))
 
     marked-so : (at : ℕ) (t : List ℕ) → Here w at t → Outcome w (marked y at t)
     unfolding marked
     marked-so at t h =
         either (Outcome w) _ (λ _. finished (piece at [] ∷ []) (piece (at + 3) (drop 3 t)) (refl, tt) (here-drop w at t h 3))
         (λ _. either (Outcome w) _ (λ _. messaged (at + 3) (drop 3 t) (here-drop w at t h 3))
-        (λ _. either (Outcome w) _ (λ _. messaged at t h) (λ _. of-fault)))
+        (λ _. either (Outcome w) _ (λ _. messaged at t h) (λ _. of_fault)))
 
     -- whatever line a text stands in
-    pub text-outcome : (at : ℕ) (t : List ℕ) → Here w at t → Outcome w (readText y at t)
-    unfolding readText
+    pub text-outcome : (at : ℕ) (t : List ℕ) → Here w at t → Outcome w (read_text y at t)
+    unfolding read_text
     text-outcome at t h =
         either (Outcome w) _
-        (λ _. either (Outcome w) _ (λ _. either (Outcome w) _ (λ _. marked-so at t h) (λ _. of-fault)) (λ _. messaged at t h))
-        (λ _. of-fault)
+        (λ _. either (Outcome w) _ (λ _. either (Outcome w) _ (λ _. marked-so at t h) (λ _. of_fault)) (λ _. messaged at t h))
+        (λ _. of_fault)
 
     -- the pieces of an accepted text stand where it says
-    pub text-places : (at : ℕ) (t : List ℕ) (x : Noted) → Here w at t → readText y at t ≡ value x → Placed w x
+    pub text-places : (at : ℕ) (t : List ℕ) (x : Noted) → Here w at t → read_text y at t ≡ value x → Placed w x
     text-places at t x h e = outcome-value (rw e at (text-outcome at t h))

@@ -10,11 +10,11 @@ use Rattle.base.specs.Pick.{pick}
 use Rattle.base.proofs.Cases.{pick_true}
 use Rattle.paper.specs.Bytes.{null}
 use Rattle.paper.specs.Accounts.{Account}
-use Rattle.paper.specs.Batch.{Item, Thing, aFile, aGroup, anItem, misnumbered, strange}
+use Rattle.paper.specs.Batch.{Item, Thing, a_file, a_group, an_item, misnumbered, strange}
 use Rattle.paper.specs.Texts.{Piece}
 use Rattle.paper.specs.Entries.{Places}
 use Rattle.paper.specs.Words.{blanks}
-use Rattle.paper.specs.Rows.{textAt, referenceProper, thingIn, fileRow, groupRow, textWords, textsWords, itemRow, textSpots}
+use Rattle.paper.specs.Rows.{text_at, reference_proper, thing_in, file_row, group_row, text_words, texts_words, item_row, text_spots}
 use Rattle.out.specs.word.Sizes.{Small}
 use Rattle.out.proofs.word.Laws.{blanks-small}
 use Rattle.rowlaws.specs.Places.{Here, Lies, Lie}
@@ -24,27 +24,27 @@ use Rattle.rowlaws.proofs.Kept.{KeptItem}
 
 -- an item's amount fits eight bytes
 abbrev pub Fair : Thing → Type 0
-Fair (aFile k n) = Unit {0}
-Fair (aGroup d p) = Unit {0}
-Fair (anItem x) = x.amount < 2 ^ 64
+Fair (a_file k n) = Unit {0}
+Fair (a_group d p) = Unit {0}
+Fair (an_item x) = x.amount < 2 ^ 64
 Fair (misnumbered x) = Unit {0}
 Fair strange = Unit {0}
 
 -- the row r holds the thing t, with its texts in f
 pub record Row (f r : List ℕ) (t : Thing) : Type 0 where
-  pub tells : thingIn f r ≡ t
+  pub tells : thing_in f r ≡ t
   pub small : length f < 2 ^ 64 → Fair t → Small r
 
-pub file-row : (f : List ℕ) (k n : ℕ) → k < 10000 → n < 1000000 → Row f (fileRow k n) (aFile k n)
-unfolding fileRow blanks thingIn pick
+pub file-row : (f : List ℕ) (k n : ℕ) → k < 10000 → n < 1000000 → Row f (file_row k n) (a_file k n)
+unfolding file_row blanks thing_in pick
 file-row f k n a b = record { tells = refl; small = λ _ _. (omega arith, (omega arith, (omega arith, blanks-small 21))) }
 
-pub group-row : (f : List ℕ) (d : ℕ) (p : Account) → Short p → d < 100000000 → Row f (groupRow d p) (aGroup d p)
-unfolding groupRow blanks thingIn pick
+pub group-row : (f : List ℕ) (d : ℕ) (p : Account) → Short p → d < 100000000 → Row f (group_row d p) (a_group d p)
+unfolding group_row blanks thing_in pick
 group-row f d p a b =
     record {
       tells = refl;
-      small = λ _ _. (omega arith, (omega arith, (omega (arith, a.prefixIs), (omega (arith, a.baseIs), blanks-small 20))));
+      small = λ _ _. (omega arith, (omega arith, (omega (arith, a.prefix_is), (omega (arith, a.base_is), blanks-small 20))));
     }
 
 -- ---- an item's texts
@@ -53,8 +53,8 @@ group-row f d p a b =
 unfoldable pub spot : ℕ → ℕ → List ℕ → ℕ
 spot start off t = pick (null t) 0 (start + off)
 
-pub words-of : (start off : ℕ) (t : List ℕ) → textWords start off t ≡ spot start off t ∷ length t ∷ []
-unfolding textWords spot pick null
+pub words-of : (start off : ℕ) (t : List ℕ) → text_words start off t ≡ spot start off t ∷ length t ∷ []
+unfolding text_words spot pick null
 words-of start off [] = refl
 words-of start off (x ∷ t) = refl
 
@@ -106,8 +106,8 @@ module _ (f : List ℕ) (x : Item) (t1 t2 t3 t4 t5 : List ℕ) (p1 p2 p3 p4 p5 :
   abbrev line : List ℕ
   line = words_of x p1 (length t1) p2 (length t2) p3 (length t3) p4 (length t4) p5 (length t5)
 
-  line-tells : thingIn f line ≡ anItem (made x (t1 ∷ t2 ∷ t3 ∷ t4 ∷ []) t5)
-  unfolding thingIn referenceProper textAt pick
+  line-tells : thing_in f line ≡ an_item (made x (t1 ∷ t2 ∷ t3 ∷ t4 ∷ []) t5)
+  unfolding thing_in reference_proper text_at pick
   line-tells = rw (told f p1 t1 s1, told f p2 t2 s2, told f p3 t3 s3, told f p4 t4 s4, told f p5 t5 s5)
 
   line_small : length f < 2 ^ 64 → x.amount < 2 ^ 64 → Short x.payer → Short x.payee → x.bank < 10000 → x.variable < 10000000000
@@ -115,13 +115,13 @@ module _ (f : List ℕ) (x : Item) (t1 t2 t3 t4 t5 : List ℕ) (p1 p2 p3 p4 p5 :
   line_small l a b c d e g h i = (
     omega arith,
     (
-      omega (arith, b.prefixIs),
+      omega (arith, b.prefix_is),
       (
-        omega (arith, b.baseIs),
+        omega (arith, b.base_is),
         (
-          omega (arith, c.prefixIs),
+          omega (arith, c.prefix_is),
           (
-            omega (arith, c.baseIs),
+            omega (arith, c.base_is),
             (
               omega arith,
               (
@@ -195,19 +195,19 @@ four-of (a ∷ b ∷ c ∷ d ∷ g ∷ ps) e = more e
 
 -- an item's facts but for its texts
 record Sized (x : Item) : Type 0 where
-  payerIs : Short x.payer
-  payeeIs : Short x.payee
-  bankIs : x.bank < 10000
-  variableIs : x.variable < 10000000000
-  specificIs : x.specific < 10000000000
-  constantIs : x.constant < 10000
-  priorityIs : x.priority < 100
+  payer_is : Short x.payer
+  payee_is : Short x.payee
+  bank_is : x.bank < 10000
+  variable_is : x.variable < 10000000000
+  specific_is : x.specific < 10000000000
+  constant_is : x.constant < 10000
+  priority_is : x.priority < 100
 
 module _ (f : List ℕ) (start : ℕ) (w : List ℕ) (here : Here f start w) (x : Item) where
   row_of : Sized x → (a b c d n : Piece) → Lies w a → Lies w b → Lies w c → Lies w d → Lies w n
-      → Row f (itemRow start (a.place ∷ b.place ∷ c.place ∷ d.place ∷ n.place ∷ []) (made x (a.bytes ∷ b.bytes ∷ c.bytes ∷ d.bytes ∷ []) n.bytes))
-      (anItem (made x (a.bytes ∷ b.bytes ∷ c.bytes ∷ d.bytes ∷ []) n.bytes))
-  unfolding itemRow textsWords blanks
+      → Row f (item_row start (a.place ∷ b.place ∷ c.place ∷ d.place ∷ n.place ∷ []) (made x (a.bytes ∷ b.bytes ∷ c.bytes ∷ d.bytes ∷ []) n.bytes))
+      (an_item (made x (a.bytes ∷ b.bytes ∷ c.bytes ∷ d.bytes ∷ []) n.bytes))
+  unfolding item_row texts_words blanks
   row_of k a b c d n la lb lc ld ln =
       let sa = stays f start w here a.place a.bytes la in
       let sb = stays f start w here b.place b.bytes lb in
@@ -223,27 +223,27 @@ module _ (f : List ℕ) (start : ℕ) (w : List ℕ) (here : Here f start w) (x 
       )
       (record {
         tells = line-tells f x _ _ _ _ _ _ _ _ _ _ sa sb sc sd sn;
-        small = λ l m. line_small f x _ _ _ _ _ _ _ _ _ _ sa sb sc sd sn l m k.payerIs k.payeeIs k.bankIs k.variableIs k.specificIs k.constantIs k.priorityIs;
+        small = λ l m. line_small f x _ _ _ _ _ _ _ _ _ _ sa sb sc sd sn l m k.payer_is k.payee_is k.bank_is k.variable_is k.specific_is k.constant_is k.priority_is;
       })
 
-  pub item-row : (p : Places) → KeptItem w x p → Row f (itemRow start (textSpots p) x) (anItem x)
+  pub item-row : (p : Places) → KeptItem w x p → Row f (item_row start (text_spots p) x) (an_item x)
   item-row p k =
       let q = four-of k.texts.parts k.placed.four in
       let l = subst (Lie w) q.are k.placed.parts in
       let n = k.texts.name in
-      let ps : x.parts ≡ q.one.bytes ∷ q.two.bytes ∷ q.three.bytes ∷ q.four.bytes ∷ [] = k.partsAre ∙ ap (λ (l : List Piece). map (λ (p : Piece). p.bytes) l) q.are in
-      let os : textSpots p ≡ q.one.place ∷ q.two.place ∷ q.three.place ∷ q.four.place ∷ n.place ∷ [] = ap textSpots k.placesAre ∙ ap (λ (l : List Piece). map (λ (p : Piece). p.place) l ++ (n.place ∷ [])) q.are in
+      let ps : x.parts ≡ q.one.bytes ∷ q.two.bytes ∷ q.three.bytes ∷ q.four.bytes ∷ [] = k.parts_are ∙ ap (λ (l : List Piece). map (λ (p : Piece). p.bytes) l) q.are in
+      let os : text_spots p ≡ q.one.place ∷ q.two.place ∷ q.three.place ∷ q.four.place ∷ n.place ∷ [] = ap text_spots k.places_are ∙ ap (λ (l : List Piece). map (λ (p : Piece). p.place) l ++ (n.place ∷ [])) q.are in
       rw os
-      (subst (λ (y : Item). Row f (itemRow start (q.one.place ∷ q.two.place ∷ q.three.place ∷ q.four.place ∷ n.place ∷ []) y) (anItem y))
-      (sym (made-is x _ _ ps k.nameIs))
+      (subst (λ (y : Item). Row f (item_row start (q.one.place ∷ q.two.place ∷ q.three.place ∷ q.four.place ∷ n.place ∷ []) y) (an_item y))
+      (sym (made-is x _ _ ps k.name_is))
       (row_of
       (record {
-        payerIs = k.payerIs;
-        payeeIs = k.payeeIs;
-        bankIs = k.bankIs;
-        variableIs = k.variableIs;
-        specificIs = k.specificIs;
-        constantIs = k.constantIs;
-        priorityIs = k.priorityIs;
+        payer_is = k.payer_is;
+        payee_is = k.payee_is;
+        bank_is = k.bank_is;
+        variable_is = k.variable_is;
+        specific_is = k.specific_is;
+        constant_is = k.constant_is;
+        priority_is = k.priority_is;
       })
       q.one q.two q.three q.four n l.0 l.1.0 l.1.1.0 l.1.1.1.0 k.placed.name))

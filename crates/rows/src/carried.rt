@@ -1,19 +1,19 @@
 // What a sheet can carry of one row: refusal 21, and the field that it names. The rows are as "The batch" says, which is tested before.
 ghost use Rattle.std.specs.Prelude.{◌≡◌, true, List, ℕ, ◌<◌};
-ghost use Rattle.sheet.specs.Sheets.{kindAllowed};
-ghost use Rattle.paper.specs.Days.{realDay, dueAllowed};
-ghost use Rattle.paper.specs.Terms.{dayHere};
-ghost use Rattle.paper.specs.Texts.{taken, partCarried, nameCarried};
+ghost use Rattle.sheet.specs.Sheets.{kind_allowed};
+ghost use Rattle.paper.specs.Days.{real_day, due_allowed};
+ghost use Rattle.paper.specs.Terms.{day_here};
+ghost use Rattle.paper.specs.Texts.{taken, part_carried, name_carried};
 ghost use Rattle.paper.specs.Batch.{Header};
-ghost use Rattle.paper.specs.FileLine.{numberAllowed};
+ghost use Rattle.paper.specs.FileLine.{number_allowed};
 ghost use Rattle.paper.specs.Proper.{Verdict, check};
-ghost use Rattle.paper.specs.Carried.{itemCarried};
+ghost use Rattle.paper.specs.Carried.{item_carried};
 ghost use Rattle.fileline.specs.seen.Bits.{Holds};
-ghost use Rattle.rows.specs.read.Told.{textOfSpan, item_of};
+ghost use Rattle.rows.specs.read.Told.{text_of_span, item_of};
 ghost use Rattle.text.specs.span.Held.{Within};
 ghost use Rattle.rows.specs.read.Sized.{Inside, Sized};
 ghost use Rattle.rows.specs.read.After.{after};
-ghost use Rattle.rows.specs.carried.Words.{Taken, textsCarried};
+ghost use Rattle.rows.specs.carried.Words.{Taken, texts_carried};
 
 use crate::read::{Check, ItemRow};
 use fileline::seen::Seen;
@@ -24,7 +24,7 @@ use text::span::Span;
 pub fn file_carried(sh: Sheet, from: u64, to: u64, seen: Seen, kind: u64, number: u64) -> Check
     requires { number < 1000000 }
     ensures { (h : Header) (l : List ℕ) → h.from ≡ from → h.to ≡ to → Holds seen.words l → (k : ℕ) (rest : Verdict)
-        → after k result rest ≡ check k 1 (kindAllowed sh kind) (check k 2 (numberAllowed sh.interval h l number) rest) }
+        → after k result rest ≡ check k 1 (kind_allowed sh kind) (check k 2 (number_allowed sh.interval h l number) rest) }
 {
     let known = sh.kind_allowed(kind);
     if !known {
@@ -39,9 +39,9 @@ pub fn file_carried(sh: Sheet, from: u64, to: u64, seen: Seen, kind: u64, number
 
 // A group of an account file of this kind: its due day is one that the sheet takes today, where that is judged by the day alone.
 pub fn group_carried(sh: Sheet, today: u64, kind: u64, date: u64) -> Check
-    requires today_value { realDay today ≡ true }
-    requires date_value { realDay date ≡ true }
-    ensures { (k : ℕ) (rest : Verdict) → after k result rest ≡ check k 1 (dueAllowed (dayHere sh kind) sh.early sh.ahead today date) rest }
+    requires today_value { real_day today ≡ true }
+    requires date_value { real_day date ≡ true }
+    ensures { (k : ℕ) (rest : Verdict) → after k result rest ≡ check k 1 (due_allowed (day_here sh kind) sh.early sh.ahead today date) rest }
 {
     let limits = sh.limits();
     let here = calendar::term::day_here(sh, kind);
@@ -54,8 +54,8 @@ pub fn group_carried(sh: Sheet, today: u64, kind: u64, date: u64) -> Check
 // Part i of an item's message, where it stands and the sheet takes its bytes. An empty one always can be.
 fn part_here(y: Style, i: usize, texts: &[u8], p: Span) -> bool
     requires within { Within texts.now p }
-    requires p_value { taken y (textOfSpan texts.now p) ≡ true }
-    ensures { result ≡ partCarried y i (textOfSpan texts.now p) }
+    requires p_value { taken y (text_of_span texts.now p) ≡ true }
+    ensures { result ≡ part_carried y i (text_of_span texts.now p) }
 {
     if p.len == 0 {
         return true;
@@ -69,7 +69,7 @@ fn part_here(y: Style, i: usize, texts: &[u8], p: Span) -> bool
 fn clean_here(y: Style, i: usize, texts: &[u8], p: Span) -> bool
     requires clean_value { y.clean ≡ true }
     requires within { Within texts.now p }
-    ensures { result ≡ partCarried y i (textOfSpan texts.now p) }
+    ensures { result ≡ part_carried y i (text_of_span texts.now p) }
 {
     if crate::clean::part_clean(texts, p) {
         return part_here(y, i, texts, p);
@@ -80,7 +80,7 @@ fn clean_here(y: Style, i: usize, texts: &[u8], p: Span) -> bool
 // An item's name, where it stands.
 fn name_here(y: Style, texts: &[u8], p: Span) -> bool
     requires { Within texts.now p }
-    ensures { result ≡ nameCarried y (textOfSpan texts.now p) }
+    ensures { result ≡ name_carried y (text_of_span texts.now p) }
 {
     let at = p.at;
     let end = at + p.len;
@@ -91,7 +91,7 @@ fn name_here(y: Style, texts: &[u8], p: Span) -> bool
 fn taken_carried(y: Style, texts: &[u8], x: ItemRow) -> Check
     requires inside { Inside texts.now x }
     requires taken { Taken y texts.now x }
-    ensures { (k : ℕ) (rest : Verdict) → after k result rest ≡ textsCarried y k (item_of texts.now x) rest }
+    ensures { (k : ℕ) (rest : Verdict) → after k result rest ≡ texts_carried y k (item_of texts.now x) rest }
 {
     let first = part_here(y, 0, texts, x.part1);
     if !first {
@@ -120,7 +120,7 @@ fn taken_carried(y: Style, texts: &[u8], x: ItemRow) -> Check
 fn each_carried(y: Style, texts: &[u8], x: ItemRow) -> Check
     requires clean_value { y.clean ≡ true }
     requires inside { Inside texts.now x }
-    ensures { (k : ℕ) (rest : Verdict) → after k result rest ≡ textsCarried y k (item_of texts.now x) rest }
+    ensures { (k : ℕ) (rest : Verdict) → after k result rest ≡ texts_carried y k (item_of texts.now x) rest }
 {
     let first = clean_here(y, 0, texts, x.part1);
     if !first {
@@ -148,7 +148,7 @@ fn each_carried(y: Style, texts: &[u8], x: ItemRow) -> Check
 // An item's texts. Parts that lie close together are looked at for `#` and `~` at once.
 fn texts_carried(y: Style, texts: &[u8], x: ItemRow) -> Check
     requires { Inside texts.now x }
-    ensures { (k : ℕ) (rest : Verdict) → after k result rest ≡ textsCarried y k (item_of texts.now x) rest }
+    ensures { (k : ℕ) (rest : Verdict) → after k result rest ≡ texts_carried y k (item_of texts.now x) rest }
 {
     let clean = y.clean;
     if clean {
@@ -162,7 +162,7 @@ fn texts_carried(y: Style, texts: &[u8], x: ItemRow) -> Check
 // An item: its amount, its priority and its texts.
 pub fn item_carried(sh: Sheet, texts: &[u8], x: ItemRow) -> Check
     requires { Sized texts.now x }
-    ensures { (k : ℕ) (rest : Verdict) → after k result rest ≡ itemCarried sh k (item_of texts.now x) rest }
+    ensures { (k : ℕ) (rest : Verdict) → after k result rest ≡ item_carried sh k (item_of texts.now x) rest }
 {
     let limits = sh.limits();
     let small = amount::amount_proper(limits.amount, x.amount);

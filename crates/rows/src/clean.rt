@@ -1,9 +1,9 @@
 // Whether the parts of an item hold `#` or `~`, which not every sheet takes.
 ghost use Rattle.std.specs.Prelude.{◌≡◌, true, ℕ, ◌≤◌, length};
 ghost use Rattle.base.specs.Seek.{all};
-ghost use Rattle.paper.specs.Bytes.{isClean};
+ghost use Rattle.paper.specs.Bytes.{is_clean};
 ghost use Rattle.text.specs.span.Held.{Within};
-ghost use Rattle.rows.specs.read.Told.{textOfSpan};
+ghost use Rattle.rows.specs.read.Told.{text_of_span};
 ghost use Rattle.rows.specs.read.Sized.{Inside};
 ghost use Rattle.rows.specs.clean.Stretches.{Lies, Reaches, HoldsParts, CleanParts};
 
@@ -13,7 +13,7 @@ use text::span::Span;
 // p holds neither, where it stands. What is lent before it goes with it, so that a short part is passed in one block.
 pub fn part_clean(texts: &[u8], p: Span) -> bool
     requires { Within texts.now p }
-    ensures { result ≡ all isClean (textOfSpan texts.now p) }
+    ensures { result ≡ all is_clean (text_of_span texts.now p) }
 {
     let at = p.at;
     let end = at + p.len;

@@ -2,24 +2,24 @@
 ghost use Rattle.std.specs.Prelude.{◌≡◌, false, ℕ, ◌+◌, ◌≤◌, eqb, ltb, leb, length};
 ghost use Rattle.base.specs.Pick.{pick};
 ghost use Rattle.base.specs.Seek.{all};
-ghost use Rattle.paper.specs.Bytes.{isText};
-ghost use Rattle.paper.specs.Days.{realDay};
+ghost use Rattle.paper.specs.Bytes.{is_text};
+ghost use Rattle.paper.specs.Days.{real_day};
 ghost use Rattle.paper.specs.Accounts.{account};
-ghost use Rattle.paper.specs.Amounts.{amountProper};
-ghost use Rattle.paper.specs.Texts.{nameProper, partProper};
+ghost use Rattle.paper.specs.Amounts.{amount_proper};
+ghost use Rattle.paper.specs.Texts.{name_proper, part_proper};
 ghost use Rattle.paper.specs.Batch.{most14};
-ghost use Rattle.paper.specs.Proper.{Verdict, fine, check, headerProper, kindProper, payerProper, itemPayerProper};
-ghost use Rattle.paper.specs.Rows.{referenceProper};
-ghost use Rattle.rows.specs.read.Told.{textOfSpan};
+ghost use Rattle.paper.specs.Proper.{Verdict, fine, check, header_proper, kind_proper, payer_proper, item_payer_proper};
+ghost use Rattle.paper.specs.Rows.{reference_proper};
+ghost use Rattle.rows.specs.read.Told.{text_of_span};
 ghost use Rattle.rows.specs.read.After.{after};
-ghost use Rattle.rows.specs.proper.Stages.{moneyProper, symbolsProper, textsProper, ItemTested};
+ghost use Rattle.rows.specs.proper.Stages.{money_proper, symbols_proper, texts_proper, ItemTested};
 
 use crate::read::{Check, ItemRow};
 use text::span::Span;
 
 // The header's name: 20 text bytes.
 fn name_full(name: &[u8]) -> bool
-    ensures { result ≡ pick (eqb (length name.now) 20) (all isText name.now) false }
+    ensures { result ≡ pick (eqb (length name.now) 20) (all is_text name.now) false }
 {
     if name.len() == 20 {
         return scan::seek::all_text(name, 0);
@@ -29,7 +29,7 @@ fn name_full(name: &[u8]) -> bool
 
 // The header.
 pub fn header_check(date: u64, name: &[u8], client: u64, from: u64, to: u64) -> Check
-    ensures { after 0 result fine ≡ headerProper (record { date = date; name = name.now; client = client; from = from; to = to }) }
+    ensures { after 0 result fine ≡ header_proper (record { date = date; name = name.now; client = client; from = from; to = to }) }
 {
     if !calendar::real_day(date) {
         return Check::Wrong(1);
@@ -51,7 +51,7 @@ pub fn header_check(date: u64, name: &[u8], client: u64, from: u64, to: u64) -> 
 
 // A kind is 1501 to 1504.
 fn kind_proper(kind: u64) -> bool
-    ensures { result ≡ kindProper kind }
+    ensures { result ≡ kind_proper kind }
 {
     if kind < 1501 {
         return false;
@@ -61,7 +61,7 @@ fn kind_proper(kind: u64) -> bool
 
 // An account file's row.
 pub fn file_check(kind: u64, number: u64) -> Check
-    ensures { (k : ℕ) (rest : Verdict) → after k result rest ≡ check k 1 (kindProper kind) (check k 2 (ltb number 1000000) rest) }
+    ensures { (k : ℕ) (rest : Verdict) → after k result rest ≡ check k 1 (kind_proper kind) (check k 2 (ltb number 1000000) rest) }
 {
     if !kind_proper(kind) {
         return Check::Wrong(1);
@@ -74,7 +74,7 @@ pub fn file_check(kind: u64, number: u64) -> Check
 
 // A group's payer is nobody or a valid account.
 fn payer_proper(prefix: u64, base: u64) -> bool
-    ensures { result ≡ payerProper (account prefix base) }
+    ensures { result ≡ payer_proper (account prefix base) }
 {
     if account::is_nobody(prefix, base) {
         return true;
@@ -84,7 +84,7 @@ fn payer_proper(prefix: u64, base: u64) -> bool
 
 // A group's row.
 pub fn group_check(date: u64, prefix: u64, base: u64) -> Check
-    ensures { (k : ℕ) (rest : Verdict) → after k result rest ≡ check k 1 (realDay date) (check k 2 (payerProper (account prefix base)) rest) }
+    ensures { (k : ℕ) (rest : Verdict) → after k result rest ≡ check k 1 (real_day date) (check k 2 (payer_proper (account prefix base)) rest) }
 {
     if !calendar::real_day(date) {
         return Check::Wrong(1);
@@ -97,7 +97,7 @@ pub fn group_check(date: u64, prefix: u64, base: u64) -> Check
 
 // An item has a payer exactly in a single group.
 fn item_payer_proper(single: bool, prefix: u64, base: u64) -> bool
-    ensures { result ≡ itemPayerProper single (account prefix base) }
+    ensures { result ≡ item_payer_proper single (account prefix base) }
 {
     if single {
         return account::account_proper(prefix, base);
@@ -108,7 +108,7 @@ fn item_payer_proper(single: bool, prefix: u64, base: u64) -> bool
 // An amount, and with it the sum of its group, has at most 14 digits.
 fn amount_fits(sum: u64, amount: u64) -> bool
     requires { sum ≤ most14 }
-    ensures { result ≡ pick (amountProper most14 amount) (leb (sum + amount) most14) false }
+    ensures { result ≡ pick (amount_proper most14 amount) (leb (sum + amount) most14) false }
 {
     if amount::amount_proper(99999999999999, amount) {
         return sum + amount <= 99999999999999;
@@ -119,7 +119,7 @@ fn amount_fits(sum: u64, amount: u64) -> bool
 // Fields 1 to 6 of an item: who pays whom how much.
 fn money_check(x: ItemRow, single: bool, sum: u64) -> Check
     requires { sum ≤ most14 }
-    ensures { (k : ℕ) (rest : Verdict) → after k result rest ≡ moneyProper k single sum x rest }
+    ensures { (k : ℕ) (rest : Verdict) → after k result rest ≡ money_proper k single sum x rest }
 {
     if !item_payer_proper(single, x.payerprefix, x.payerbase) {
         return Check::Wrong(1);
@@ -138,7 +138,7 @@ fn money_check(x: ItemRow, single: bool, sum: u64) -> Check
 
 // Fields 7 to 10: the symbols and the priority.
 fn symbols_check(x: ItemRow) -> Check
-    ensures { (k : ℕ) (rest : Verdict) → after k result rest ≡ symbolsProper k x rest }
+    ensures { (k : ℕ) (rest : Verdict) → after k result rest ≡ symbols_proper k x rest }
 {
     if 10000000000 <= x.variable {
         return Check::Wrong(7);
@@ -157,7 +157,7 @@ fn symbols_check(x: ItemRow) -> Check
 
 // A part of the message: it lies inside what was lent, and is one. Most are empty, which their length tells.
 fn part_fine(texts: &[u8], p: Span) -> bool
-    ensures { result ≡ partProper (textOfSpan texts.now p) }
+    ensures { result ≡ part_proper (text_of_span texts.now p) }
 {
     if p.len == 0 {
         return p.at <= texts.len();
@@ -172,7 +172,7 @@ fn part_fine(texts: &[u8], p: Span) -> bool
 
 // The name, likewise.
 fn name_fine(texts: &[u8], p: Span) -> bool
-    ensures { result ≡ nameProper (textOfSpan texts.now p) }
+    ensures { result ≡ name_proper (text_of_span texts.now p) }
 {
     if p.len == 0 {
         return p.at <= texts.len();
@@ -187,7 +187,7 @@ fn name_fine(texts: &[u8], p: Span) -> bool
 
 // Fields 11 to 19: the four parts and the name.
 fn texts_check(texts: &[u8], x: ItemRow) -> Check
-    ensures { (k : ℕ) (rest : Verdict) → after k result rest ≡ textsProper k texts.now x rest }
+    ensures { (k : ℕ) (rest : Verdict) → after k result rest ≡ texts_proper k texts.now x rest }
 {
     if !part_fine(texts, x.part1) {
         return Check::Wrong(11);
@@ -209,7 +209,7 @@ fn texts_check(texts: &[u8], x: ItemRow) -> Check
 
 // Field 21: the reference.
 fn reference_check(x: ItemRow) -> Check
-    ensures { (k : ℕ) (rest : Verdict) → after k result rest ≡ check k 21 (referenceProper x.reference) rest }
+    ensures { (k : ℕ) (rest : Verdict) → after k result rest ≡ check k 21 (reference_proper x.reference) rest }
 {
     if 4294967296 <= x.reference {
         return Check::Wrong(21);

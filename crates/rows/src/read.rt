@@ -2,8 +2,8 @@
 ghost use Rattle.std.specs.Prelude.{◌≡◌, List, ℕ, ◌+◌, ◌≤◌, leb, length, drop};
 ghost use Rattle.paper.specs.Batch.{strange};
 ghost use Rattle.paper.specs.Words.{words};
-ghost use Rattle.paper.specs.Rows.{thingIn};
-ghost use Rattle.rows.specs.read.Told.{told, spanHere, sidesHere, symbolsHere, textsHere, itemWith, itemHere};
+ghost use Rattle.paper.specs.Rows.{thing_in};
+ghost use Rattle.rows.specs.read.Told.{told, span_here, sides_here, symbols_here, texts_here, item_with, item_here};
 
 use text::span::Span;
 
@@ -87,7 +87,7 @@ pub fn lies(texts: &[u8], p: Span) -> bool
 // The text whose place and length are the two words at `at`.
 fn span_at(rows: &[u8], at: usize) -> Span
     requires { at + 16 ≤ length rows.now }
-    ensures { result ≡ spanHere rows.now at }
+    ensures { result ≡ span_here rows.now at }
 {
     let place = out::word::word_at(rows, at) as usize;
     let len = out::word::word_at(rows, at + 8) as usize;
@@ -97,7 +97,7 @@ fn span_at(rows: &[u8], at: usize) -> Span
 // The words of its accounts, its bank and its amount.
 fn sides_at(rows: &[u8], at: usize) -> Sides
     requires { at + 192 ≤ length rows.now }
-    ensures { result ≡ sidesHere rows.now at }
+    ensures { result ≡ sides_here rows.now at }
 {
     Sides {
         payerprefix: out::word::word_at(rows, at + 8),
@@ -112,7 +112,7 @@ fn sides_at(rows: &[u8], at: usize) -> Sides
 // The words of its symbols and its priority.
 fn symbols_at(rows: &[u8], at: usize) -> Symbols
     requires { at + 192 ≤ length rows.now }
-    ensures { result ≡ symbolsHere rows.now at }
+    ensures { result ≡ symbols_here rows.now at }
 {
     Symbols {
         variable: out::word::word_at(rows, at + 56),
@@ -125,7 +125,7 @@ fn symbols_at(rows: &[u8], at: usize) -> Symbols
 // The places of its texts.
 fn texts_at(rows: &[u8], at: usize) -> Texts
     requires { at + 192 ≤ length rows.now }
-    ensures { result ≡ textsHere rows.now at }
+    ensures { result ≡ texts_here rows.now at }
 {
     Texts {
         part1: span_at(rows, at + 88),
@@ -138,7 +138,7 @@ fn texts_at(rows: &[u8], at: usize) -> Texts
 
 // The item with these words.
 fn item_with(w: Sides, y: Symbols, t: Texts, reference: u64) -> ItemRow
-    ensures { result ≡ itemWith w y t reference }
+    ensures { result ≡ item_with w y t reference }
 {
     let part1 = t.part1;
     let part2 = t.part2;
@@ -168,7 +168,7 @@ fn item_with(w: Sides, y: Symbols, t: Texts, reference: u64) -> ItemRow
 // The item whose row begins at `at`.
 fn item_at(rows: &[u8], at: usize) -> ItemRow
     requires { at + 192 ≤ length rows.now }
-    ensures { result ≡ itemHere rows.now at }
+    ensures { result ≡ item_here rows.now at }
 {
     let reference = out::word::word_at(rows, at + 168);
     item_with(
@@ -182,7 +182,7 @@ fn item_at(rows: &[u8], at: usize) -> ItemRow
 // The row that begins at `at`.
 pub fn read_row(rows: &[u8], at: usize) -> RowRead
     requires { at + 192 ≤ length rows.now }
-    ensures { (t : List ℕ) → told t result ≡ thingIn t (words 24 (drop at rows.now)) }
+    ensures { (t : List ℕ) → told t result ≡ thing_in t (words 24 (drop at rows.now)) }
 {
     let kind = out::word::word_at(rows, at);
     if kind == 3 {
@@ -207,7 +207,7 @@ pub fn read_row(rows: &[u8], at: usize) -> RowRead
 // The row that begins at `at`, where it was judged before and so is of a known kind: what is neither an item nor a group is an account file.
 pub fn take_row(rows: &[u8], at: usize) -> RowRead
     requires { at + 192 ≤ length rows.now }
-    ensures { (t : List ℕ) → (thingIn t (words 24 (drop at rows.now)) ≡ strange → ⊥) → told t result ≡ thingIn t (words 24 (drop at rows.now)) }
+    ensures { (t : List ℕ) → (thing_in t (words 24 (drop at rows.now)) ≡ strange → ⊥) → told t result ≡ thing_in t (words 24 (drop at rows.now)) }
 {
     let kind = out::word::word_at(rows, at);
     if kind == 3 {

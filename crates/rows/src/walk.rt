@@ -2,11 +2,11 @@
 ghost use Rattle.std.specs.Prelude.{◌≡◌, false, ◌≤◌, ltb};
 ghost use Rattle.base.specs.Pick.{pick};
 ghost use Rattle.paper.specs.Accounts.{account};
-ghost use Rattle.paper.specs.Batch.{aFile, aGroup, most14};
-ghost use Rattle.paper.specs.Proper.{fileDue, groupDue, itemDue, mayStop, atTop, batchProper};
-ghost use Rattle.paper.specs.Rows.{rowsIn, thingsIn};
-ghost use Rattle.rows.specs.read.Told.{told, toldItem};
-ghost use Rattle.rows.specs.walk.Walks.{stageOf, beforeOf, Walks, verdictOf};
+ghost use Rattle.paper.specs.Batch.{a_file, a_group, most14};
+ghost use Rattle.paper.specs.Proper.{file_due, group_due, item_due, may_stop, at_top, batch_proper};
+ghost use Rattle.paper.specs.Rows.{rows_in, things_in};
+ghost use Rattle.rows.specs.read.Told.{told, told_item};
+ghost use Rattle.rows.specs.walk.Walks.{stage_of, before_of, Walks, verdict_of};
 
 use crate::read::{Check, ItemRow, RowRead};
 
@@ -45,7 +45,7 @@ pub enum Walked {
 
 // Before the first row.
 pub fn top() -> Before
-    ensures { beforeOf result ≡ atTop }
+    ensures { before_of result ≡ at_top }
 {
     Before {
         stage: Stage::NeedFile,
@@ -58,7 +58,7 @@ pub fn top() -> Before
 
 // May an account file come here? A batch has at most 1,000.
 fn file_due(stage: Stage, files: u64) -> bool
-    ensures { result ≡ pick (fileDue (stageOf stage)) (ltb files 1000) false }
+    ensures { result ≡ pick (file_due (stage_of stage)) (ltb files 1000) false }
 {
     match stage {
         Stage::NeedFile => files < 1000,
@@ -70,7 +70,7 @@ fn file_due(stage: Stage, files: u64) -> bool
 
 // May a group?
 fn group_due(stage: Stage) -> bool
-    ensures { result ≡ groupDue (stageOf stage) }
+    ensures { result ≡ group_due (stage_of stage) }
 {
     match stage {
         Stage::NeedFile => false,
@@ -82,7 +82,7 @@ fn group_due(stage: Stage) -> bool
 
 // May an item? An account file has at most 99,999.
 fn item_due(stage: Stage, items: u64) -> bool
-    ensures { result ≡ pick (itemDue (stageOf stage)) (ltb items 99999) false }
+    ensures { result ≡ pick (item_due (stage_of stage)) (ltb items 99999) false }
 {
     match stage {
         Stage::NeedFile => false,
@@ -94,7 +94,7 @@ fn item_due(stage: Stage, items: u64) -> bool
 
 // May the rows end here?
 pub fn may_stop(stage: Stage) -> bool
-    ensures { result ≡ mayStop (stageOf stage) }
+    ensures { result ≡ may_stop (stage_of stage) }
 {
     match stage {
         Stage::NeedFile => false,
@@ -106,7 +106,7 @@ pub fn may_stop(stage: Stage) -> bool
 
 // An account file's row.
 pub fn file_proper(before: Before, kind: u64, number: u64) -> Walk
-    ensures { Walks before (aFile kind number) result }
+    ensures { Walks before (a_file kind number) result }
 {
     let stage = before.stage;
     if !file_due(stage, before.files) {
@@ -126,7 +126,7 @@ pub fn file_proper(before: Before, kind: u64, number: u64) -> Walk
 
 // A group's row.
 pub fn group_proper(before: Before, date: u64, prefix: u64, base: u64) -> Walk
-    ensures { Walks before (aGroup date (account prefix base)) result }
+    ensures { Walks before (a_group date (account prefix base)) result }
 {
     let stage = before.stage;
     if !group_due(stage) {
@@ -147,7 +147,7 @@ pub fn group_proper(before: Before, date: u64, prefix: u64, base: u64) -> Walk
 // An item's row.
 pub fn item_proper(texts: &[u8], before: Before, x: ItemRow) -> Walk
     requires { before.sum ≤ most14 }
-    ensures { Walks before (toldItem texts.now x) result }
+    ensures { Walks before (told_item texts.now x) result }
 {
     let stage = before.stage;
     if !item_due(stage, before.items) {
@@ -180,7 +180,7 @@ pub fn row_proper(texts: &[u8], before: Before, row: RowRead) -> Walk
 
 // All lent rows. Bytes that are left over are a row of no known kind.
 pub fn proper_rows(rows: &[u8], texts: &[u8]) -> Walked
-    ensures { verdictOf result ≡ batchProper (thingsIn texts.now (rowsIn rows.now)) }
+    ensures { verdict_of result ≡ batch_proper (things_in texts.now (rows_in rows.now)) }
 {
     let mut at: usize = 0;
     let mut k: u64 = 1;

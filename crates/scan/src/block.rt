@@ -2,8 +2,8 @@
 // The last block ends with the text: it may begin before the bytes that are left, so that a short rest costs one block.
 ghost use Rattle.std.specs.Prelude.{◌≡◌, true, ◌+◌, ◌≤◌, ◌<◌, length, take, drop};
 ghost use Rattle.base.specs.Seek.{all};
-ghost use Rattle.paper.specs.Bytes.{isText, isClean};
-ghost use Rattle.scan.specs.block.Blocks.{isHigh, isOther, isFar, Skips};
+ghost use Rattle.paper.specs.Bytes.{is_text, is_clean};
+ghost use Rattle.scan.specs.block.Blocks.{is_high, is_other, is_far, Skips};
 
 // Where a block of so many bytes begins that holds the byte at i and those behind it, as many as fit.
 fn block_at(i: usize, n: usize, size: usize) -> usize
@@ -23,7 +23,7 @@ fn block_at(i: usize, n: usize, size: usize) -> usize
 // Are the sixteen bytes at `at` all above 13, so that none ends a line?
 fn high_block(s: &[u8], at: usize) -> bool
     requires { at + 16 ≤ length s.now }
-    ensures { result ≡ true → all isHigh (take 16 (drop at s.now)) ≡ true }
+    ensures { result ≡ true → all is_high (take 16 (drop at s.now)) ≡ true }
 {
     let mut high = true;
     let mut j: usize = 0;
@@ -39,7 +39,7 @@ fn high_block(s: &[u8], at: usize) -> bool
 // A place at or after `at` with no line's end before it: a multiple of sixteen bytes on.
 fn pass_high(s: &[u8], at: usize) -> usize
     requires { at ≤ length s.now }
-    ensures { Skips isHigh s.now at result }
+    ensures { Skips is_high s.now at result }
 {
     let mut i = at;
     while 16 <= s.len() - i {
@@ -56,7 +56,7 @@ fn pass_high(s: &[u8], at: usize) -> usize
 // With `w` 0 that byte is `c` itself, with `c` 0 it is any up to `w`.
 fn near(s: &[u8], at: usize, c: u8, w: u8) -> usize
     requires { at ≤ length s.now }
-    ensures { Skips (isFar c w) s.now at result }
+    ensures { Skips (is_far c w) s.now at result }
 {
     let mut i = at;
     while 8 <= s.len() - i {
@@ -92,7 +92,7 @@ fn near(s: &[u8], at: usize, c: u8, w: u8) -> usize
 // A place at or after `at` with no line's end before it: right before the first, unless the text ends soon.
 pub fn skip_high(s: &[u8], at: usize) -> usize
     requires { at ≤ length s.now }
-    ensures { Skips isHigh s.now at result }
+    ensures { Skips is_high s.now at result }
 {
     near(s, pass_high(s, at), 0, 13)
 }
@@ -100,7 +100,7 @@ pub fn skip_high(s: &[u8], at: usize) -> usize
 // Are the sixteen bytes at `at` all text bytes?
 fn text_block(s: &[u8], at: usize) -> bool
     requires { at + 16 ≤ length s.now }
-    ensures { result ≡ true → all isText (take 16 (drop at s.now)) ≡ true }
+    ensures { result ≡ true → all is_text (take 16 (drop at s.now)) ≡ true }
 {
     let mut text = true;
     let mut j: usize = 0;
@@ -120,7 +120,7 @@ fn text_block(s: &[u8], at: usize) -> bool
 // A place at or after `at` with text bytes alone before it.
 pub fn skip_text(s: &[u8], at: usize) -> usize
     requires { at ≤ length s.now }
-    ensures { Skips isText s.now at result }
+    ensures { Skips is_text s.now at result }
 {
     let n = s.len();
     if n < 16 {
@@ -141,7 +141,7 @@ pub fn skip_text(s: &[u8], at: usize) -> usize
 // Are so many bytes at `at` all other than b?
 pub fn all_other(s: &[u8], at: usize, size: usize, b: u8) -> bool
     requires { at + size ≤ length s.now }
-    ensures { result ≡ true → all (isOther b) (take size (drop at s.now)) ≡ true }
+    ensures { result ≡ true → all (is_other b) (take size (drop at s.now)) ≡ true }
 {
     let mut other = true;
     let mut j: usize = 0;
@@ -158,7 +158,7 @@ pub fn all_other(s: &[u8], at: usize, size: usize, b: u8) -> bool
 // bytes of a block at once.
 fn clean_block(s: &[u8], at: usize, size: usize) -> bool
     requires { at + size ≤ length s.now }
-    ensures { result ≡ true → all isClean (take size (drop at s.now)) ≡ true }
+    ensures { result ≡ true → all is_clean (take size (drop at s.now)) ≡ true }
 {
     if all_other(s, at, size, 35) {
         return all_other(s, at, size, 126);
@@ -169,7 +169,7 @@ fn clean_block(s: &[u8], at: usize, size: usize) -> bool
 // One look at the last block of s: if it reaches back to `from`, neither `#` nor `~` stands from there on. Else this does not tell.
 pub fn ends_clean(s: &[u8], from: usize) -> bool
     requires { from ≤ length s.now }
-    ensures { result ≡ true → all isClean (drop from s.now) ≡ true }
+    ensures { result ≡ true → all is_clean (drop from s.now) ≡ true }
 {
     let n = s.len();
     if n < 64 {
@@ -185,7 +185,7 @@ pub fn ends_clean(s: &[u8], from: usize) -> bool
 // A place at or after `at` with neither `#` nor `~` before it: `at` itself in a short text. A message of usual length takes one block.
 fn pass_clean(s: &[u8], at: usize) -> usize
     requires { at ≤ length s.now }
-    ensures { Skips isClean s.now at result }
+    ensures { Skips is_clean s.now at result }
 {
     let n = s.len();
     if n < 64 {
@@ -206,7 +206,7 @@ fn pass_clean(s: &[u8], at: usize) -> usize
 // A place at or after `at` with neither `#` nor `~` before it.
 pub fn skip_clean(s: &[u8], at: usize) -> usize
     requires { at ≤ length s.now }
-    ensures { Skips isClean s.now at result }
+    ensures { Skips is_clean s.now at result }
 {
     let n = s.len();
     if n < 16 {
@@ -227,7 +227,7 @@ pub fn skip_clean(s: &[u8], at: usize) -> usize
 // A place at or after `at` with no b before it: `at` itself in a short text, where so wide a block costs more than it saves.
 fn pass_long(s: &[u8], at: usize, b: u8) -> usize
     requires { at ≤ length s.now }
-    ensures { Skips (isOther b) s.now at result }
+    ensures { Skips (is_other b) s.now at result }
 {
     let mut i = at;
     while 256 <= s.len() - i {
@@ -243,7 +243,7 @@ fn pass_long(s: &[u8], at: usize, b: u8) -> usize
 // A place at or after `at` with no b before it.
 fn pass_other(s: &[u8], at: usize, b: u8) -> usize
     requires { at ≤ length s.now }
-    ensures { Skips (isOther b) s.now at result }
+    ensures { Skips (is_other b) s.now at result }
 {
     let n = s.len();
     if n < 16 {
@@ -264,7 +264,7 @@ fn pass_other(s: &[u8], at: usize, b: u8) -> usize
 // A place at or after `at` with no b before it: right before the first, unless the text ends soon.
 pub fn skip_other(s: &[u8], at: usize, b: u8) -> usize
     requires { at ≤ length s.now }
-    ensures { Skips (isOther b) s.now at result }
+    ensures { Skips (is_other b) s.now at result }
 {
     near(s, pass_other(s, at, b), b, 0)
 }

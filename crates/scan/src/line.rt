@@ -3,8 +3,8 @@ ghost use Rattle.std.specs.Prelude.{◌≡◌, ◌+◌, ◌<◌, ◌≤◌, leng
 ghost use Rattle.base.specs.Seek.{seek};
 ghost use Rattle.base.specs.Pick.{pick};
 ghost use Rattle.paper.specs.Bytes.{space};
-ghost use Rattle.paper.specs.Lines.{startsLF};
-ghost use Rattle.paper.specs.GroupLine.{spaceCount};
+ghost use Rattle.paper.specs.Lines.{starts_lf};
+ghost use Rattle.paper.specs.GroupLine.{space_count};
 ghost use Rattle.scan.specs.line.Cutting.{Cuts};
 
 use crate::block::skip_high;
@@ -44,7 +44,7 @@ pub fn next_line(f: &[u8], at: usize) -> Cut
 // Where the next line starts when this one ends with the CR at `at`: an LF right behind belongs to it.
 fn past_cr(f: &[u8], at: usize) -> usize
     requires { at < length f.now }
-    ensures { result ≡ pick (startsLF (drop (at + 1) f.now)) (at + 2) (at + 1) }
+    ensures { result ≡ pick (starts_lf (drop (at + 1) f.now)) (at + 2) (at + 1) }
 {
     let after = at + 1;
     if after < f.len() {
@@ -72,7 +72,7 @@ pub fn field_end(s: &[u8], at: usize) -> usize
 
 // How many spaces a line has.
 pub fn spaces(s: &[u8]) -> usize
-    ensures { result ≡ spaceCount s.now }
+    ensures { result ≡ space_count s.now }
 {
     let mut n: usize = 0;
     let mut i: usize = 0;

@@ -1,14 +1,14 @@
 // Looking for a pattern in a text, and telling text bytes from others.
 ghost use Rattle.std.specs.Prelude.{◌≡◌, ◌+◌, ◌≤◌, length, drop};
 ghost use Rattle.base.specs.Seek.{all, starts, seek};
-ghost use Rattle.paper.specs.Bytes.{isText, isClean};
+ghost use Rattle.paper.specs.Bytes.{is_text, is_clean};
 ghost use Rattle.paper.specs.Texts.{lacks};
 
 use crate::block::{ends_clean, skip_clean, skip_text};
 
 // A text byte.
 pub fn is_text(b: u8) -> bool
-    ensures { result ≡ isText b }
+    ensures { result ≡ is_text b }
 {
     if b < 32 {
         return false;
@@ -22,7 +22,7 @@ pub fn is_text(b: u8) -> bool
 // Every byte of s from `from` on is a text byte.
 pub fn all_text(s: &[u8], from: usize) -> bool
     requires { from ≤ length s.now }
-    ensures { result ≡ all isText (drop from s.now) }
+    ensures { result ≡ all is_text (drop from s.now) }
 {
     let mut i = skip_text(s, from);
     while i < s.len() {
@@ -37,7 +37,7 @@ pub fn all_text(s: &[u8], from: usize) -> bool
 
 // Neither `#` nor `~`.
 fn is_clean(b: u8) -> bool
-    ensures { result ≡ isClean b }
+    ensures { result ≡ is_clean b }
 {
     if b == 35 {
         return false;
@@ -51,7 +51,7 @@ fn is_clean(b: u8) -> bool
 // Neither `#` nor `~` stands in s from `from` on. Mostly one look tells.
 pub fn all_clean(s: &[u8], from: usize) -> bool
     requires { from ≤ length s.now }
-    ensures { result ≡ all isClean (drop from s.now) }
+    ensures { result ≡ all is_clean (drop from s.now) }
 {
     if ends_clean(s, from) {
         return true;

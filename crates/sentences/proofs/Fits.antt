@@ -12,17 +12,17 @@ use Rattle.base.specs.Pick.{pick}
 use Rattle.base.specs.Seek.{all}
 use Rattle.base.proofs.Cases.{either, both}
 use Rattle.base.proofs.Seek.{all_cons, all_append, all_weaker}
-use Rattle.paper.specs.Bytes.{bytes, isDigit}
-use Rattle.paper.specs.Numerals.{decOn, decimal, fixed}
+use Rattle.paper.specs.Bytes.{bytes, is_digit}
+use Rattle.paper.specs.Numerals.{dec_on, decimal, fixed}
 use Rattle.numeral.proofs.Fixed.{fixed-length}
 use Rattle.numeral.proofs.Plain.{digit-range, decimal-plain, fixed_plain}
 use Rattle.sentences.specs.Phrases.{Phrase, said}
-use Rattle.sentences.specs.Printable.{isPrintable}
+use Rattle.sentences.specs.Printable.{is_printable}
 
 -- at most n bytes, each of them LF or 32 to 126
 pub record Fits (n : ℕ) (s : List ℕ) : Type 0 where
   pub short : length s ≤ n
-  pub printable : all isPrintable s ≡ true
+  pub printable : all is_printable s ≡ true
 
 -- ---- parts and tests
 
@@ -38,7 +38,7 @@ pub ◌fits-then◌ : {m n : ℕ} {s t : List ℕ} → Fits m s → Fits n t →
 ◌fits-then◌ {m} {n} {s} {t} v w =
     record {
       short = omega (arith, length-append s t, v.short, w.short);
-      printable = all_append isPrintable s t v.printable w.printable;
+      printable = all_append is_printable s t v.printable w.printable;
     }
 
 -- by a test, whatever it answers
@@ -48,15 +48,15 @@ fits_or {m} {n} {s} {t} test v w =
 
 -- ---- one byte
 
-pub range-printable : (x : ℕ) → 32 ≤ x → x ≤ 126 → isPrintable x ≡ true
-unfolding isPrintable pick
+pub range-printable : (x : ℕ) → 32 ≤ x → x ≤ 126 → is_printable x ≡ true
+unfolding is_printable pick
 range-printable x lo hi =
     let other : eqb x 10 ≡ false = ne_eqb x 10 (λ e. omega arith) in
     simp (other, le-ltb x 32 lo, le-leb x 126 hi)
 
-pub fits_byte : {x : ℕ} → isPrintable x ≡ true → Fits 1 (x ∷ [])
+pub fits_byte : {x : ℕ} → is_printable x ≡ true → Fits 1 (x ∷ [])
 unfolding all
-fits_byte {x} e = record { short = omega arith; printable = all_cons isPrintable x [] e refl }
+fits_byte {x} e = record { short = omega arith; printable = all_cons is_printable x [] e refl }
 
 -- ---- words
 
@@ -65,13 +65,13 @@ abbrev clear : List ℕ → Bool
 clear [] = true
 clear (x ∷ s) = (leb 32 x && leb x 126) && clear s
 
-clear-printable : (s : List ℕ) → clear s ≡ true → all isPrintable s ≡ true
+clear-printable : (s : List ℕ) → clear s ≡ true → all is_printable s ≡ true
 unfolding all
 clear-printable [] e = refl
 clear-printable (x ∷ s) e =
     let (here, there) = both (leb 32 x && leb x 126) (clear s) e in
     let (lo, hi) = both (leb 32 x) (leb x 126) here in
-    all_cons isPrintable x s (range-printable x (leb-true 32 x lo) (leb-true x 126 hi)) (clear-printable s there)
+    all_cons is_printable x s (range-printable x (leb-true 32 x lo) (leb-true x 126 hi)) (clear-printable s there)
 
 -- words as they stand: what they are and how long they are is computed
 pub fits-words : (s : String) → clear (bytes s) ≡ true → Fits (length (bytes s)) (bytes s)
@@ -94,16 +94,16 @@ fits_said b (p ∷ ps) n e =
 
 -- ---- numbers
 
-digits-printable : (s : List ℕ) → all isDigit s ≡ true → all isPrintable s ≡ true
+digits-printable : (s : List ℕ) → all is_digit s ≡ true → all is_printable s ≡ true
 digits-printable =
-    all_weaker isDigit isPrintable λ x h. let (lo, hi) = digit-range x h in range-printable x (omega arith) (omega arith)
+    all_weaker is_digit is_printable λ x h. let (lo, hi) = digit-range x h in range-printable x (omega arith) (omega arith)
 
 -- k digits more at most
-decimal-on : (k n : ℕ) (s : List ℕ) → length (decOn k n s) ≤ k + length s
-unfolding decOn
+decimal-on : (k n : ℕ) (s : List ℕ) → length (dec_on k n s) ≤ k + length s
+unfolding dec_on
 decimal-on zero n s = omega arith
 decimal-on (suc k) n s =
-    either (λ r. length r ≤ suc k + length s) (ltb n 10) {a = (48 + n) ∷ s} {b = decOn k (n / 10) ((48 + n % 10) ∷ s)}
+    either (λ r. length r ≤ suc k + length s) (ltb n 10) {a = (48 + n) ∷ s} {b = dec_on k (n / 10) ((48 + n % 10) ∷ s)}
     (λ _. omega arith)
     (λ _. omega (arith, decimal-on k (n / 10) ((48 + n % 10) ∷ s)))
 

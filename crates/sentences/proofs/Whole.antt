@@ -7,14 +7,14 @@ use Rattle.base.specs.Pick.{pick}
 use Rattle.sheet.specs.declared.Sheet.{Sheet}
 use Rattle.why.specs.declared.Finding.{Finding}
 use Rattle.sentences.specs.Phrases.{fields, rules}
-use Rattle.sentences.specs.Sentences.{placeWords, foundWords, allowedWords, refusalWords, warning, warningWords, sentence}
-use Rattle.sentences.specs.Printable.{isPrintable}
+use Rattle.sentences.specs.Sentences.{place_words, found_words, allowed_words, refusal_words, warning, warning_words, sentence}
+use Rattle.sentences.specs.Printable.{is_printable}
 use Rattle.sentences.proofs.Fits.{Fits, ◌fits-then◌, fits_or, fits_byte, fits-words, fits_said, fits-decimal}
 use Rattle.sentences.proofs.Quotes.{fits-quoted}
 use Rattle.sentences.proofs.Permitted.{fits-dated, fits-allowed}
 
-fits-place : (line byte field : ℕ) → Fits 78 (placeWords line byte field)
-unfolding placeWords
+fits-place : (line byte field : ℕ) → Fits 78 (place_words line byte field)
+unfolding place_words
 fits-place line byte field =
     fits-words "Line " refl
     fits-then fits-decimal line
@@ -24,22 +24,22 @@ fits-place line byte field =
     fits-then fits_said 22 fields field refl
     fits-then fits-words ": " refl
 
-fits-found : (f : List ℕ) (number byte len : ℕ) → Fits 286 (foundWords f number byte len)
-unfolding foundWords
+fits-found : (f : List ℕ) (number byte len : ℕ) → Fits 286 (found_words f number byte len)
+unfolding found_words
 fits-found f number byte len = fits_or _ (fits-words "the end of the file" refl) (fits-quoted (take len (drop byte f)))
 
 -- a full stop and LF
 fits-end : Fits 2 (46 ∷ 10 ∷ [])
-unfolding isPrintable pick
+unfolding is_printable pick
 fits-end = fits-words "." refl fits-then fits_byte {x = 10} refl
 
-fits-behind : (sh : Sheet) (today : ℕ) (x : Finding) → Fits 189 (allowedWords sh today x)
-unfolding allowedWords
+fits-behind : (sh : Sheet) (today : ℕ) (x : Finding) → Fits 189 (allowed_words sh today x)
+unfolding allowed_words
 fits-behind sh today x =
     fits-words "; allowed: " refl fits-then fits-allowed sh today x.cause x.field x.least x.most fits-then fits-end
 
-fits-refusal : (sh : Sheet) (today : ℕ) (f : List ℕ) (x : Finding) → Fits 547 (refusalWords sh today f x)
-unfolding refusalWords
+fits-refusal : (sh : Sheet) (today : ℕ) (f : List ℕ) (x : Finding) → Fits 547 (refusal_words sh today f x)
+unfolding refusal_words
 fits-refusal sh today f x =
     fits_said 41 rules x.number refl
     fits-then fits-words " (" refl
@@ -56,8 +56,8 @@ fits-warned cause a b =
     (fits_or _ (fits-words "priority " refl fits-then fits-decimal a fits-then fits-words " is read as " refl fits-then fits-decimal b)
     (fits-words "cut to " refl fits-then fits-decimal b fits-then fits-words " bytes" refl)))
 
-fits-warning : (f : List ℕ) (x : Finding) → Fits 357 (warningWords f x)
-unfolding warningWords
+fits-warning : (f : List ℕ) (x : Finding) → Fits 357 (warning_words f x)
+unfolding warning_words
 fits-warning f x =
     fits-warned x.cause x.least x.most
     fits-then fits-words "; found " refl

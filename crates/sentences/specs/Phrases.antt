@@ -18,7 +18,7 @@ unfoldable pub said : List Phrase → ℕ → List ℕ
 said [] n = []
 said (p ∷ ps) n = pick (eqb n p.number) p.words (said ps n)
 
--- the fields, by `Names.fieldNumber`
+-- the fields, by `Names.field_number`
 abbrev pub fields : List Phrase
 fields =
     phrase 0 "the line"

@@ -9,26 +9,26 @@ unfoldable pub is_plain : ℕ → Bool
 is_plain x = pick (ltb x 32) false (pick (ltb 126 x) false (pick (eqb x 34) false (pick (eqb x 92) false true)))
 
 -- a digit of sixteen: 0 to 9, A to F
-unfoldable pub hexDigit : ℕ → ℕ
-hexDigit d = pick (ltb d 10) (48 + d) (55 + d)
+unfoldable pub hex_digit : ℕ → ℕ
+hex_digit d = pick (ltb d 10) (48 + d) (55 + d)
 
 -- the byte itself, or `\xHH`
-unfoldable pub quotedByte : ℕ → List ℕ
-quotedByte x = pick (is_plain x) (x ∷ []) (92 ∷ 120 ∷ hexDigit (x / 16 % 16) ∷ hexDigit (x % 16) ∷ [])
+unfoldable pub quoted_byte : ℕ → List ℕ
+quoted_byte x = pick (is_plain x) (x ∷ []) (92 ∷ 120 ∷ hex_digit (x / 16 % 16) ∷ hex_digit (x % 16) ∷ [])
 
 -- .. each of several
-unfoldable pub quotedBytes : List ℕ → List ℕ
-quotedBytes [] = []
-quotedBytes (x ∷ s) = quotedByte x ++ quotedBytes s
+unfoldable pub quoted_bytes : List ℕ → List ℕ
+quoted_bytes [] = []
+quoted_bytes (x ∷ s) = quoted_byte x ++ quoted_bytes s
 
 -- of how many bytes the first 60 are shown, where there are more
-unfoldable pub ofHowMany : ℕ → List ℕ
-ofHowMany n = pick (ltb 60 n) (bytes ", the first 60 of " ++ (decimal n ++ bytes " bytes")) []
+unfoldable pub of_how_many : ℕ → List ℕ
+of_how_many n = pick (ltb 60 n) (bytes ", the first 60 of " ++ (decimal n ++ bytes " bytes")) []
 
 -- at most 60 of them, and of how many
 unfoldable pub quoted : List ℕ → List ℕ
-quoted s = bytes "\"" ++ (quotedBytes (take 60 s) ++ (bytes "\"" ++ ofHowMany (length s)))
+quoted s = bytes "\"" ++ (quoted_bytes (take 60 s) ++ (bytes "\"" ++ of_how_many (length s)))
 
 -- `nothing`, where there is no byte
-unfoldable pub quotedOr : List ℕ → List ℕ
-quotedOr s = pick (null s) (bytes "nothing") (quoted s)
+unfoldable pub quoted_or : List ℕ → List ℕ
+quoted_or s = pick (null s) (bytes "nothing") (quoted s)

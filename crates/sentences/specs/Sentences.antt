@@ -6,29 +6,29 @@ use Rattle.paper.specs.Bytes.{bytes}
 use Rattle.paper.specs.Numerals.{decimal}
 use Rattle.why.specs.declared.Finding.{Finding}
 use Rattle.sentences.specs.Phrases.{said, fields, rules}
-use Rattle.sentences.specs.Quoted.{quotedOr}
+use Rattle.sentences.specs.Quoted.{quoted_or}
 use Rattle.sentences.specs.Allowed.{dated, allowed}
 
 -- `Line L, byte B, FIELD: `
-unfoldable pub placeWords : ℕ → ℕ → ℕ → List ℕ
-placeWords line byte field =
+unfoldable pub place_words : ℕ → ℕ → ℕ → List ℕ
+place_words line byte field =
     bytes "Line " ++ (decimal line ++ (bytes ", byte " ++ (decimal byte ++ (bytes ", " ++ (said fields field ++ bytes ": ")))))
 
 -- the bytes that were found in the file f; where it ended early, so it is said
-unfoldable pub foundWords : List ℕ → ℕ → ℕ → ℕ → List ℕ
-foundWords f number byte len =
-    pick (pick (eqb number 3) (eqb byte (length f)) false) (bytes "the end of the file") (quotedOr (take len (drop byte f)))
+unfoldable pub found_words : List ℕ → ℕ → ℕ → ℕ → List ℕ
+found_words f number byte len =
+    pick (pick (eqb number 3) (eqb byte (length f)) false) (bytes "the end of the file") (quoted_or (take len (drop byte f)))
 
 -- `; allowed: ALLOWED.` and LF
-unfoldable pub allowedWords : Sheet → ℕ → Finding → List ℕ
-allowedWords sh today x =
+unfoldable pub allowed_words : Sheet → ℕ → Finding → List ℕ
+allowed_words sh today x =
     bytes "; allowed: " ++ (allowed sh today x.cause x.field x.least x.most ++ (46 ∷ 10 ∷ []))
 
 -- a refusal: `RULE (N); found FOUND; allowed: ALLOWED.` and LF
-unfoldable pub refusalWords : Sheet → ℕ → List ℕ → Finding → List ℕ
-refusalWords sh today f x =
+unfoldable pub refusal_words : Sheet → ℕ → List ℕ → Finding → List ℕ
+refusal_words sh today f x =
     said rules x.number ++ (bytes " (" ++ (decimal x.number ++ (bytes "); found "
-    ++ (foundWords f x.number x.byte x.length ++ allowedWords sh today x))))
+    ++ (found_words f x.number x.byte x.length ++ allowed_words sh today x))))
 
 -- what is warned of
 unfoldable pub warning : ℕ → ℕ → ℕ → List ℕ
@@ -39,11 +39,11 @@ warning cause a b =
     (bytes "cut to " ++ (decimal b ++ bytes " bytes"))))
 
 -- a warning: `WARNING; found FOUND.` and LF
-unfoldable pub warningWords : List ℕ → Finding → List ℕ
-warningWords f x =
-    warning x.cause x.least x.most ++ (bytes "; found " ++ (foundWords f x.number x.byte x.length ++ (46 ∷ 10 ∷ [])))
+unfoldable pub warning_words : List ℕ → Finding → List ℕ
+warning_words f x =
+    warning x.cause x.least x.most ++ (bytes "; found " ++ (found_words f x.number x.byte x.length ++ (46 ∷ 10 ∷ [])))
 
 -- a finding in a sentence; number 0 is a warning
 unfoldable pub sentence : Sheet → ℕ → List ℕ → Finding → List ℕ
 sentence sh today f x =
-    placeWords x.line x.byte x.field ++ pick (eqb x.number 0) (warningWords f x) (refusalWords sh today f x)
+    place_words x.line x.byte x.field ++ pick (eqb x.number 0) (warning_words f x) (refusal_words sh today f x)

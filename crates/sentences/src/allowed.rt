@@ -4,7 +4,7 @@ ghost use Rattle.base.specs.Pick.{pick};
 ghost use Rattle.paper.specs.Bytes.{bytes};
 ghost use Rattle.numeral.specs.counted.Counted.{Counted};
 ghost use Rattle.sentences.specs.Phrases.{said, fields};
-ghost use Rattle.sentences.specs.Allowed.{dated, numbered, fromDay, at_most, allowedCount, allowedDay, allowedNumber, allowed};
+ghost use Rattle.sentences.specs.Allowed.{dated, numbered, from_day, at_most, allowed_count, allowed_day, allowed_number, allowed};
 
 use crate::figures::{
     put_and_date, put_and_number, put_at_most, put_four, put_from_day, put_numbered, put_ranged,
@@ -41,7 +41,7 @@ fn put_days_after(out: &mut [u8], at: usize, today: u64, days: u64) -> usize
 
 // 113: from today on, or after it.
 fn put_from_or_after(out: &mut [u8], at: usize, today: u64, most: u64) -> usize
-    ensures { Counted out.old at (pick (eqb most 0) (fromDay today) (bytes "after " ++ dated today)) out.new result }
+    ensures { Counted out.old at (pick (eqb most 0) (from_day today) (bytes "after " ++ dated today)) out.new result }
 {
     if most == 0 {
         return put_from_day(out, at, today);
@@ -53,7 +53,7 @@ fn put_from_or_after(out: &mut [u8], at: usize, today: u64, most: u64) -> usize
 
 // 141 to 152: how many; any other cause in words alone.
 fn put_allowed_count(out: &mut [u8], at: usize, cause: u64, a: u64, b: u64) -> usize
-    ensures { Counted out.old at (allowedCount cause a b) out.new result }
+    ensures { Counted out.old at (allowed_count cause a b) out.new result }
 {
     match cause {
         141 => put_at_most(out, at, a, b" parts"),
@@ -67,7 +67,7 @@ fn put_allowed_count(out: &mut [u8], at: usize, cause: u64, a: u64, b: u64) -> u
 
 // 111 to 114: which days; any other cause as above.
 fn put_allowed_day(out: &mut [u8], at: usize, today: u64, cause: u64, a: u64, b: u64) -> usize
-    ensures { Counted out.old at (allowedDay today cause a b) out.new result }
+    ensures { Counted out.old at (allowed_day today cause a b) out.new result }
 {
     match cause {
         111 => put_from_day(out, at, today),
@@ -80,7 +80,7 @@ fn put_allowed_day(out: &mut [u8], at: usize, today: u64, cause: u64, a: u64, b:
 
 // 60 to 101: which numbers and sums; any other cause as above.
 fn put_allowed_number(out: &mut [u8], at: usize, today: u64, cause: u64, a: u64, b: u64) -> usize
-    ensures { Counted out.old at (allowedNumber today cause a b) out.new result }
+    ensures { Counted out.old at (allowed_number today cause a b) out.new result }
 {
     match cause {
         60 => put_ranged(out, at, a, b),

@@ -3,7 +3,7 @@ ghost use Rattle.std.specs.Prelude.{◌++◌};
 ghost use Rattle.paper.specs.Bytes.{dash};
 ghost use Rattle.paper.specs.Numerals.{decimal, fixed};
 ghost use Rattle.numeral.specs.counted.Counted.{Counted};
-ghost use Rattle.sentences.specs.Allowed.{dated, ranged, someDigits, numbered, fromDay, at_most};
+ghost use Rattle.sentences.specs.Allowed.{dated, ranged, some_digits, numbered, from_day, at_most};
 
 use numeral::counted::{put_byte, put_bytes, put_number};
 
@@ -76,7 +76,7 @@ pub fn put_ranged(out: &mut [u8], at: usize, a: u64, b: u64) -> usize
 
 // How many digits.
 pub fn put_some_digits(out: &mut [u8], at: usize, a: u64, b: u64) -> usize
-    ensures { Counted out.old at (someDigits a b) out.new result }
+    ensures { Counted out.old at (some_digits a b) out.new result }
 {
     let d = put_number(out, at, a);
     let e = put_and_number(out, d, b" to ", b);
@@ -102,7 +102,7 @@ pub fn put_and_date(out: &mut [u8], at: usize, text: &[u8], day: u64) -> usize
 
 // From a day on.
 pub fn put_from_day(out: &mut [u8], at: usize, day: u64) -> usize
-    ensures { Counted out.old at (fromDay day) out.new result }
+    ensures { Counted out.old at (from_day day) out.new result }
 {
     let e = put_and_date(out, at, b"from ", day);
     put_bytes(out, e, b" on")

@@ -2,8 +2,8 @@
 ghost use Rattle.std.specs.Prelude.{◌≡◌, false, ◌++◌, ◌≤◌, ltb, eqb, take, drop};
 ghost use Rattle.base.specs.Pick.{pick};
 ghost use Rattle.numeral.specs.counted.Counted.{Counted};
-ghost use Rattle.sentences.specs.Quoted.{quotedOr};
-ghost use Rattle.sentences.specs.Sentences.{foundWords};
+ghost use Rattle.sentences.specs.Quoted.{quoted_or};
+ghost use Rattle.sentences.specs.Sentences.{found_words};
 
 use numeral::counted::put_bytes;
 
@@ -19,7 +19,7 @@ fn at_most(n: u64, most: usize) -> usize
 
 // The bytes of f from `byte` on, `length` of them, as far as there are so many.
 fn put_part(out: &mut [u8], at: usize, f: &[u8], byte: u64, length: u64) -> usize
-    ensures { Counted out.old at (quotedOr (take length (drop byte f.now))) out.new result }
+    ensures { Counted out.old at (quoted_or (take length (drop byte f.now))) out.new result }
 {
     let from = at_most(byte, f.len());
     let end = from + at_most(length, f.len() - from);
@@ -38,7 +38,7 @@ fn ended(number: u64, byte: u64, n: usize) -> bool
 
 // What was found.
 fn put_found(out: &mut [u8], at: usize, f: &[u8], number: u64, byte: u64, length: u64) -> usize
-    ensures { Counted out.old at (foundWords f.now number byte length) out.new result }
+    ensures { Counted out.old at (found_words f.now number byte length) out.new result }
 {
     if ended(number, byte, f.len()) {
         return put_bytes(out, at, b"the end of the file");
@@ -56,7 +56,7 @@ pub fn put_and_found(
     byte: u64,
     length: u64,
 ) -> usize
-    ensures { Counted out.old at (text.now ++ foundWords f.now number byte length) out.new result }
+    ensures { Counted out.old at (text.now ++ found_words f.now number byte length) out.new result }
 {
     let e = put_bytes(out, at, text);
     put_found(out, e, f, number, byte, length)

@@ -12,7 +12,7 @@ ghost use Rattle.paper.specs.Bytes.{bytes};
 ghost use Rattle.paper.specs.Numerals.{decimal};
 ghost use Rattle.numeral.specs.counted.Counted.{Counted};
 ghost use Rattle.sentences.specs.Phrases.{said, fields};
-ghost use Rattle.sentences.specs.Sentences.{placeWords, foundWords, allowedWords, refusalWords, warning, warningWords, sentence};
+ghost use Rattle.sentences.specs.Sentences.{place_words, found_words, allowed_words, refusal_words, warning, warning_words, sentence};
 
 use crate::figures::{put_and_date, put_and_number};
 use crate::found::put_and_found;
@@ -33,7 +33,7 @@ fn put_in_field(out: &mut [u8], at: usize, field: u64) -> usize
 
 // The line, the byte and the field.
 fn put_place(out: &mut [u8], at: usize, line: u64, byte: u64, field: u64) -> usize
-    ensures { Counted out.old at (placeWords line byte field) out.new result }
+    ensures { Counted out.old at (place_words line byte field) out.new result }
 {
     let d = put_and_number(out, at, b"Line ", line);
     let e = put_and_number(out, d, b", byte ", byte);
@@ -44,7 +44,7 @@ fn put_place(out: &mut [u8], at: usize, line: u64, byte: u64, field: u64) -> usi
 
 // What was allowed instead.
 fn put_instead(out: &mut [u8], at: usize, sh: Sheet, today: u64, x: Finding) -> usize
-    ensures { Counted out.old at (allowedWords sh today x) out.new result }
+    ensures { Counted out.old at (allowed_words sh today x) out.new result }
 {
     let d = put_bytes(out, at, b"; allowed: ");
     let e = crate::allowed::put_allowed(out, d, sh, today, x.cause, x.field, x.least, x.most);
@@ -53,7 +53,7 @@ fn put_instead(out: &mut [u8], at: usize, sh: Sheet, today: u64, x: Finding) -> 
 
 // What was found and what was allowed, behind the number.
 fn put_reason(out: &mut [u8], at: usize, sh: Sheet, today: u64, f: &[u8], x: Finding) -> usize
-    ensures { Counted out.old at (bytes "); found " ++ (foundWords f.now x.number x.byte x.length ++ allowedWords sh today x)) out.new result }
+    ensures { Counted out.old at (bytes "); found " ++ (found_words f.now x.number x.byte x.length ++ allowed_words sh today x)) out.new result }
 {
     let e = put_and_found(out, at, b"); found ", f, x.number, x.byte, x.length);
     put_instead(out, e, sh, today, x)
@@ -61,7 +61,7 @@ fn put_reason(out: &mut [u8], at: usize, sh: Sheet, today: u64, f: &[u8], x: Fin
 
 // The rule that it goes by, what was found, and what was allowed.
 fn put_refusal(out: &mut [u8], at: usize, sh: Sheet, today: u64, f: &[u8], x: Finding) -> usize
-    ensures { Counted out.old at (refusalWords sh today f.now x) out.new result }
+    ensures { Counted out.old at (refusal_words sh today f.now x) out.new result }
 {
     let d = crate::phrases::put_rule(out, at, x.number);
     let e = put_and_number(out, d, b" (", x.number);
@@ -100,7 +100,7 @@ fn put_warned(out: &mut [u8], at: usize, cause: u64, a: u64, b: u64) -> usize
 
 // .. and what was found.
 fn put_warning(out: &mut [u8], at: usize, f: &[u8], x: Finding) -> usize
-    ensures { Counted out.old at (warningWords f.now x) out.new result }
+    ensures { Counted out.old at (warning_words f.now x) out.new result }
 {
     let d = put_warned(out, at, x.cause, x.least, x.most);
     let e = put_and_found(out, d, b"; found ", f, x.number, x.byte, x.length);
@@ -111,7 +111,7 @@ fn put_warning(out: &mut [u8], at: usize, f: &[u8], x: Finding) -> usize
 
 // What it is, behind its place.
 fn put_told(out: &mut [u8], at: usize, sh: Sheet, today: u64, f: &[u8], x: Finding) -> usize
-    ensures { Counted out.old at (pick (eqb x.number 0) (warningWords f.now x) (refusalWords sh today f.now x)) out.new result }
+    ensures { Counted out.old at (pick (eqb x.number 0) (warning_words f.now x) (refusal_words sh today f.now x)) out.new result }
 {
     if x.number == 0 {
         return put_warning(out, at, f, x);

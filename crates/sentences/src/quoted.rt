@@ -2,7 +2,7 @@
 ghost use Rattle.std.specs.Prelude.{◌≡◌, ◌++◌, ◌%◌, take};
 ghost use Rattle.paper.specs.Bytes.{bytes};
 ghost use Rattle.numeral.specs.counted.Counted.{Counted};
-ghost use Rattle.sentences.specs.Quoted.{is_plain, hexDigit, quotedByte, quotedBytes, ofHowMany, quoted, quotedOr};
+ghost use Rattle.sentences.specs.Quoted.{is_plain, hex_digit, quoted_byte, quoted_bytes, of_how_many, quoted, quoted_or};
 
 use numeral::counted::{put_byte, put_bytes, put_number};
 
@@ -27,7 +27,7 @@ fn is_plain(x: u8) -> bool
 
 // The last digit of sixteen of d.
 fn hex_digit(d: u8) -> u8
-    ensures { result ≡ hexDigit (d % 16) }
+    ensures { result ≡ hex_digit (d % 16) }
 {
     let h = d % 16;
     if h < 10 {
@@ -38,7 +38,7 @@ fn hex_digit(d: u8) -> u8
 
 // One byte, as it stands in quotes.
 fn put_quoted_byte(out: &mut [u8], at: usize, x: u8) -> usize
-    ensures { Counted out.old at (quotedByte x) out.new result }
+    ensures { Counted out.old at (quoted_byte x) out.new result }
 {
     if is_plain(x) {
         return put_byte(out, at, x);
@@ -50,7 +50,7 @@ fn put_quoted_byte(out: &mut [u8], at: usize, x: u8) -> usize
 
 // Each byte of s.
 fn put_each(out: &mut [u8], at: usize, s: &[u8]) -> usize
-    ensures { Counted out.old at (quotedBytes s.now) out.new result }
+    ensures { Counted out.old at (quoted_bytes s.now) out.new result }
 {
     let mut next = at;
     let mut i = 0;
@@ -63,7 +63,7 @@ fn put_each(out: &mut [u8], at: usize, s: &[u8]) -> usize
 
 // .. of the first 60.
 fn put_first(out: &mut [u8], at: usize, s: &[u8]) -> usize
-    ensures { Counted out.old at (quotedBytes (take 60 s.now)) out.new result }
+    ensures { Counted out.old at (quoted_bytes (take 60 s.now)) out.new result }
 {
     if 60 < s.len() {
         let end = 60;
@@ -74,7 +74,7 @@ fn put_first(out: &mut [u8], at: usize, s: &[u8]) -> usize
 
 // Of how many they are the first.
 fn put_of_how_many(out: &mut [u8], at: usize, n: u64) -> usize
-    ensures { Counted out.old at (ofHowMany n) out.new result }
+    ensures { Counted out.old at (of_how_many n) out.new result }
 {
     if 60 < n {
         let d = put_bytes(out, at, b", the first 60 of ");
@@ -86,7 +86,7 @@ fn put_of_how_many(out: &mut [u8], at: usize, n: u64) -> usize
 
 // The quote behind them, and of how many they are the first.
 fn put_end(out: &mut [u8], at: usize, n: u64) -> usize
-    ensures { Counted out.old at (bytes "\"" ++ ofHowMany n) out.new result }
+    ensures { Counted out.old at (bytes "\"" ++ of_how_many n) out.new result }
 {
     let e = put_byte(out, at, 34);
     put_of_how_many(out, e, n)
@@ -103,7 +103,7 @@ fn put_quoted(out: &mut [u8], at: usize, s: &[u8]) -> usize
 
 // .. or `nothing`, where there is no byte.
 pub fn put_quoted_or(out: &mut [u8], at: usize, s: &[u8]) -> usize
-    ensures { Counted out.old at (quotedOr s.now) out.new result }
+    ensures { Counted out.old at (quoted_or s.now) out.new result }
 {
     if s.len() == 0 {
         return put_bytes(out, at, b"nothing");

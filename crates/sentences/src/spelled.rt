@@ -3,7 +3,7 @@ ghost use Rattle.std.specs.Prelude.{◌≡◌, [], ◌++◌};
 ghost use Rattle.base.specs.Pick.{pick};
 ghost use Rattle.numeral.specs.counted.Counted.{Counted};
 ghost use Rattle.sentences.specs.Phrases.{said};
-ghost use Rattle.sentences.specs.Allowed.{someDigits, spellings, spelledAccount, singleWords, spelledPayer, spelledAmount, spelledText, spelledRest, spelledDue, spelledAs, closingWords};
+ghost use Rattle.sentences.specs.Allowed.{some_digits, spellings, spelled_account, single_words, spelled_payer, spelled_amount, spelled_text, spelled_rest, spelled_due, spelled_as, closing_words};
 
 use crate::figures::put_some_digits;
 use numeral::counted::put_bytes;
@@ -53,7 +53,7 @@ fn put_and_if(out: &mut [u8], at: usize, text: &[u8], yes: bool, more: &[u8]) ->
 
 // The digits of an account with no dash.
 fn put_account_digits(out: &mut [u8], at: usize, sh: Sheet) -> usize
-    ensures { Counted out.old at (someDigits sh.basemin (pick sh.joined 16 10)) out.new result }
+    ensures { Counted out.old at (some_digits sh.basemin (pick sh.joined 16 10)) out.new result }
 {
     let most = one_of(sh.joined, 16, 10);
     put_some_digits(out, at, sh.basemin as u64, most)
@@ -61,7 +61,7 @@ fn put_account_digits(out: &mut [u8], at: usize, sh: Sheet) -> usize
 
 // An account.
 fn put_account(out: &mut [u8], at: usize, sh: Sheet) -> usize
-    ensures { Counted out.old at (spelledAccount sh) out.new result }
+    ensures { Counted out.old at (spelled_account sh) out.new result }
 {
     let d = put_account_digits(out, at, sh);
     let e = put_bytes(out, d, b", or 1 to 6 digits, a dash and ");
@@ -70,7 +70,7 @@ fn put_account(out: &mut [u8], at: usize, sh: Sheet) -> usize
 
 // What makes a group single.
 fn put_single(out: &mut [u8], at: usize, empty: bool, zeros: bool) -> usize
-    ensures { Counted out.old at (singleWords empty zeros) out.new result }
+    ensures { Counted out.old at (single_words empty zeros) out.new result }
 {
     if empty {
         let both = b"; nothing or zeros alone for a single group";
@@ -81,7 +81,7 @@ fn put_single(out: &mut [u8], at: usize, empty: bool, zeros: bool) -> usize
 
 // A group's payer.
 fn put_payer(out: &mut [u8], at: usize, sh: Sheet) -> usize
-    ensures { Counted out.old at (spelledPayer sh) out.new result }
+    ensures { Counted out.old at (spelled_payer sh) out.new result }
 {
     let e = put_account(out, at, sh);
     put_single(out, e, sh.emptypayer, sh.zeropayer)
@@ -89,7 +89,7 @@ fn put_payer(out: &mut [u8], at: usize, sh: Sheet) -> usize
 
 // An amount of at most so many digits.
 fn put_amount(out: &mut [u8], at: usize, sh: Sheet, most: u64) -> usize
-    ensures { Counted out.old at (spelledAmount sh most) out.new result }
+    ensures { Counted out.old at (spelled_amount sh most) out.new result }
 {
     if sh.comma {
         return put_bytes(
@@ -103,7 +103,7 @@ fn put_amount(out: &mut [u8], at: usize, sh: Sheet, most: u64) -> usize
 
 // An item's text.
 fn put_text(out: &mut [u8], at: usize, sh: Sheet) -> usize
-    ensures { Counted out.old at (spelledText sh) out.new result }
+    ensures { Counted out.old at (spelled_text sh) out.new result }
 {
     if sh.bare {
         return put_bytes(
@@ -124,7 +124,7 @@ fn put_text(out: &mut [u8], at: usize, sh: Sheet) -> usize
 
 // The first line's rest.
 fn put_rest(out: &mut [u8], at: usize, short: bool) -> usize
-    ensures { Counted out.old at (spelledRest short) out.new result }
+    ensures { Counted out.old at (spelled_rest short) out.new result }
 {
     put_one_of(
         out,
@@ -137,7 +137,7 @@ fn put_rest(out: &mut [u8], at: usize, short: bool) -> usize
 
 // A due date.
 fn put_due(out: &mut [u8], at: usize, long: bool) -> usize
-    ensures { Counted out.old at (spelledDue long) out.new result }
+    ensures { Counted out.old at (spelled_due long) out.new result }
 {
     put_and_if(
         out,
@@ -150,7 +150,7 @@ fn put_due(out: &mut [u8], at: usize, long: bool) -> usize
 
 // A specific symbol, which may be empty where its spaces always stand.
 fn put_symbol(out: &mut [u8], at: usize, fixed: bool) -> usize
-    ensures { Counted out.old at (someDigits (pick fixed 0 1) 10) out.new result }
+    ensures { Counted out.old at (some_digits (pick fixed 0 1) 10) out.new result }
 {
     let least = one_of(fixed, 0, 1);
     put_some_digits(out, at, least, 10)
@@ -179,7 +179,7 @@ fn put_spelling(out: &mut [u8], at: usize, field: u64) -> usize
 
 // How the field is spelled.
 pub fn put_spelled(out: &mut [u8], at: usize, sh: Sheet, field: u64) -> usize
-    ensures { Counted out.old at (spelledAs sh field) out.new result }
+    ensures { Counted out.old at (spelled_as sh field) out.new result }
 {
     match field {
         6 => put_rest(out, at, sh.short),
@@ -197,7 +197,7 @@ pub fn put_spelled(out: &mut [u8], at: usize, sh: Sheet, field: u64) -> usize
 
 // The lines that close.
 pub fn put_closing(out: &mut [u8], at: usize, near: bool, field: u64) -> usize
-    ensures { Counted out.old at (closingWords near field) out.new result }
+    ensures { Counted out.old at (closing_words near field) out.new result }
 {
     if field == 50 {
         return put_and_if(out, at, b"3 +", near, b" or 3+");

@@ -11,7 +11,7 @@ use Rattle.base.proofs.Cases.{both, pick_true, pick-false}
 use Rattle.sheet.specs.declared.Sheet.{Sheet}
 use Rattle.sheet.specs.declared.Known.{Known}
 use Rattle.sheet.specs.declared.Known.TheVariants as known
-use Rattle.sheet.specs.Sheets.{sheets, firstNamed, sheetOf, sheetBy}
+use Rattle.sheet.specs.Sheets.{sheets, first_named, sheet_of, sheet_by}
 
 -- ---- by its name
 
@@ -37,20 +37,20 @@ either-named false a s rest p q e = q e
 
 module _ (name : Sheet → ℕ) (n : ℕ) (s : Sheet) where
   -- what is tested of every sheet of a list holds of the one that is named
-  tested : (t : Sheet → Bool) (shs : List Sheet) → every t shs ≡ true → firstNamed name n shs ≡ known.Sheet s → t s ≡ true
+  tested : (t : Sheet → Bool) (shs : List Sheet) → every t shs ≡ true → first_named name n shs ≡ known.Sheet s → t s ≡ true
   tested t [] w e = nothing s e
   tested t (a ∷ shs) w e =
       let (here, there) = both (t a) (every t shs) w in
       either-named _ a s _ (λ _ same. rw same at here) (tested t shs there) e
 
   -- it has that name
-  has-name : (shs : List Sheet) → firstNamed name n shs ≡ known.Sheet s → name s ≡ n
+  has-name : (shs : List Sheet) → first_named name n shs ≡ known.Sheet s → name s ≡ n
   has-name [] e = nothing s e
   has-name (a ∷ shs) e = either-named _ a s _ (λ t same. rw same at (sym (eqb-true n (name a) t))) (has-name shs) e
 
   -- and where no two of them have one name of another sort, that one names it too
-  named-also : (other : Sheet → ℕ) (shs : List Sheet) → apart other shs ≡ true → firstNamed name n shs ≡ known.Sheet s
-      → firstNamed other (other s) shs ≡ known.Sheet s
+  named-also : (other : Sheet → ℕ) (shs : List Sheet) → apart other shs ≡ true → first_named name n shs ≡ known.Sheet s
+      → first_named other (other s) shs ≡ known.Sheet s
   named-also other [] w e = nothing s e
   named-also other (a ∷ shs) w e =
       let (fresh, rest) = both (every (λ x. not (eqb (other x) (other a))) shs) (apart other shs) w in
@@ -59,31 +59,31 @@ module _ (name : Sheet → ℕ) (n : ℕ) (s : Sheet) where
       (λ q. pick-false _ _ (not-true _ (tested (λ x. not (eqb (other x) (other a))) shs fresh q)) ∙ named-also other shs rest q)
       e
 
-module _ (n : ℕ) (s : Sheet) (named : sheetOf n ≡ known.Sheet s) where
+module _ (n : ℕ) (s : Sheet) (named : sheet_of n ≡ known.Sheet s) where
   -- what is tested of every known sheet holds of the one that a number names
   pub every-sheet : (t : Sheet → Bool) → every t sheets ≡ true → t s ≡ true
-  unfolding sheetOf
+  unfolding sheet_of
   every-sheet t w = tested (λ x. x.number) n s t sheets w named
 
   -- its letter names it too
-  pub letter-same : sheetBy s.letter ≡ known.Sheet s
-  unfolding sheetOf sheetBy
+  pub letter-same : sheet_by s.letter ≡ known.Sheet s
+  unfolding sheet_of sheet_by
   letter-same = named-also (λ x. x.number) n s (λ x. x.letter) sheets refl named
 
-module _ (b : ℕ) (s : Sheet) (named : sheetBy b ≡ known.Sheet s) where
+module _ (b : ℕ) (s : Sheet) (named : sheet_by b ≡ known.Sheet s) where
   -- .. and of the one that a letter names
   pub every-letter : (t : Sheet → Bool) → every t sheets ≡ true → t s ≡ true
-  unfolding sheetBy
+  unfolding sheet_by
   every-letter t w = tested (λ x. x.letter) b s t sheets w named
 
   -- it has that letter,
   pub sheet-letter : s.letter ≡ b
-  unfolding sheetBy
+  unfolding sheet_by
   sheet-letter = has-name (λ x. x.letter) b s sheets named
 
   -- and its number names it too
-  pub number_same : sheetOf s.number ≡ known.Sheet s
-  unfolding sheetOf sheetBy
+  pub number_same : sheet_of s.number ≡ known.Sheet s
+  unfolding sheet_of sheet_by
   number_same = named-also (λ x. x.letter) b s (λ x. x.number) sheets refl named
 
 -- ---- its parameters
@@ -91,23 +91,23 @@ module _ (b : ℕ) (s : Sheet) (named : sheetBy b ≡ known.Sheet s) where
 -- the bounds that every sheet keeps to. A text as it stands has no name and is one part. A tail that always has its text, which may be empty, has it as it stands. Where no header is read, none
 -- limits the numbers of account files.
 pub record Sane (s : Sheet) : Type 0 where
-  pub base-some : 1 ≤ s.basemin
-  pub base-few : s.basemin ≤ 2
-  pub parts-some : 0 < s.text.most
-  pub parts-few : s.text.most ≤ 4
-  pub names-av : s.text.av ≡ false → s.text.names ≡ false
-  pub part-alone : s.text.av ≡ false → s.text.most ≡ 1
-  pub as-stands : s.fixedtail ≡ true → s.text.av ≡ false
-  pub no-interval : s.header ≡ false → s.interval ≡ false
-  pub digits-some : 1 ≤ s.itemdigits
-  pub digits-few : s.itemdigits ≤ 14
-  pub item-low : s.itemmax ≤ 99999999999999
+  pub base_some : 1 ≤ s.basemin
+  pub base_few : s.basemin ≤ 2
+  pub parts_some : 0 < s.text.most
+  pub parts_few : s.text.most ≤ 4
+  pub names_av : s.text.av ≡ false → s.text.names ≡ false
+  pub part_alone : s.text.av ≡ false → s.text.most ≡ 1
+  pub as_stands : s.fixedtail ≡ true → s.text.av ≡ false
+  pub no_interval : s.header ≡ false → s.interval ≡ false
+  pub digits_some : 1 ≤ s.itemdigits
+  pub digits_few : s.itemdigits ≤ 14
+  pub item_low : s.itemmax ≤ 99999999999999
   pub item-fits : s.itemmax < 10 ^ s.itemdigits
   pub days : s.ahead ≤ 36525
-  pub kind-first : 1501 ≤ s.lastkind
-  pub kind-last : s.lastkind ≤ 1504
-  pub bank-low : s.bank ≤ 9999
-  pub items-low : s.fileitems ≤ 99999000
+  pub kind_first : 1501 ≤ s.lastkind
+  pub kind_last : s.lastkind ≤ 1504
+  pub bank_low : s.bank ≤ 9999
+  pub items_low : s.fileitems ≤ 99999000
 
 -- a test that holds unless another one does
 unless : (t u : Bool) → (t || not u) ≡ true → t ≡ false → u ≡ false
@@ -118,29 +118,29 @@ holds-or : (t u : Bool) → (t || u) ≡ true → t ≡ false → u ≡ true
 holds-or t u e f = rw f at e
 
 -- each bound is tested of every known sheet
-pub sane : (n : ℕ) (s : Sheet) → sheetOf n ≡ known.Sheet s → Sane s
+pub sane : (n : ℕ) (s : Sheet) → sheet_of n ≡ known.Sheet s → Sane s
 sane n s h =
     let holds = every-sheet n s h in
     record {
-      base-some = leb-true _ _ (holds (λ x. leb 1 x.basemin) refl);
-      base-few = leb-true _ _ (holds (λ x. leb x.basemin 2) refl);
-      parts-some = ltb-true _ _ (holds (λ x. ltb 0 x.text.most) refl);
-      parts-few = leb-true _ _ (holds (λ x. leb x.text.most 4) refl);
-      names-av = unless _ _ (holds (λ x. x.text.av || not x.text.names) refl);
-      part-alone = λ e. eqb-true _ _ (holds-or s.text.av (eqb s.text.most 1) (holds (λ x. x.text.av || eqb x.text.most 1) refl) e);
-      as-stands = λ e. unless (not s.fixedtail) _ (holds (λ x. not x.fixedtail || not x.text.av) refl) (rw e);
-      no-interval = unless _ _ (holds (λ x. x.header || not x.interval) refl);
-      digits-some = leb-true _ _ (holds (λ x. leb 1 x.itemdigits) refl);
-      digits-few = leb-true _ _ (holds (λ x. leb x.itemdigits 14) refl);
-      item-low = leb-true _ _ (holds (λ x. leb x.itemmax 99999999999999) refl);
+      base_some = leb-true _ _ (holds (λ x. leb 1 x.basemin) refl);
+      base_few = leb-true _ _ (holds (λ x. leb x.basemin 2) refl);
+      parts_some = ltb-true _ _ (holds (λ x. ltb 0 x.text.most) refl);
+      parts_few = leb-true _ _ (holds (λ x. leb x.text.most 4) refl);
+      names_av = unless _ _ (holds (λ x. x.text.av || not x.text.names) refl);
+      part_alone = λ e. eqb-true _ _ (holds-or s.text.av (eqb s.text.most 1) (holds (λ x. x.text.av || eqb x.text.most 1) refl) e);
+      as_stands = λ e. unless (not s.fixedtail) _ (holds (λ x. not x.fixedtail || not x.text.av) refl) (rw e);
+      no_interval = unless _ _ (holds (λ x. x.header || not x.interval) refl);
+      digits_some = leb-true _ _ (holds (λ x. leb 1 x.itemdigits) refl);
+      digits_few = leb-true _ _ (holds (λ x. leb x.itemdigits 14) refl);
+      item_low = leb-true _ _ (holds (λ x. leb x.itemmax 99999999999999) refl);
       item-fits = ltb-true _ _ (holds (λ x. ltb x.itemmax (10 ^ x.itemdigits)) refl);
       days = leb-true _ _ (holds (λ x. leb x.ahead 36525) refl);
-      kind-first = leb-true _ _ (holds (λ x. leb 1501 x.lastkind) refl);
-      kind-last = leb-true _ _ (holds (λ x. leb x.lastkind 1504) refl);
-      bank-low = leb-true _ _ (holds (λ x. leb x.bank 9999) refl);
-      items-low = leb-true _ _ (holds (λ x. leb x.fileitems 99999000) refl);
+      kind_first = leb-true _ _ (holds (λ x. leb 1501 x.lastkind) refl);
+      kind_last = leb-true _ _ (holds (λ x. leb x.lastkind 1504) refl);
+      bank_low = leb-true _ _ (holds (λ x. leb x.bank 9999) refl);
+      items_low = leb-true _ _ (holds (λ x. leb x.fileitems 99999000) refl);
     }
 
 -- the same of a sheet that was looked up
-pub sheet-sane : (r : Known) (n : ℕ) → r ≡ sheetOf n → (s : Sheet) → r ≡ known.Sheet s → Sane s
+pub sheet-sane : (r : Known) (n : ℕ) → r ≡ sheet_of n → (s : Sheet) → r ≡ known.Sheet s → Sane s
 sheet-sane r n g s e = sane n s (sym g ∙ e)

@@ -10,32 +10,32 @@ use Rattle.sheet.specs.declared.Known.{Known}
 use Rattle.sheet.specs.declared.Known.TheVariants as known
 
 -- "Tail": on K and E a text begins `AV:`, has up to four parts and no name, and nothing in it is cut
-abbrev pub styleKE : Style
-styleKE = record { av = true; may = false; names = false; cuts = false; clean = false; most = 4 }
+abbrev pub style_ke : Style
+style_ke = record { av = true; may = false; names = false; cuts = false; clean = false; most = 4 }
 
 -- on S it is one part as it stands
-abbrev pub styleS : Style
-styleS = record { av = false; may = false; names = false; cuts = false; clean = false; most = 1 }
+abbrev pub style_s : Style
+style_s = record { av = false; may = false; names = false; cuts = false; clean = false; most = 1 }
 
 -- on C `AV:` may be missing, a name may follow, and what is too long is cut
-abbrev pub styleC : Style
-styleC = record { av = true; may = true; names = true; cuts = true; clean = false; most = 4 }
+abbrev pub style_c : Style
+style_c = record { av = true; may = true; names = true; cuts = true; clean = false; most = 4 }
 
 -- on P, document 02, W-201: as on K, but no part holds `#` or `~`
-abbrev pub styleP : Style
-styleP = record { av = true; may = false; names = false; cuts = false; clean = true; most = 4 }
+abbrev pub style_p : Style
+style_p = record { av = true; may = false; names = false; cuts = false; clean = true; most = 4 }
 
 -- as many days as 2000 to 2099 have, so that no day is too far ahead ("Due date": S and E)
-abbrev pub anyDay : ℕ
-anyDay = 36525
+abbrev pub any_day : ℕ
+any_day = 36525
 
 -- as many items as 1,000 account files of 99,999 have, so that no file has too many ("Numbers returned", 15: only S has a limit of its own)
-abbrev pub anyItems : ℕ
-anyItems = 99999000
+abbrev pub any_items : ℕ
+any_items = 99999000
 
 -- source document 000
-abbrev pub sheetK : Sheet
-sheetK =
+abbrev pub sheet_k : Sheet
+sheet_k =
     record {
       number = 1;
       letter = 75;
@@ -61,14 +61,14 @@ sheetK =
       priority = true;
       fixedtail = false;
       bare = false;
-      text = styleKE;
+      text = style_ke;
       strict = true;
-      fileitems = anyItems;
+      fileitems = any_items;
     }
 
 -- source document 001
-abbrev pub sheetS : Sheet
-sheetS =
+abbrev pub sheet_s : Sheet
+sheet_s =
     record {
       number = 2;
       letter = 83;
@@ -83,7 +83,7 @@ sheetS =
       emptypayer = true;
       zeropayer = false;
       longdate = false;
-      ahead = anyDay;
+      ahead = any_day;
       early = false;
       warnpast = false;
       collects = false;
@@ -94,14 +94,14 @@ sheetS =
       priority = false;
       fixedtail = true;
       bare = false;
-      text = styleS;
+      text = style_s;
       strict = true;
       fileitems = 1000;
     }
 
 -- source document 002
-abbrev pub sheetC : Sheet
-sheetC =
+abbrev pub sheet_c : Sheet
+sheet_c =
     record {
       number = 3;
       letter = 67;
@@ -127,14 +127,14 @@ sheetC =
       priority = false;
       fixedtail = false;
       bare = true;
-      text = styleC;
+      text = style_c;
       strict = false;
-      fileitems = anyItems;
+      fileitems = any_items;
     }
 
 -- source document 003
-abbrev pub sheetE : Sheet
-sheetE =
+abbrev pub sheet_e : Sheet
+sheet_e =
     record {
       number = 4;
       letter = 69;
@@ -149,7 +149,7 @@ sheetE =
       emptypayer = true;
       zeropayer = true;
       longdate = false;
-      ahead = anyDay;
+      ahead = any_day;
       early = true;
       warnpast = false;
       collects = false;
@@ -160,15 +160,15 @@ sheetE =
       priority = false;
       fixedtail = false;
       bare = false;
-      text = styleKE;
+      text = style_ke;
       strict = false;
-      fileitems = anyItems;
+      fileitems = any_items;
     }
 
 -- document 02, W-201: source document 004, the edition before 002. Bank field, accounts, amounts and due days as on C, first line as on S, tail
 -- as on K but for the priority, which it has not.
-abbrev pub sheetP : Sheet
-sheetP =
+abbrev pub sheet_p : Sheet
+sheet_p =
     record {
       number = 5;
       letter = 80;
@@ -194,37 +194,37 @@ sheetP =
       priority = false;
       fixedtail = false;
       bare = false;
-      text = styleP;
+      text = style_p;
       strict = true;
-      fileitems = anyItems;
+      fileitems = any_items;
     }
 
 -- "What the library handles": the known sheets. A new one is a line here.
 abbrev pub sheets : List Sheet
 sheets =
-    sheetK
-    ∷ sheetS
-    ∷ sheetC
-    ∷ sheetE
-    ∷ sheetP
+    sheet_k
+    ∷ sheet_s
+    ∷ sheet_c
+    ∷ sheet_e
+    ∷ sheet_p
     ∷ []
 
 -- the first of the sheets whose name, that is its number or its letter, is n
-abbrev pub firstNamed : (Sheet → ℕ) → ℕ → List Sheet → Known
-firstNamed name n [] = known.Nothing
-firstNamed name n (sh ∷ shs) = pick (eqb n (name sh)) (known.Sheet sh) (firstNamed name n shs)
+abbrev pub first_named : (Sheet → ℕ) → ℕ → List Sheet → Known
+first_named name n [] = known.Nothing
+first_named name n (sh ∷ shs) = pick (eqb n (name sh)) (known.Sheet sh) (first_named name n shs)
 
 -- "What the library handles": the known sheet of that number, so 1 is K, 2 is S, 3 is C, 4 is E, 5 is P, and no other number names a sheet
-unfoldable pub sheetOf : ℕ → Known
-sheetOf n = firstNamed (λ (sh : Sheet). sh.number) n sheets
+unfoldable pub sheet_of : ℕ → Known
+sheet_of n = first_named (λ (sh : Sheet). sh.number) n sheets
 
 -- "A whole run": the same by letter
-unfoldable pub sheetBy : ℕ → Known
-sheetBy b = firstNamed (λ (sh : Sheet). sh.letter) b sheets
+unfoldable pub sheet_by : ℕ → Known
+sheet_by b = first_named (λ (sh : Sheet). sh.letter) b sheets
 
 -- "Lines", KIND: K and E 1501, S and P 1501 and 1502, C 1501 to 1504
-unfoldable pub kindAllowed : Sheet → ℕ → Bool
-kindAllowed sh kind = pick (ltb kind 1501) false (leb kind sh.lastkind)
+unfoldable pub kind_allowed : Sheet → ℕ → Bool
+kind_allowed sh kind = pick (ltb kind 1501) false (leb kind sh.lastkind)
 
 -- the first and the last of them
 pub record KindsOf (sh : Sheet) (k : Kinds) : Type 0 where
@@ -239,5 +239,5 @@ pub record LimitsOf (sh : Sheet) (l : Limits) : Type 0 where
   pub ahead : l.ahead ≡ sh.ahead
 
 -- "Lines", BANK: the sheet's own; C takes any
-unfoldable pub bankAllowed : Sheet → ℕ → Bool
-bankAllowed sh code = pick sh.anybank true (eqb code sh.bank)
+unfoldable pub bank_allowed : Sheet → ℕ → Bool
+bank_allowed sh code = pick sh.anybank true (eqb code sh.bank)

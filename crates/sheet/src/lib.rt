@@ -1,6 +1,6 @@
 // The sheets, known by name. A sheet is a record of what its bank asks; every rule takes it as a parameter and is proved once.
 ghost use Rattle.std.specs.Prelude.{◌≡◌};
-ghost use Rattle.sheet.specs.Sheets.{KindsOf, LimitsOf, kindAllowed, bankAllowed, sheetOf, sheetBy};
+ghost use Rattle.sheet.specs.Sheets.{KindsOf, LimitsOf, kind_allowed, bank_allowed, sheet_of, sheet_by};
 
 // What a sheet asks of the text of an item.
 #[derive(Drop)]
@@ -303,7 +303,7 @@ impl Sheet {
 
     // May an account file on this sheet name this bank?
     pub fn bank_allowed(self, code: u64) -> bool
-        ensures { result ≡ bankAllowed self code }
+        ensures { result ≡ bank_allowed self code }
     {
         if self.anybank {
             return true;
@@ -313,7 +313,7 @@ impl Sheet {
 
     // May an account file on this sheet be of this kind?
     pub fn kind_allowed(self, kind: u64) -> bool
-        ensures { result ≡ kindAllowed self kind }
+        ensures { result ≡ kind_allowed self kind }
     {
         let kinds = self.kinds();
         if kind < kinds.first {
@@ -331,7 +331,7 @@ pub enum Known {
 
 // The sheet that a number names.
 pub fn sheet_of(number: u64) -> Known
-    ensures { result ≡ sheetOf number }
+    ensures { result ≡ sheet_of number }
 {
     match number {
         1 => Known::Sheet(Sheet::K),
@@ -345,7 +345,7 @@ pub fn sheet_of(number: u64) -> Known
 
 // The sheet that a letter names.
 pub fn sheet_by(letter: u8) -> Known
-    ensures { result ≡ sheetBy letter }
+    ensures { result ≡ sheet_by letter }
 {
     match letter {
         75 => Known::Sheet(Sheet::K),

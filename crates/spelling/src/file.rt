@@ -2,15 +2,15 @@
 ghost use Rattle.std.specs.Prelude.{◌≡◌, ◌+◌, ◌-◌, ◌≤◌, length, drop};
 ghost use Rattle.base.specs.Put.{Wrote};
 ghost use Rattle.paper.specs.Batch.{most14};
-ghost use Rattle.paper.specs.Proper.{needFile, fine, batchProper};
+ghost use Rattle.paper.specs.Proper.{need_file, fine, batch_proper};
 ghost use Rattle.paper.specs.Words.{words};
-ghost use Rattle.paper.specs.Rows.{thingIn, rowsIn, thingsIn};
-ghost use Rattle.roundtrip.specs.flat.Flat.{groupEnds, fileEnds, flat};
+ghost use Rattle.paper.specs.Rows.{thing_in, rows_in, things_in};
+ghost use Rattle.roundtrip.specs.flat.Flat.{group_ends, file_ends, flat};
 ghost use Rattle.out.specs.word.Places.{rows_from};
-ghost use Rattle.rows.specs.list.From.{thingsFrom};
-ghost use Rattle.spelling.specs.file.Sum.{itemSum};
+ghost use Rattle.rows.specs.list.From.{things_from};
+ghost use Rattle.spelling.specs.file.Sum.{item_sum};
 ghost use Rattle.spelling.specs.file.Passing.{Passing};
-ghost use Rattle.spelling.specs.file.Lines.{stageWhen, Filled};
+ghost use Rattle.spelling.specs.file.Lines.{stage_when, Filled};
 
 use rows::read::RowRead;
 use sheet::Sheet;
@@ -25,8 +25,8 @@ pub struct Step {
 // The sum of the items whose rows stand at `from` and behind it, up to the next row of another kind.
 fn group_sum(rows: &[u8], from: usize) -> u64
     requires from_in_bounds { from ≤ length rows.now }
-    requires from_bound { itemSum (rows_from 24 rows.now from) ≤ most14 }
-    ensures { result ≡ itemSum (rows_from 24 rows.now from) }
+    requires from_bound { item_sum (rows_from 24 rows.now from) ≤ most14 }
+    ensures { result ≡ item_sum (rows_from 24 rows.now from) }
 {
     let mut sum: u64 = 0;
     let mut at = from;
@@ -42,8 +42,8 @@ fn group_sum(rows: &[u8], from: usize) -> u64
 
 // Puts the line that closes a group, where it is due.
 fn end_group(out: &mut [u8], at: usize, due: bool) -> usize
-    requires { at + length (groupEnds (stageWhen due)) ≤ length out.old }
-    ensures { Wrote out.old at (groupEnds (stageWhen due)) out.new result }
+    requires { at + length (group_ends (stage_when due)) ≤ length out.old }
+    ensures { Wrote out.old at (group_ends (stage_when due)) out.new result }
 {
     if due {
         return crate::putlines::put_close(out, at, 51);
@@ -53,8 +53,8 @@ fn end_group(out: &mut [u8], at: usize, due: bool) -> usize
 
 // Puts the lines that close a group and its account file, where they are due.
 fn end_file(out: &mut [u8], at: usize, due: bool) -> usize
-    requires { at + length (fileEnds (stageWhen due)) ≤ length out.old }
-    ensures { Wrote out.old at (fileEnds (stageWhen due)) out.new result }
+    requires { at + length (file_ends (stage_when due)) ≤ length out.old }
+    ensures { Wrote out.old at (file_ends (stage_when due)) out.new result }
 {
     if due {
         let e = crate::putlines::put_close(out, at, 51);
@@ -74,9 +74,9 @@ fn fill_row(
     at: usize,
 ) -> Step
     requires in_bounds { 192 ≤ length rows.now - row }
-    requires passing { Passing (thingsFrom texts.now rows.now row) }
-    requires row_in_bounds { at + length (flat sh (stageWhen due) (thingsFrom texts.now rows.now row)) ≤ length out.old }
-    ensures { Filled sh due (thingIn texts.now (words 24 (drop row rows.now))) (thingsFrom texts.now rows.now (row + 192)) out.old at out.new result }
+    requires passing { Passing (things_from texts.now rows.now row) }
+    requires row_in_bounds { at + length (flat sh (stage_when due) (things_from texts.now rows.now row)) ≤ length out.old }
+    ensures { Filled sh due (thing_in texts.now (words 24 (drop row rows.now))) (things_from texts.now rows.now (row + 192)) out.old at out.new result }
 {
     match rows::read::take_row(rows, row) {
         RowRead::File(kind, number) => {
@@ -100,9 +100,9 @@ fn fill_row(
 
 // Puts the lines of all rows, the closing lines among them, from `at` on, and returns the next place.
 pub fn fill_file(rows: &[u8], texts: &[u8], sh: Sheet, out: &mut [u8], at: usize) -> usize
-    requires rows_value { batchProper (thingsIn texts.now (rowsIn rows.now)) ≡ fine }
-    requires rows_in_bounds { at + length (flat sh needFile (thingsIn texts.now (rowsIn rows.now))) ≤ length out.old }
-    ensures { Wrote out.old at (flat sh needFile (thingsIn texts.now (rowsIn rows.now))) out.new result }
+    requires rows_value { batch_proper (things_in texts.now (rows_in rows.now)) ≡ fine }
+    requires rows_in_bounds { at + length (flat sh need_file (things_in texts.now (rows_in rows.now))) ≤ length out.old }
+    ensures { Wrote out.old at (flat sh need_file (things_in texts.now (rows_in rows.now))) out.new result }
 {
     let mut row = 0;
     let mut next = at;

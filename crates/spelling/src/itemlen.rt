@@ -2,11 +2,11 @@
 ghost use Rattle.std.specs.Prelude.{◌≡◌, [], ◌∷◌, ◌++◌, ◌≤◌, eqb, length};
 ghost use Rattle.base.specs.Pick.{pick};
 ghost use Rattle.paper.specs.Numerals.{decimal};
-ghost use Rattle.paper.specs.ItemLine.{spellTail, spellItem};
+ghost use Rattle.paper.specs.ItemLine.{spell_tail, spell_item};
 ghost use Rattle.text.specs.extent.Four.{four};
 ghost use Rattle.text.specs.span.Held.{Within};
 ghost use Rattle.rows.specs.read.Sized.{Sized};
-ghost use Rattle.rows.specs.read.Told.{textOfSpan, item_of};
+ghost use Rattle.rows.specs.read.Told.{text_of_span, item_of};
 ghost use Rattle.spelling.specs.itemlen.Front.{front};
 
 use rows::read::ItemRow;
@@ -54,7 +54,7 @@ fn tail_len(sh: Sheet, specific: u64, a: &[u8], b: &[u8], c: &[u8], d: &[u8], n:
     requires c_len_bound { length c.now ≤ 35 }
     requires d_len_bound { length d.now ≤ 35 }
     requires n_len_bound { length n.now ≤ 35 }
-    ensures value { result ≡ length (spellTail sh specific (four a.now b.now c.now d.now) n.now) }
+    ensures value { result ≡ length (spell_tail sh specific (four a.now b.now c.now d.now) n.now) }
     ensures upper_bound { result ≤ 222 }
 {
     if sh.fixedtail {
@@ -69,7 +69,7 @@ fn tail_len(sh: Sheet, specific: u64, a: &[u8], b: &[u8], c: &[u8], d: &[u8], n:
 // A text of the row.
 pub fn text_of(texts: &[u8], p: Span) -> &[u8]
     requires { Within texts.now p }
-    ensures result_value { result.now ≡ textOfSpan texts.now p }
+    ensures result_value { result.now ≡ text_of_span texts.now p }
     ensures result_len { length result.now ≡ p.len }
 {
     let from = p.at;
@@ -80,7 +80,7 @@ pub fn text_of(texts: &[u8], p: Span) -> &[u8]
 // The whole line.
 pub fn item_len(sh: Sheet, texts: &[u8], x: ItemRow) -> usize
     requires { Sized texts.now x }
-    ensures value { result ≡ length (spellItem sh (item_of texts.now x)) }
+    ensures value { result ≡ length (spell_item sh (item_of texts.now x)) }
     ensures upper_bound { result ≤ 358 }
 {
     let a = text_of(texts, x.part1);

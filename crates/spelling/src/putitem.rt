@@ -3,8 +3,8 @@ ghost use Rattle.std.specs.Prelude.{◌≡◌, false, [], ◌∷◌, ◌++◌, �
 ghost use Rattle.base.specs.Pick.{pick};
 ghost use Rattle.base.specs.Put.{Wrote};
 ghost use Rattle.paper.specs.Numerals.{decimal};
-ghost use Rattle.paper.specs.Texts.{noText};
-ghost use Rattle.paper.specs.ItemLine.{spellTail, spellItem};
+ghost use Rattle.paper.specs.Texts.{no_text};
+ghost use Rattle.paper.specs.ItemLine.{spell_tail, spell_item};
 ghost use Rattle.text.specs.extent.Four.{four};
 ghost use Rattle.rows.specs.read.Sized.{Sized};
 ghost use Rattle.rows.specs.read.Told.{item_of};
@@ -70,7 +70,7 @@ fn left_out(fixed: bool, n: u64) -> bool
 
 // Does no text follow the symbol? On sheets whose tail is fixed, one always does.
 fn textless(fixed: bool, a: &[u8], b: &[u8], c: &[u8], d: &[u8], n: &[u8]) -> bool
-    ensures { result ≡ pick fixed false (noText (four a.now b.now c.now d.now) n.now) }
+    ensures { result ≡ pick fixed false (no_text (four a.now b.now c.now d.now) n.now) }
 {
     if fixed {
         return false;
@@ -90,8 +90,8 @@ fn put_tail(
     d: &[u8],
     n: &[u8],
 ) -> usize
-    requires { at + length (spellTail sh specific (four a.now b.now c.now d.now) n.now) ≤ length out.old }
-    ensures { Wrote out.old at (spellTail sh specific (four a.now b.now c.now d.now) n.now) out.new result }
+    requires { at + length (spell_tail sh specific (four a.now b.now c.now d.now) n.now) ≤ length out.old }
+    ensures { Wrote out.old at (spell_tail sh specific (four a.now b.now c.now d.now) n.now) out.new result }
 {
     if textless(sh.fixedtail, a, b, c, d, n) {
         return put_lone(out, at, specific);
@@ -103,8 +103,8 @@ fn put_tail(
 // Writes the tail of the row's item, which ends its line.
 fn tail_end(out: &mut [u8], at: usize, sh: Sheet, texts: &[u8], x: ItemRow) -> usize
     requires sized { Sized texts.now x }
-    requires x_in_bounds { at + length (spellTail sh x.specific (item_of texts.now x).parts (item_of texts.now x).name ++ (13 ∷ 10 ∷ [])) ≤ length out.old }
-    ensures { Wrote out.old at (spellTail sh x.specific (item_of texts.now x).parts (item_of texts.now x).name ++ (13 ∷ 10 ∷ [])) out.new result }
+    requires x_in_bounds { at + length (spell_tail sh x.specific (item_of texts.now x).parts (item_of texts.now x).name ++ (13 ∷ 10 ∷ [])) ≤ length out.old }
+    ensures { Wrote out.old at (spell_tail sh x.specific (item_of texts.now x).parts (item_of texts.now x).name ++ (13 ∷ 10 ∷ [])) out.new result }
 {
     let a = crate::itemlen::text_of(texts, x.part1);
     let b = crate::itemlen::text_of(texts, x.part2);
@@ -118,8 +118,8 @@ fn tail_end(out: &mut [u8], at: usize, sh: Sheet, texts: &[u8], x: ItemRow) -> u
 // Writes the line of the row's item, and returns the next place.
 pub fn put_item_line(out: &mut [u8], at: usize, sh: Sheet, texts: &[u8], x: ItemRow) -> usize
     requires sized { Sized texts.now x }
-    requires x_in_bounds { at + length (spellItem sh (item_of texts.now x) ++ (13 ∷ 10 ∷ [])) ≤ length out.old }
-    ensures { Wrote out.old at (spellItem sh (item_of texts.now x) ++ (13 ∷ 10 ∷ [])) out.new result }
+    requires x_in_bounds { at + length (spell_item sh (item_of texts.now x) ++ (13 ∷ 10 ∷ [])) ≤ length out.old }
+    ensures { Wrote out.old at (spell_item sh (item_of texts.now x) ++ (13 ∷ 10 ∷ [])) out.new result }
 {
     let e = put_front(out, at, x);
     tail_end(out, e, sh, texts, x)

@@ -1,14 +1,14 @@
 // The first line, and the lines that begin and close account files and groups, put into the output with CR LF behind them.
 ghost use Rattle.std.specs.Prelude.{[], ◌∷◌, ◌++◌, ◌+◌, ◌≤◌, length};
 ghost use Rattle.base.specs.Put.{Wrote};
-ghost use Rattle.paper.specs.Accounts.{account, spellAccount};
+ghost use Rattle.paper.specs.Accounts.{account, spell_account};
 ghost use Rattle.paper.specs.Numerals.{decimal, fixed};
-ghost use Rattle.paper.specs.Days.{spellDay};
+ghost use Rattle.paper.specs.Days.{spell_day};
 ghost use Rattle.paper.specs.Bytes.{bytes};
-ghost use Rattle.paper.specs.FirstLine.{spellFirst};
-ghost use Rattle.paper.specs.FileLine.{spellFile};
-ghost use Rattle.paper.specs.GroupLine.{spellPayer, spellGroup};
-ghost use Rattle.paper.specs.ClosingLine.{spellClose};
+ghost use Rattle.paper.specs.FirstLine.{spell_first};
+ghost use Rattle.paper.specs.FileLine.{spell_file};
+ghost use Rattle.paper.specs.GroupLine.{spell_payer, spell_group};
+ghost use Rattle.paper.specs.ClosingLine.{spell_close};
 
 use sheet::Sheet;
 
@@ -32,8 +32,8 @@ fn fixed_space(out: &mut [u8], at: usize, k: usize, n: u64) -> usize
 
 // Writes an account and a space.
 pub fn account_space(out: &mut [u8], at: usize, prefix: u64, base: u64) -> usize
-    requires { at + length (spellAccount (account prefix base) ++ (32 ∷ [])) ≤ length out.old }
-    ensures { Wrote out.old at (spellAccount (account prefix base) ++ (32 ∷ [])) out.new result }
+    requires { at + length (spell_account (account prefix base) ++ (32 ∷ [])) ≤ length out.old }
+    ensures { Wrote out.old at (spell_account (account prefix base) ++ (32 ∷ [])) out.new result }
 {
     let e = account::put_account(out, at, prefix, base);
     out::put::put_byte(out, e, 32)
@@ -41,8 +41,8 @@ pub fn account_space(out: &mut [u8], at: usize, prefix: u64, base: u64) -> usize
 
 // Writes a payer and a space. Nobody has the space alone, or where his field does not stand `always`, nothing.
 pub fn put_payer(out: &mut [u8], at: usize, always: bool, prefix: u64, base: u64) -> usize
-    requires { at + length (spellPayer always (account prefix base)) ≤ length out.old }
-    ensures { Wrote out.old at (spellPayer always (account prefix base)) out.new result }
+    requires { at + length (spell_payer always (account prefix base)) ≤ length out.old }
+    ensures { Wrote out.old at (spell_payer always (account prefix base)) out.new result }
 {
     if account::is_nobody(prefix, base) {
         if always {
@@ -55,8 +55,8 @@ pub fn put_payer(out: &mut [u8], at: usize, always: bool, prefix: u64, base: u64
 
 // Writes the line's start: `UHL1`, the date and the name.
 fn first_front(out: &mut [u8], at: usize, date: u64, name: &[u8]) -> usize
-    requires { at + length (bytes "UHL1" ++ (spellDay date ++ name.now)) ≤ length out.old }
-    ensures { Wrote out.old at (bytes "UHL1" ++ (spellDay date ++ name.now)) out.new result }
+    requires { at + length (bytes "UHL1" ++ (spell_day date ++ name.now)) ≤ length out.old }
+    ensures { Wrote out.old at (bytes "UHL1" ++ (spell_day date ++ name.now)) out.new result }
 {
     let e = out::put::put_bytes(out, at, b"UHL1");
     let f = calendar::put_day(out, e, date);
@@ -85,8 +85,8 @@ pub fn put_first(
     from: u64,
     to: u64,
 ) -> usize
-    requires { at + length (spellFirst sh (record { date = date; name = name.now; client = client; from = from; to = to }) ++ (13 ∷ 10 ∷ [])) ≤ length out.old }
-    ensures { Wrote out.old at (spellFirst sh (record { date = date; name = name.now; client = client; from = from; to = to }) ++ (13 ∷ 10 ∷ [])) out.new result }
+    requires { at + length (spell_first sh (record { date = date; name = name.now; client = client; from = from; to = to }) ++ (13 ∷ 10 ∷ [])) ≤ length out.old }
+    ensures { Wrote out.old at (spell_first sh (record { date = date; name = name.now; client = client; from = from; to = to }) ++ (13 ∷ 10 ∷ [])) out.new result }
 {
     if sh.header {
         let e = first_front(out, at, date, name);
@@ -106,8 +106,8 @@ fn code_end(out: &mut [u8], at: usize, code: u64) -> usize
 
 // Writes the line that begins an account file: `1 KIND NUMBER BANK`, the bank being the sheet's.
 pub fn put_file_line(out: &mut [u8], at: usize, sh: Sheet, kind: u64, number: u64) -> usize
-    requires { at + length (spellFile sh kind number ++ (13 ∷ 10 ∷ [])) ≤ length out.old }
-    ensures { Wrote out.old at (spellFile sh kind number ++ (13 ∷ 10 ∷ [])) out.new result }
+    requires { at + length (spell_file sh kind number ++ (13 ∷ 10 ∷ [])) ≤ length out.old }
+    ensures { Wrote out.old at (spell_file sh kind number ++ (13 ∷ 10 ∷ [])) out.new result }
 {
     let e = out::put::put_bytes(out, at, b"1 ");
     let f = fixed_space(out, e, 4, kind);
@@ -117,8 +117,8 @@ pub fn put_file_line(out: &mut [u8], at: usize, sh: Sheet, kind: u64, number: u6
 
 // Writes a day, which ends its line.
 fn day_end(out: &mut [u8], at: usize, date: u64) -> usize
-    requires { at + length (spellDay date ++ (13 ∷ 10 ∷ [])) ≤ length out.old }
-    ensures { Wrote out.old at (spellDay date ++ (13 ∷ 10 ∷ [])) out.new result }
+    requires { at + length (spell_day date ++ (13 ∷ 10 ∷ [])) ≤ length out.old }
+    ensures { Wrote out.old at (spell_day date ++ (13 ∷ 10 ∷ [])) out.new result }
 {
     let e = calendar::put_day(out, at, date);
     out::put::put_bytes(out, e, b"\r\n")
@@ -134,8 +134,8 @@ pub fn put_group_line(
     total: u64,
     date: u64,
 ) -> usize
-    requires { at + length (spellGroup sh (account prefix base) total date ++ (13 ∷ 10 ∷ [])) ≤ length out.old }
-    ensures { Wrote out.old at (spellGroup sh (account prefix base) total date ++ (13 ∷ 10 ∷ [])) out.new result }
+    requires { at + length (spell_group sh (account prefix base) total date ++ (13 ∷ 10 ∷ [])) ≤ length out.old }
+    ensures { Wrote out.old at (spell_group sh (account prefix base) total date ++ (13 ∷ 10 ∷ [])) out.new result }
 {
     let e = out::put::put_bytes(out, at, b"2 ");
     let f = put_payer(out, e, sh.emptypayer, prefix, base);
@@ -145,8 +145,8 @@ pub fn put_group_line(
 
 // Writes the line that closes a group (`3 +`) or an account file (`5 +`): `digit` is the first byte.
 pub fn put_close(out: &mut [u8], at: usize, digit: u8) -> usize
-    requires { at + length (spellClose digit ++ (13 ∷ 10 ∷ [])) ≤ length out.old }
-    ensures { Wrote out.old at (spellClose digit ++ (13 ∷ 10 ∷ [])) out.new result }
+    requires { at + length (spell_close digit ++ (13 ∷ 10 ∷ [])) ≤ length out.old }
+    ensures { Wrote out.old at (spell_close digit ++ (13 ∷ 10 ∷ [])) out.new result }
 {
     let e = out::put::put_byte(out, at, digit);
     out::put::put_bytes(out, e, b" +\r\n")

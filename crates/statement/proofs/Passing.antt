@@ -7,8 +7,8 @@ use native.Mathlib.Numerals.{add-one}
 use native.Mathlib.Omega.{arith}
 use lib.ListN.{length, take, drop}
 use Rattle.base.proofs.Lists.{drop-none}
-use Rattle.gpc.specs.Records.{Record, noRecord}
-use Rattle.gpc.specs.Statements.{Spots as Places, Stage, top, within, judge, judgeOn}
+use Rattle.gpc.specs.Records.{Record, no_record}
+use Rattle.gpc.specs.Statements.{Spots as Places, Stage, top, within, judge, judge_on}
 use Rattle.record.specs.declared.Entry.{Entry}
 use Rattle.record.specs.Told.{Kept, told}
 use Rattle.statement.specs.declared.run.Run.{Run}
@@ -45,7 +45,7 @@ module _ (F : Form) (some : 0 < F.size) (p : Places) (s : List ℕ) where
       pub passed-refused : (n j off : ℕ) → m ≡ step.Refused n j off → outcome (judge p (read_all F s)) ≡ wrong n j off
       passed-refused n j off r =
           let t : Steps p (told κ e) k d.stage (step.Refused n j off) = rw r at (v.by κ d.stage d.going) in
-          d.same ∙ ap (λ (l : List Record). outcome (judgeOn p k d.stage l)) next ∙ t (read_all F (drop (at + F.size) s))
+          d.same ∙ ap (λ (l : List Record). outcome (judge_on p k d.stage l)) next ∙ t (read_all F (drop (at + F.size) s))
 
       pub passed_on : (y : Run) → m ≡ step.On y → Passed F p s y (at + F.size) (k + 1)
       passed_on y r =
@@ -55,7 +55,7 @@ module _ (F : Form) (some : 0 < F.size) (p : Places) (s : List ℕ) where
             place = omega (arith, d.place, mul_next);
             stage = st;
             going = rw (add-one k) g;
-            same = rw (add-one k) (d.same ∙ ap (λ (l : List Record). outcome (judgeOn p k d.stage l)) next ∙ t (read_all F (drop (at + F.size) s)));
+            same = rw (add-one k) (d.same ∙ ap (λ (l : List Record). outcome (judge_on p k d.stage l)) next ∙ t (read_all F (drop (at + F.size) s)));
             count = omega (arith, d.count, ap (λ (l : List Record). length l) next);
           }
         where
@@ -66,17 +66,17 @@ module _ (F : Form) (some : 0 < F.size) (p : Places) (s : List ℕ) where
           mul_next = rw (add-one k) (mul-suc F.size k)
 
     -- bytes are left over
-    pub passed-left : at < length s → length s < at + F.size → ((t : List ℕ) → length t < F.size → F.read t ≡ noRecord)
+    pub passed-left : at < length s → length s < at + F.size → ((t : List ℕ) → length t < F.size → F.read t ≡ no_record)
         → outcome (judge p (read_all F s)) ≡ wrong 50 k 0
-    unfolding judgeOn outcome
+    unfolding judge_on outcome
     passed-left l h short = d.same ∙ rw (from-short F some s at l h short) (stray d.stage)
       where
-        stray : (st : Stage) → outcome (judgeOn p k st (noRecord ∷ [])) ≡ wrong 50 k 0
+        stray : (st : Stage) → outcome (judge_on p k st (no_record ∷ [])) ≡ wrong 50 k 0
         stray top = refl
         stray (within j h ms) = refl
 
     -- none are
-    tells-same : (r : Judged) → length s ≤ at → Tells k (judgeOn p k d.stage []) r → Tells (length (read_all F s)) (judge p (read_all F s)) r
+    tells-same : (r : Judged) → length s ≤ at → Tells k (judge_on p k d.stage []) r → Tells (length (read_all F s)) (judge p (read_all F s)) r
     tells-same (judged.Accepted n) h (a, b) =
         (omega (arith, a, d.count, ap (λ (l : List Record). length l) (from-none F some s at h)), d.same ∙ rw (from-none F some s at h) b)
     tells-same (judged.Refused n j off) h b = d.same ∙ rw (from-none F some s at h) b

@@ -11,47 +11,47 @@ use Rattle.base.proofs.Cases.{by-lt}
 use Rattle.base.proofs.Put.{put-seam, ◌then◌}
 use Rattle.out.proofs.put.Room.{wrote-length, wrote_none}
 use Rattle.paper.specs.Entries.{no}
-use Rattle.gpc.specs.Records.{Thing, aHead, aMovement, strange, Record, noRecord, headIs, movementIs, said, saids}
+use Rattle.gpc.specs.Records.{Thing, a_head, a_movement, strange, Record, no_record, head_is, movement_is, said, saids}
 use Rattle.gpcback.specs.Proper.{Proper, AllProper}
 use Rattle.record.specs.declared.HeadFields.{HeadFields}
 use Rattle.record.specs.declared.MovementFields.{MovementFields}
 use Rattle.record.specs.declared.Entry.{Entry}
 use Rattle.record.specs.declared.Entry.TheVariants as entry
-use Rattle.record.specs.Told.{Kept, head_of, movementOf, told}
+use Rattle.record.specs.Told.{Kept, head_of, movement_of, told}
 use Rattle.statement.specs.Forms.{Form, read_all, puts, Puts, Putable, PutAll, Putting}
 use Rattle.statement.proofs.Pieces.{from_one, from-none, from-short}
 
 -- ---- what is said is one thing
 
-no_record : {A : Type 0} (t : Thing) → Proper t → said t ≡ noRecord → A
+no-record : {A : Type 0} (t : Thing) → Proper t → said t ≡ no_record → A
 unfolding said
-no_record (aHead h) p e = absurd (let z : ◌≡◌ {A = ℕ} 0 1 = cc in omega arith)
-no_record (aMovement m) p e = absurd (let z : ◌≡◌ {A = ℕ} 0 1 = cc in omega arith)
-no_record strange p e = absurd p
+no-record (a_head h) p e = absurd (let z : ◌≡◌ {A = ℕ} 0 1 = cc in omega arith)
+no-record (a_movement m) p e = absurd (let z : ◌≡◌ {A = ℕ} 0 1 = cc in omega arith)
+no-record strange p e = absurd p
 
 said_same : (t u : Thing) → said t ≡ said u → t ≡ u
 unfolding said
-said_same (aHead h) (aHead g) e = cc
-said_same (aHead h) (aMovement n) e = absurd (let z : ◌≡◌ {A = ℕ} 0 1 = cc in omega arith)
-said_same (aHead h) strange e = absurd (let z : ◌≡◌ {A = ℕ} 0 1 = cc in omega arith)
-said_same (aMovement m) (aHead g) e = absurd (let z : ◌≡◌ {A = ℕ} 0 1 = cc in omega arith)
-said_same (aMovement m) (aMovement n) e = cc
-said_same (aMovement m) strange e = absurd (let z : ◌≡◌ {A = ℕ} 0 1 = cc in omega arith)
-said_same strange (aHead g) e = absurd (let z : ◌≡◌ {A = ℕ} 0 1 = cc in omega arith)
-said_same strange (aMovement n) e = absurd (let z : ◌≡◌ {A = ℕ} 0 1 = cc in omega arith)
+said_same (a_head h) (a_head g) e = cc
+said_same (a_head h) (a_movement n) e = absurd (let z : ◌≡◌ {A = ℕ} 0 1 = cc in omega arith)
+said_same (a_head h) strange e = absurd (let z : ◌≡◌ {A = ℕ} 0 1 = cc in omega arith)
+said_same (a_movement m) (a_head g) e = absurd (let z : ◌≡◌ {A = ℕ} 0 1 = cc in omega arith)
+said_same (a_movement m) (a_movement n) e = cc
+said_same (a_movement m) strange e = absurd (let z : ◌≡◌ {A = ℕ} 0 1 = cc in omega arith)
+said_same strange (a_head g) e = absurd (let z : ◌≡◌ {A = ℕ} 0 1 = cc in omega arith)
+said_same strange (a_movement n) e = absurd (let z : ◌≡◌ {A = ℕ} 0 1 = cc in omega arith)
 said_same strange strange e = refl
 
 -- what is refused is not said
-never-head : (t : Thing) (off : ℕ) → headIs (no 51 off) ≡ said t → ⊥
+never-head : (t : Thing) (off : ℕ) → head_is (no 51 off) ≡ said t → ⊥
 unfolding said
-never-head (aHead h) off e = let z : ◌≡◌ {A = ℕ} 0 1 = cc in omega arith
-never-head (aMovement m) off e = let z : ◌≡◌ {A = ℕ} 0 1 = cc in omega arith
+never-head (a_head h) off e = let z : ◌≡◌ {A = ℕ} 0 1 = cc in omega arith
+never-head (a_movement m) off e = let z : ◌≡◌ {A = ℕ} 0 1 = cc in omega arith
 never-head strange off e = let z : ◌≡◌ {A = ℕ} 0 1 = cc in omega arith
 
-never-movement : (t : Thing) (off : ℕ) → movementIs (no 51 off) ≡ said t → ⊥
+never-movement : (t : Thing) (off : ℕ) → movement_is (no 51 off) ≡ said t → ⊥
 unfolding said
-never-movement (aHead h) off e = let z : ◌≡◌ {A = ℕ} 0 1 = cc in omega arith
-never-movement (aMovement m) off e = let z : ◌≡◌ {A = ℕ} 0 1 = cc in omega arith
+never-movement (a_head h) off e = let z : ◌≡◌ {A = ℕ} 0 1 = cc in omega arith
+never-movement (a_movement m) off e = let z : ◌≡◌ {A = ℕ} 0 1 = cc in omega arith
 never-movement strange off e = let z : ◌≡◌ {A = ℕ} 0 1 = cc in omega arith
 
 first-same : (r q : Record) (rs qs : List Record) → r ∷ rs ≡ q ∷ qs → (r ≡ q) × (rs ≡ qs)
@@ -75,14 +75,14 @@ module _ (F : Form) (o : List ℕ) (at : ℕ) (s : List ℕ) (κ : Kept) (e : En
   puts-never : (o1 : List ℕ) (r : ℕ) → ((t : Thing) → told κ e ≡ said t → ⊥) → Puts F o at s o1 r
   puts-never o1 r n = record { by = λ u k. absurd (n u (q ∙ k)) }
 
-  pub head_puts : (x : HeadFields) (o1 : List ℕ) (r : ℕ) → e ≡ entry.Head x → Wrote o at (F.put (aHead (head_of κ x))) o1 r → Puts F o at s o1 r
+  pub head_puts : (x : HeadFields) (o1 : List ℕ) (r : ℕ) → e ≡ entry.Head x → Wrote o at (F.put (a_head (head_of κ x))) o1 r → Puts F o at s o1 r
   unfolding said
-  head_puts x o1 r h w = puts-as (aHead (head_of κ x)) (ap (told κ) h) o1 r w
+  head_puts x o1 r h w = puts-as (a_head (head_of κ x)) (ap (told κ) h) o1 r w
 
-  pub movement-puts : (x : MovementFields) (o1 : List ℕ) (r : ℕ) → e ≡ entry.Movement x → Wrote o at (F.put (aMovement (movementOf κ x))) o1 r
+  pub movement-puts : (x : MovementFields) (o1 : List ℕ) (r : ℕ) → e ≡ entry.Movement x → Wrote o at (F.put (a_movement (movement_of κ x))) o1 r
       → Puts F o at s o1 r
   unfolding said
-  movement-puts x o1 r h w = puts-as (aMovement (movementOf κ x)) (ap (told κ) h) o1 r w
+  movement-puts x o1 r h w = puts-as (a_movement (movement_of κ x)) (ap (told κ) h) o1 r w
 
   pub nothing-puts : F.put strange ≡ [] → e ≡ entry.Nothing → at ≤ length o → Puts F o at s o at
   unfolding said
@@ -104,7 +104,7 @@ puts-more F (u ∷ ts) t = rw (puts-more F ts t) (sym (append_assoc (F.put u) (p
 -- a form whose pieces have bytes, whose short pieces are none, and whose things are put in as many bytes as it says
 pub record Sane (F : Form) : Type 0 where
   pub some : 0 < F.size
-  pub short : (s : List ℕ) → length s < F.size → F.read s ≡ noRecord
+  pub short : (s : List ℕ) → length s < F.size → F.read s ≡ no_record
   pub sized : (t : Thing) → Proper t → length (F.put t) ≡ F.length
 
 module _ (F : Form) (sane : Sane F) (s o : List ℕ) where
@@ -148,7 +148,7 @@ module _ (F : Form) (sane : Sane F) (s o : List ℕ) where
         by-lt (length s) (at + F.size)
         (λ h.
         let (a, b) = first-same _ _ _ _ (sym (from-short F sane.some s at l h sane.short) ∙ e) in
-        no_record t p (sym a))
+        no-record t p (sym a))
         (λ h.
         let (a, b) = first-same _ _ _ _ (sym (from_one F sane.some s at h) ∙ e) in
         record { thing = t; more = ts; rest = q; inside = h; read = a; left = b; proper = p; propers = ps })

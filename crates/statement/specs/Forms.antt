@@ -3,9 +3,9 @@
 use Rattle.std.specs.Prelude.{ℕ, ◌+◌, ◌*◌, ◌≤◌, ◌≡◌, List, [], ◌∷◌, ◌++◌, length, drop}
 use Rattle.base.specs.Put.{Wrote}
 use Rattle.gpc.specs.Parts.{pieces}
-use Rattle.gpc.specs.Records.{Thing, Record, said, saids, readRecord, spell}
-use Rattle.gpc.specs.StatementRows.{thingIn, tested, thingRow}
-use Rattle.gpc.specs.Statements.{Spots as Places, Stage, judge, judgeOn}
+use Rattle.gpc.specs.Records.{Thing, Record, said, saids, read_record, spell}
+use Rattle.gpc.specs.StatementRows.{thing_in, tested, thing_row}
+use Rattle.gpc.specs.Statements.{Spots as Places, Stage, judge, judge_on}
 use Rattle.gpcback.specs.Proper.{AllProper}
 use Rattle.statement.specs.declared.run.Run.{Run}
 use Rattle.statement.specs.run.Follows.{Going, outcome}
@@ -18,12 +18,12 @@ pub record Form : Type 0 where
   pub length : ℕ
 
 -- records, which are put as rows
-abbrev pub inFile : Form
-inFile = record { size = 130; read = readRecord; put = thingRow; length = 136 }
+abbrev pub in_file : Form
+in_file = record { size = 130; read = read_record; put = thing_row; length = 136 }
 
 -- rows, which are put as records
-abbrev pub inRows : Form
-inRows = record { size = 136; read = λ r. tested (thingIn r); put = spell; length = 130 }
+abbrev pub in_rows : Form
+in_rows = record { size = 136; read = λ r. tested (thing_in r); put = spell; length = 130 }
 
 -- what several pieces are read as
 unfoldable pub reads : Form → List (List ℕ) → List Record
@@ -45,7 +45,7 @@ pub record Passed (F : Form) (p : Places) (s : List ℕ) (x : Run) (at k : ℕ) 
   pub place : at ≡ F.size * k
   pub stage : Stage
   pub going : Going x k stage
-  pub same : outcome (judge p (read_all F s)) ≡ outcome (judgeOn p k stage (read_all F (drop at s)))
+  pub same : outcome (judge p (read_all F s)) ≡ outcome (judge_on p k stage (read_all F (drop at s)))
   pub count : length (read_all F s) ≡ k + length (read_all F (drop at s))
 
 -- the piece s was put at `at`: as what it is read as

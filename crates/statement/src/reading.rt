@@ -1,9 +1,9 @@
 // Reading statements: the file is judged in one pass; if nothing is wrong and there is room, its rows are put in another.
 ghost use Rattle.std.specs.Prelude.{◌≡◌, ◌+◌, ◌*◌, ◌≤◌, ◌<◌, length};
-ghost use Rattle.gpc.specs.Records.{recordsIn};
-ghost use Rattle.gpc.specs.Answers.{refusedAt, judgeFile, statementAnswer, statementRows};
+ghost use Rattle.gpc.specs.Records.{records_in};
+ghost use Rattle.gpc.specs.Answers.{refused_at, judge_file, statement_answer, statement_rows};
 ghost use Rattle.statement.specs.run.Follows.{Tells};
-ghost use Rattle.statement.specs.Forms.{inFile, Puts, Putable, PutAll};
+ghost use Rattle.statement.specs.Forms.{in_file, Puts, Putable, PutAll};
 ghost use Rattle.statement.specs.reading.Told.{told, Accepted};
 
 use crate::run::{Judged, Spots, Step};
@@ -29,7 +29,7 @@ const PLACES: Spots = Spots {
 
 // One pass over the file, which only judges. Bytes that are left over are no record.
 fn judge_file(f: &[u8]) -> Judged
-    ensures { Tells (length (recordsIn f.now)) (judgeFile f.now) result }
+    ensures { Tells (length (records_in f.now)) (judge_file f.now) result }
 {
     let mut run = crate::run::start();
     let mut at: usize = 0;
@@ -57,7 +57,7 @@ fn judge_file(f: &[u8]) -> Judged
 // Puts the row of a record that was judged, and returns the next place.
 fn put_row(rows: &mut [u8], next: usize, s: &[u8]) -> usize
     requires { (length s.now ≡ 130) × (next + 136 ≤ length rows.old) }
-    ensures { Puts inFile rows.old next s.now rows.new result }
+    ensures { Puts in_file rows.old next s.now rows.new result }
 {
     match record::file::read_record(s) {
         Entry::Movement(x) => { record::row::put_movement(rows, next, x, &s[35..48], &s[71..128]) }
@@ -70,8 +70,8 @@ fn put_row(rows: &mut [u8], next: usize, s: &[u8]) -> usize
 
 // Puts the rows of all records in front of the old bytes behind them. The file was judged: each record is read.
 fn fill_rows(f: &[u8], rows: &mut [u8])
-    requires { Putable inFile f.now (length rows.old) }
-    ensures { PutAll inFile f.now rows.old rows.new }
+    requires { Putable in_file f.now (length rows.old) }
+    ensures { PutAll in_file f.now rows.old rows.new }
 {
     let mut at: usize = 0;
     let mut next: usize = 0;
@@ -85,7 +85,7 @@ fn fill_rows(f: &[u8], rows: &mut [u8])
 // A refusal, behind k records, at a place of the next.
 fn refusal(number: u64, k: u64, off: u64) -> AboStatement
     requires { 130 * k + off < 18446744073709551616 }
-    ensures { told result ≡ refusedAt number k off }
+    ensures { told result ≡ refused_at number k off }
 {
     AboStatement {
         number,
@@ -99,8 +99,8 @@ fn refusal(number: u64, k: u64, off: u64) -> AboStatement
 // Nothing is wrong with the file, and it has so many records: their rows are put if there is room for all of them.
 fn accept(file: &[u8], count: u64, rows: &mut [u8]) -> AboStatement
     requires { Accepted file.now count }
-    ensures result_value { told result ≡ statementAnswer file.now rows.old }
-    ensures rows_after { rows.new ≡ statementRows file.now rows.old }
+    ensures result_value { told result ≡ statement_answer file.now rows.old }
+    ensures rows_after { rows.new ≡ statement_rows file.now rows.old }
 {
     let room = rows.len() / 136;
     if (room as u64) < count {
@@ -124,8 +124,8 @@ fn accept(file: &[u8], count: u64, rows: &mut [u8]) -> AboStatement
 
 // The whole answer of reading a file of statements, and the rows, which a refusal leaves as they were.
 pub fn read_statements(file: &[u8], rows: &mut [u8]) -> AboStatement
-    ensures result_value { told result ≡ statementAnswer file.now rows.old }
-    ensures rows_after { rows.new ≡ statementRows file.now rows.old }
+    ensures result_value { told result ≡ statement_answer file.now rows.old }
+    ensures rows_after { rows.new ≡ statement_rows file.now rows.old }
 {
     match judge_file(file) {
         Judged::Refused(n, k, off) => refusal(n, k, off),

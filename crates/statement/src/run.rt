@@ -4,7 +4,7 @@ ghost use Rattle.turnover.specs.Counts.{Roomy};
 ghost use Rattle.gpc.specs.Turnovers.{most12};
 ghost use Rattle.gpc.specs.Statements.{top};
 ghost use Rattle.record.specs.Told.{SmallHead, Small};
-ghost use Rattle.statement.specs.run.Follows.{spotsOf, Sized, Follows, Stood, Opens, Ends, Moves, Leads, Finishes};
+ghost use Rattle.statement.specs.run.Follows.{spots_of, Sized, Follows, Stood, Opens, Ends, Moves, Leads, Finishes};
 
 use record::{Entry, HeadFields};
 use turnover::Turns;
@@ -97,7 +97,7 @@ fn opened(x: HeadFields, k: u64) -> Run
 // The open statement is over: 52 for the debit turnover, 52 for the credit turnover, 53 for the new balance.
 fn close(run: Run, p: Spots) -> Closed
     requires { Sized run }
-    ensures { Ends (spotsOf p) run result }
+    ensures { Ends (spots_of p) run result }
 {
     let old = run.old;
     let new = run.new;
@@ -143,7 +143,7 @@ pub fn next(run: Run, e: Entry, k: u64, p: Spots) -> Step
     requires small { Small e }
     requires stood { Stood run k }
     requires k_bound { 130 * k + 130 ≤ 18446744073709551615 }
-    ensures { Leads (spotsOf p) run e k result }
+    ensures { Leads (spots_of p) run e k result }
 {
     match e {
         Entry::Movement(m) => {
@@ -183,7 +183,7 @@ pub fn next(run: Run, e: Entry, k: u64, p: Spots) -> Step
 // No record follows k of them.
 pub fn finish(run: Run, k: u64, p: Spots) -> Judged
     requires { Sized run }
-    ensures { Finishes (spotsOf p) run k result }
+    ensures { Finishes (spots_of p) run k result }
 {
     if run.begun {
         return match close(run, p) {

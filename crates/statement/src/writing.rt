@@ -1,11 +1,11 @@
 // Writing statements: the rows are judged in one pass; if nothing is wrong and there is room, the file is put in another.
 ghost use Rattle.std.specs.Prelude.{◌≡◌, ◌+◌, ◌≤◌, length};
-ghost use Rattle.paper.specs.Writing.{writtenIn, outputAfter};
+ghost use Rattle.paper.specs.Writing.{written_in, output_after};
 ghost use Rattle.write.specs.Told.{told};
-ghost use Rattle.gpc.specs.StatementRows.{thingsIn};
-ghost use Rattle.gpc.specs.Answers.{judgeRows, statementDraft};
+ghost use Rattle.gpc.specs.StatementRows.{things_in};
+ghost use Rattle.gpc.specs.Answers.{judge_rows, statement_draft};
 ghost use Rattle.statement.specs.run.Follows.{Tells};
-ghost use Rattle.statement.specs.Forms.{inRows, Puts, Putable, PutAll};
+ghost use Rattle.statement.specs.Forms.{in_rows, Puts, Putable, PutAll};
 ghost use Rattle.statement.specs.writing.Accepted.{Accepted};
 
 use crate::run::{Judged, Spots, Step};
@@ -21,7 +21,7 @@ const WORDS: Spots = Spots {
 
 // One pass over the rows, which only judges. Bytes that are left over are no row.
 fn judge_rows(rows: &[u8]) -> Judged
-    ensures { Tells (length (thingsIn rows.now)) (judgeRows rows.now) result }
+    ensures { Tells (length (things_in rows.now)) (judge_rows rows.now) result }
 {
     let mut run = crate::run::start();
     let mut at: usize = 0;
@@ -49,7 +49,7 @@ fn judge_rows(rows: &[u8]) -> Judged
 // Puts the record of a row that was judged, and returns the next place.
 fn put_record(out: &mut [u8], next: usize, r: &[u8]) -> usize
     requires { (length r.now ≡ 136) × (next + 130 ≤ length out.old) }
-    ensures { Puts inRows out.old next r.now out.new result }
+    ensures { Puts in_rows out.old next r.now out.new result }
 {
     match record::row::read_row(r) {
         Entry::Movement(x) => { record::file::put_movement(out, next, x, &r[64..77], &r[77..134]) }
@@ -62,8 +62,8 @@ fn put_record(out: &mut [u8], next: usize, r: &[u8]) -> usize
 
 // Puts the records of all rows. They were judged: each can be written.
 fn fill_file(rows: &[u8], out: &mut [u8])
-    requires { Putable inRows rows.now (length out.old) }
-    ensures { PutAll inRows rows.now out.old out.new }
+    requires { Putable in_rows rows.now (length out.old) }
+    ensures { PutAll in_rows rows.now out.old out.new }
 {
     let mut at: usize = 0;
     let mut next: usize = 0;
@@ -77,8 +77,8 @@ fn fill_file(rows: &[u8], out: &mut [u8])
 // Nothing is wrong with the rows, and there are so many: their file is put if there is room for all of it.
 fn accept(rows: &[u8], count: u64, out: &mut [u8]) -> AboWritten
     requires { Accepted rows.now count }
-    ensures result_value { told result ≡ writtenIn (length out.old) (statementDraft rows.now) }
-    ensures out_after { out.new ≡ outputAfter out.old (statementDraft rows.now) }
+    ensures result_value { told result ≡ written_in (length out.old) (statement_draft rows.now) }
+    ensures out_after { out.new ≡ output_after out.old (statement_draft rows.now) }
 {
     let bytes = 130 * count;
     if (out.len() as u64) < bytes {
@@ -90,8 +90,8 @@ fn accept(rows: &[u8], count: u64, out: &mut [u8]) -> AboWritten
 
 // The whole answer of writing the statements that rows hold, and the output, which a refusal leaves as it was.
 pub fn write_statements(rows: &[u8], out: &mut [u8]) -> AboWritten
-    ensures result_value { told result ≡ writtenIn (length out.old) (statementDraft rows.now) }
-    ensures out_after { out.new ≡ outputAfter out.old (statementDraft rows.now) }
+    ensures result_value { told result ≡ written_in (length out.old) (statement_draft rows.now) }
+    ensures out_after { out.new ≡ output_after out.old (statement_draft rows.now) }
 {
     match judge_rows(rows) {
         Judged::Refused(n, k, field) => write::refusal(n, k + 1, field),

@@ -8,19 +8,19 @@ use lib.ListN.{length, drop}
 use Rattle.sheet.specs.declared.Sheet.{Sheet}
 use Rattle.paper.specs.Batch.{Header, Thing}
 use Rattle.paper.specs.Proper as paper
-use Rattle.paper.specs.Proper.{needFile, batchProper}
-use Rattle.paper.specs.Carried.{Place, at_start, behindGroup, behindItem, rowsCarried, batchCarried}
+use Rattle.paper.specs.Proper.{need_file, batch_proper}
+use Rattle.paper.specs.Carried.{Place, at_start, behind_group, behind_item, rows_carried, batch_carried}
 use Rattle.base.specs.Pick.{pick}
-use Rattle.paper.specs.Terms.{collection, bankDue}
+use Rattle.paper.specs.Terms.{collection, bank_due}
 use Rattle.paper.specs.Words.{words}
-use Rattle.paper.specs.Rows.{rowsIn, thingIn, thingsIn}
+use Rattle.paper.specs.Rows.{rows_in, thing_in, things_in}
 use Rattle.calendar.specs.declared.term.Banks.{Banks}
 use Rattle.calendar.specs.declared.term.Banks.TheVariants.{Any}
 use Rattle.fileline.specs.seen.Bits.{Holds}
-use Rattle.rows.specs.list.From.{thingsFrom}
+use Rattle.rows.specs.list.From.{things_from}
 use Rattle.rows.specs.declared.read.RowRead.{RowRead}
-use Rattle.rows.specs.read.Told.{told as toldRow}
-use Rattle.rows.specs.walk.Walks.{beforeOf}
+use Rattle.rows.specs.read.Told.{told as told_row}
+use Rattle.rows.specs.walk.Walks.{before_of}
 use Rattle.rows.proofs.list.From.{things-step, things-end, things-rest}
 use Rattle.survey.specs.declared.state.State.{State}
 use Rattle.survey.specs.declared.state.Step.{Step}
@@ -28,7 +28,7 @@ use Rattle.survey.specs.declared.state.Step.TheVariants as step
 use Rattle.survey.specs.state.Stands.{Starts, resume}
 use Rattle.survey.specs.state.Known.{Due, Known}
 use Rattle.survey.specs.state.Low.{Low, LowStep}
-use Rattle.survey.specs.state.Goes.{behindSeries, Goes}
+use Rattle.survey.specs.state.Goes.{behind_series, Goes}
 use Rattle.survey.specs.step.Steps.{StepsRead}
 use Rattle.survey.proofs.state.Small.{kept-none}
 use Rattle.survey.proofs.state.Judging.{goes-strange}
@@ -40,11 +40,11 @@ use Rattle.survey.specs.Told.{told, judged}
 
 -- the outcome of all rows is that of the first row on
 all-rows : (sh : Sheet) (today : ℕ) (h : Header) (ts : List Thing) (st : State) → Starts st → resume sh today h 1 at_start st ts ≡ judged sh today h ts
-unfolding resume judged batchProper batchCarried
+unfolding resume judged batch_proper batch_carried
 all-rows sh today h ts st s =
-    let stage : (beforeOf st.before).stage ≡ needFile = ap (λ (p : paper.Before). p.stage) s.before in
+    let stage : (before_of st.before).stage ≡ need_file = ap (λ (p : paper.Before). p.stage) s.before in
     let sum : st.before.sum ≡ 0 = ap (λ (p : paper.Before). p.sum) s.before in
-    rw (s.before, stage, sum, s.bytes, kept-none st.found (rowsCarried sh today h 1 at_start ts) (omega (arith, s.found)), zero-add)
+    rw (s.before, stage, sum, s.bytes, kept-none st.found (rows_carried sh today h 1 at_start ts) (omega (arith, s.found)), zero-add)
 
 -- judging stands before row k, which begins at `at`, and of the rows' place the code knows these
 pub record Going (sh : Sheet) (today from to : ℕ) (texts rows : List ℕ) (at k all kind : ℕ) (banks : Banks) (seen : List ℕ) (st : State) : Type 0 where
@@ -55,15 +55,15 @@ pub record Going (sh : Sheet) (today from to : ℕ) (texts rows : List ℕ) (at 
   pub fewer : all < k
   pub place : Place
   pub known : Known sh today all kind banks seen place
-  pub same : (h : Header) → h.from ≡ from → h.to ≡ to → resume sh today h k place st (thingsFrom texts rows at) ≡ judged sh today h (thingsIn texts (rowsIn rows))
+  pub same : (h : Header) → h.from ≡ from → h.to ≡ to → resume sh today h k place st (things_from texts rows at) ≡ judged sh today h (things_in texts (rows_in rows))
 
 -- r is the whole answer
 abbrev Answers : Sheet → ℕ → ℕ → ℕ → List ℕ → List ℕ → Surveyed → Type 0
-Answers sh today from to texts rows r = (h : Header) → h.from ≡ from → h.to ≡ to → told r ≡ judged sh today h (thingsIn texts (rowsIn rows))
+Answers sh today from to texts rows r = (h : Header) → h.from ≡ from → h.to ≡ to → told r ≡ judged sh today h (things_in texts (rows_in rows))
 
 -- where no kind is known, any bank may be due
 due-start : (sh : Sheet) (today : ℕ) → Due sh today Any 0 0
-unfolding bankDue collection pick
+unfolding bank_due collection pick
 due-start sh today bank = refl
 
 module _ (sh : Sheet) (today from to : ℕ) (texts rows : List ℕ) where
@@ -77,17 +77,17 @@ module _ (sh : Sheet) (today from to : ℕ) (texts rows : List ℕ) where
         fewer = omega arith;
         place = at_start;
         known = record { items = refl; within = refl; due = due-start sh today; earlier = e };
-        same = λ h f t. all-rows sh today h (thingsIn texts (rowsIn rows)) st s;
+        same = λ h f t. all-rows sh today h (things_in texts (rows_in rows)) st s;
       }
 
 -- what a row's step says of row k
 abbrev Stepped : Sheet → ℕ → ℕ → ℕ → List ℕ → List ℕ → ℕ → ℕ → ℕ → ℕ → Banks → List ℕ → State → Step → Type 0
 Stepped sh today from to texts rows at k all kind banks seen st r =
-    (h : Header) (p : Place) → h.from ≡ from → h.to ≡ to → Known sh today all kind banks seen p → Goes sh today h p k st (thingIn texts (words 24 (drop at rows))) r
+    (h : Header) (p : Place) → h.from ≡ from → h.to ≡ to → Known sh today all kind banks seen p → Goes sh today h p k st (thing_in texts (words 24 (drop at rows))) r
 
 module _ {sh : Sheet} {today from to : ℕ} {texts rows : List ℕ} {at k all kind : ℕ} {banks : Banks} {seen : List ℕ} {st : State}
     (going : Going sh today from to texts rows at k all kind banks seen st) where
-  module _ (test : 192 ≤ length rows - at) (row : RowRead) (read : (t : List ℕ) → toldRow t row ≡ thingIn t (words 24 (drop at rows)))
+  module _ (test : 192 ≤ length rows - at) (row : RowRead) (read : (t : List ℕ) → told_row t row ≡ thing_in t (words 24 (drop at rows)))
       (r : Step) (steps : StepsRead sh today from to all kind banks seen k st texts row r) where
     small : LowStep k r
     small = (stepped steps _ read).0
@@ -100,7 +100,7 @@ module _ {sh : Sheet} {today from to : ℕ} {texts rows : List ℕ} {at k all ki
 
     -- the outcome where row k stands is that of all rows
     whole : (h : Header) → h.from ≡ from → h.to ≡ to
-        → resume sh today h k going.place st (thingIn texts (words 24 (drop at rows)) ∷ thingsFrom texts rows (at + 192)) ≡ judged sh today h (thingsIn texts (rowsIn rows))
+        → resume sh today h k going.place st (thing_in texts (words 24 (drop at rows)) ∷ things_from texts rows (at + 192)) ≡ judged sh today h (things_in texts (rows_in rows))
     whole h f t = ap (resume sh today h k going.place st) (sym (things-step rows at texts room)) ∙ going.same h f t
 
     pub going-item : (next : State) → r ≡ step.Item next → Going sh today from to texts rows (at + 192) (k + 1) (all + 1) kind banks seen next
@@ -113,7 +113,7 @@ module _ {sh : Sheet} {today from to : ℕ} {texts rows : List ℕ} {at k all ki
           low = still;
           few = (limits (k + 1) next still).row;
           fewer = omega (arith, going.fewer);
-          place = behindItem going.place;
+          place = behind_item going.place;
           known =
               record {
                 items = omega (arith, going.known.items);
@@ -121,7 +121,7 @@ module _ {sh : Sheet} {today from to : ℕ} {texts rows : List ℕ} {at k all ki
                 due = going.known.due;
                 earlier = going.known.earlier;
               };
-          same = λ h f t. here h going.place f t going.known (thingsFrom texts rows (at + 192)) ∙ whole h f t;
+          same = λ h f t. here h going.place f t going.known (things_from texts rows (at + 192)) ∙ whole h f t;
         }
 
     -- behind a group, with the banks of its day
@@ -136,7 +136,7 @@ module _ {sh : Sheet} {today from to : ℕ} {texts rows : List ℕ} {at k all ki
           low = still;
           few = (limits (k + 1) next still).row;
           fewer = omega (arith, going.fewer);
-          place = behindGroup going.place date;
+          place = behind_group going.place date;
           known =
               record {
                 items = going.known.items;
@@ -144,7 +144,7 @@ module _ {sh : Sheet} {today from to : ℕ} {texts rows : List ℕ} {at k all ki
                 due = rw going.known.within due;
                 earlier = going.known.earlier;
               };
-          same = λ h f t. here h going.place f t going.known (thingsFrom texts rows (at + 192)) ∙ whole h f t;
+          same = λ h f t. here h going.place f t going.known (things_from texts rows (at + 192)) ∙ whole h f t;
         }
 
     -- behind an account file, with its number in the set
@@ -160,9 +160,9 @@ module _ {sh : Sheet} {today from to : ℕ} {texts rows : List ℕ} {at k all ki
           low = still.0;
           few = (limits (k + 1) next still.0).row;
           fewer = omega (arith, going.fewer);
-          place = behindSeries going.place other first;
+          place = behind_series going.place other first;
           known = record { items = going.known.items; within = refl; due = due; earlier = with going.place.seen going.known.earlier };
-          same = λ h f t. here h going.place f t going.known (thingsFrom texts rows (at + 192)) ∙ whole h f t;
+          same = λ h f t. here h going.place f t going.known (things_from texts rows (at + 192)) ∙ whole h f t;
         }
 
     pub first_small : (next : State) (other first : ℕ) → r ≡ step.File next other first → first < 1000
@@ -171,7 +171,7 @@ module _ {sh : Sheet} {today from to : ℕ} {texts rows : List ℕ} {at k all ki
     pub going-wrong : (field : ℕ) → r ≡ step.Wrong field → Answers sh today from to texts rows (answer.Improper k field)
     going-wrong field e h f t =
         let here : Stepped sh today from to texts rows at k all kind banks seen st (step.Wrong field) = rw e at goes in
-        here h going.place f t going.known (thingsFrom texts rows (at + 192)) ∙ whole h f t
+        here h going.place f t going.known (things_from texts rows (at + 192)) ∙ whole h f t
 
   -- bytes that are no whole row
   pub going-rest : at < length rows → length rows - at < 192 → Answers sh today from to texts rows (answer.Improper k 0)

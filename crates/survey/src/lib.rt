@@ -4,12 +4,12 @@ pub mod step;
 
 ghost use Rattle.std.specs.Prelude.{◌≡◌, true, [], ℕ, ◌+◌, ◌≤◌};
 ghost use Rattle.sheet.specs.declared.Sheet as sheets;
-ghost use Rattle.paper.specs.Days.{realDay};
+ghost use Rattle.paper.specs.Days.{real_day};
 ghost use Rattle.paper.specs.Batch.{Header};
 ghost use Rattle.paper.specs.Carried.{Place};
-ghost use Rattle.paper.specs.Rows.{rowsIn, thingsIn};
-ghost use Rattle.roundtrip.specs.flat.Count.{fileClosing};
-ghost use Rattle.rows.specs.walk.Walks.{beforeOf};
+ghost use Rattle.paper.specs.Rows.{rows_in, things_in};
+ghost use Rattle.roundtrip.specs.flat.Count.{file_closing};
+ghost use Rattle.rows.specs.walk.Walks.{before_of};
 ghost use Rattle.survey.specs.state.Stands.{resume};
 ghost use Rattle.survey.specs.state.Low.{Low};
 ghost use Rattle.survey.specs.Told.{told, judged, Small};
@@ -30,7 +30,7 @@ pub enum Surveyed {
 // The bytes of all lines behind the first, once the lines that close are added.
 fn all_bytes(st: State) -> u64
     requires { st.bytes ≤ 100000000000 }
-    ensures { (result ≡ st.bytes + fileClosing (beforeOf st.before).stage st.before.sum) × (result ≤ 200000000000) }
+    ensures { (result ≡ st.bytes + file_closing (before_of st.before).stage st.before.sum) × (result ≤ 200000000000) }
 {
     let before = st.before;
     let stage = before.stage;
@@ -58,8 +58,8 @@ fn finish(k: u64, st: State) -> Surveyed
 
 // The lent rows, on a sheet and a day; the header's interval goes from `from` to `to`.
 pub fn survey(rows: &[u8], texts: &[u8], sh: Sheet, today: u64, from: u64, to: u64) -> Surveyed
-    requires { realDay today ≡ true }
-    ensures result_value { (h : Header) → h.from ≡ from → h.to ≡ to → told result ≡ judged sh today h (thingsIn texts.now (rowsIn rows.now)) }
+    requires { real_day today ≡ true }
+    ensures result_value { (h : Header) → h.from ≡ from → h.to ≡ to → told result ≡ judged sh today h (things_in texts.now (rows_in rows.now)) }
     ensures small { Small result }
 {
     let mut at: usize = 0;

@@ -1,7 +1,7 @@
 // Where the judging of lent rows stands between two rows, and the small questions that each row asks of it.
 ghost use Rattle.std.specs.Prelude.{◌≡◌, ◌≤◌, ◌<◌};
-ghost use Rattle.roundtrip.specs.flat.Count.{groupClosing, fileClosing};
-ghost use Rattle.rows.specs.walk.Walks.{stageOf};
+ghost use Rattle.roundtrip.specs.flat.Count.{group_closing, file_closing};
+ghost use Rattle.rows.specs.walk.Walks.{stage_of};
 ghost use Rattle.survey.specs.state.Stands.{Tests, Starts};
 
 use rows::read::Check;
@@ -46,7 +46,7 @@ pub fn start() -> State
 
 // How many bytes an account file, or the end, adds before itself: the open group's total, and the lines that close.
 pub fn file_closing(stage: Stage, sum: u64) -> u64
-    ensures { (result ≡ fileClosing (stageOf stage) sum) × (result ≤ 30) }
+    ensures { (result ≡ file_closing (stage_of stage) sum) × (result ≤ 30) }
 {
     match stage {
         Stage::NeedFile => 0,
@@ -58,7 +58,7 @@ pub fn file_closing(stage: Stage, sum: u64) -> u64
 
 // How many bytes a group adds before itself.
 pub fn group_closing(stage: Stage, sum: u64) -> u64
-    ensures { (result ≡ groupClosing (stageOf stage) sum) × (result ≤ 30) }
+    ensures { (result ≡ group_closing (stage_of stage) sum) × (result ≤ 30) }
 {
     match stage {
         Stage::NeedFile => 0,

@@ -3,16 +3,16 @@
 ghost use Rattle.std.specs.Prelude.{◌≡◌, true, List, ℕ, ◌+◌, ◌≤◌, ◌<◌, ltb};
 ghost use Rattle.sheet.specs.declared.Sheet as sheets;
 ghost use Rattle.paper.specs.Accounts.{account};
-ghost use Rattle.paper.specs.Days.{realDay};
-ghost use Rattle.paper.specs.Batch.{Header, aFile, aGroup, anItem};
-ghost use Rattle.paper.specs.Carried.{Place, itemCarried};
+ghost use Rattle.paper.specs.Days.{real_day};
+ghost use Rattle.paper.specs.Batch.{Header, a_file, a_group, an_item};
+ghost use Rattle.paper.specs.Carried.{Place, item_carried};
 ghost use Rattle.paper.specs.Proper.{Verdict, check};
 ghost use Rattle.paper.specs.Words.{words};
 ghost use Rattle.calendar.specs.term.Allows.{allows};
 ghost use Rattle.rows.specs.declared.walk.Walk.TheVariants.{On};
 ghost use Rattle.rows.specs.read.After.{after};
 ghost use Rattle.rows.specs.read.Sized.{Sized};
-ghost use Rattle.rows.specs.read.Told.{item_of, toldItem};
+ghost use Rattle.rows.specs.read.Told.{item_of, told_item};
 ghost use Rattle.rows.specs.walk.Walks.{Walks};
 ghost use Rattle.fileline.specs.seen.Bits.{Holds};
 ghost use Rattle.survey.specs.state.Known.{Due};
@@ -42,7 +42,7 @@ fn file_found(
 ) -> Found
     requires k_nonzero { 0 < k }
     requires number_bound { number < 1000000 }
-    ensures { (today : ℕ) (h : Header) (p : Place) → h.from ≡ from → h.to ≡ to → Holds seen.words p.seen → Finds sh today h p k st (aFile kind number) result }
+    ensures { (today : ℕ) (h : Header) (p : Place) → h.from ≡ from → h.to ≡ to → Holds seen.words p.seen → Finds sh today h p k st (a_file kind number) result }
 {
     let found = st.found;
     if 0 < found.row {
@@ -58,7 +58,7 @@ fn file_found(
 // The bytes with its line and CR LF, and with what it closes.
 fn file_bytes(st: State) -> u64
     requires { st.bytes ≤ 100000000000 }
-    ensures adds { (sh : sheets.Sheet) (kind number : ℕ) → Adds sh st (aFile kind number) result }
+    ensures adds { (sh : sheets.Sheet) (kind number : ℕ) → Adds sh st (a_file kind number) result }
     ensures upper_bound { result ≤ st.bytes + 500 }
 {
     let before = st.before;
@@ -81,9 +81,9 @@ fn behind_file(
     number: u64,
 ) -> State
     requires low { Low k st }
-    requires walks { Walks st.before (aFile kind number) (On next) }
+    requires walks { Walks st.before (a_file kind number) (On next) }
     ensures low_2 { Low (k + 1) result }
-    ensures by_index { (today : ℕ) (h : Header) (p : Place) → h.from ≡ from → h.to ≡ to → Holds seen.words p.seen → Behind sh today h p k st (aFile kind number) result }
+    ensures by_index { (today : ℕ) (h : Header) (p : Place) → h.from ≡ from → h.to ≡ to → Holds seen.words p.seen → Behind sh today h p k st (a_file kind number) result }
 {
     let bytes = file_bytes(st);
     let found = file_found(sh, from, to, seen, k, st, kind, number);
@@ -106,7 +106,7 @@ fn file_row(
     number: u64,
 ) -> Step
     requires { Low k st }
-    ensures { (today all before : ℕ) (banks : Banks) → Steps sh today from to all before banks seen.words k st (aFile kind number) result }
+    ensures { (today all before : ℕ) (banks : Banks) → Steps sh today from to all before banks seen.words k st (a_file kind number) result }
 {
     let before = st.before;
     match rows::walk::file_proper(before, kind, number) {
@@ -133,9 +133,9 @@ fn group_found(
     base: u64,
 ) -> Found
     requires k_nonzero { 0 < k }
-    requires today_value { realDay today ≡ true }
-    requires date_value { realDay date ≡ true }
-    ensures { (h : Header) (p : Place) → p.kind ≡ kind → Finds sh today h p k st (aGroup date (account prefix base)) result }
+    requires today_value { real_day today ≡ true }
+    requires date_value { real_day date ≡ true }
+    ensures { (h : Header) (p : Place) → p.kind ≡ kind → Finds sh today h p k st (a_group date (account prefix base)) result }
 {
     let found = st.found;
     if 0 < found.row {
@@ -151,7 +151,7 @@ fn group_found(
 // The bytes with its line but for the total, with CR LF, and with what it closes.
 fn group_bytes(sh: Sheet, st: State, prefix: u64, base: u64) -> u64
     requires { st.bytes ≤ 100000000000 }
-    ensures by_index { (date : ℕ) → Adds sh st (aGroup date (account prefix base)) result }
+    ensures by_index { (date : ℕ) → Adds sh st (a_group date (account prefix base)) result }
     ensures upper_bound { result ≤ st.bytes + 500 }
 {
     let before = st.before;
@@ -173,11 +173,11 @@ fn behind_group(
     prefix: u64,
     base: u64,
 ) -> State
-    requires today_value { realDay today ≡ true }
+    requires today_value { real_day today ≡ true }
     requires low { Low k st }
-    requires walks { Walks st.before (aGroup date (account prefix base)) (On next) }
+    requires walks { Walks st.before (a_group date (account prefix base)) (On next) }
     ensures low_2 { Low (k + 1) result }
-    ensures behind { (h : Header) (p : Place) → p.kind ≡ kind → Behind sh today h p k st (aGroup date (account prefix base)) result }
+    ensures behind { (h : Header) (p : Place) → p.kind ≡ kind → Behind sh today h p k st (a_group date (account prefix base)) result }
 {
     let bytes = group_bytes(sh, st, prefix, base);
     let found = group_found(sh, today, k, kind, st, date, prefix, base);
@@ -199,9 +199,9 @@ fn group_row(
     prefix: u64,
     base: u64,
 ) -> Step
-    requires today_value { realDay today ≡ true }
+    requires today_value { real_day today ≡ true }
     requires low { Low k st }
-    ensures { (from to all : ℕ) (banks : Banks) (seen : List ℕ) → Steps sh today from to all kind banks seen k st (aGroup date (account prefix base)) result }
+    ensures { (from to all : ℕ) (banks : Banks) (seen : List ℕ) → Steps sh today from to all kind banks seen k st (a_group date (account prefix base)) result }
 {
     let before = st.before;
     match rows::walk::group_proper(before, date, prefix, base) {
@@ -230,7 +230,7 @@ fn bank_due(sh: Sheet, banks: Banks, bank: u64) -> bool
 fn item_fits(sh: Sheet, texts: &[u8], all: u64, banks: Banks, x: ItemRow) -> Check
     requires { Sized texts.now x }
     ensures { (k : ℕ) (rest : Verdict) → after k result rest ≡ check k 0 (ltb all sh.fileitems)
-        (check k 5 (allows banks sh.bank x.bank) (itemCarried sh k (item_of texts.now x) rest)) }
+        (check k 5 (allows banks sh.bank x.bank) (item_carried sh k (item_of texts.now x) rest)) }
 {
     let limits = sh.limits();
     if limits.items <= all {
@@ -255,7 +255,7 @@ fn item_found(
 ) -> Found
     requires k_nonzero { 0 < k }
     requires sized { Sized texts.now x }
-    ensures { (today : ℕ) (h : Header) (p : Place) → p.items ≡ all → Due sh today banks p.kind p.date → Finds sh today h p k st (anItem (item_of texts.now x)) result }
+    ensures { (today : ℕ) (h : Header) (p : Place) → p.items ≡ all → Due sh today banks p.kind p.date → Finds sh today h p k st (an_item (item_of texts.now x)) result }
 {
     let found = st.found;
     if 0 < found.row {
@@ -268,7 +268,7 @@ fn item_found(
 fn item_bytes(sh: Sheet, texts: &[u8], st: State, x: ItemRow) -> u64
     requires sized { Sized texts.now x }
     requires bytes_bound { st.bytes ≤ 100000000000 }
-    ensures adds { Adds sh st (anItem (item_of texts.now x)) result }
+    ensures adds { Adds sh st (an_item (item_of texts.now x)) result }
     ensures upper_bound { result ≤ st.bytes + 500 }
 {
     let line = spelling::itemlen::item_len(sh, texts, x) as u64;
@@ -287,9 +287,9 @@ fn behind_item(
     x: ItemRow,
 ) -> State
     requires low { Low k st }
-    requires walks { Walks st.before (anItem (item_of texts.now x)) (On next) }
+    requires walks { Walks st.before (an_item (item_of texts.now x)) (On next) }
     ensures low_2 { Low (k + 1) result }
-    ensures by_index { (today : ℕ) (h : Header) (p : Place) → p.items ≡ all → Due sh today banks p.kind p.date → Behind sh today h p k st (anItem (item_of texts.now x)) result }
+    ensures by_index { (today : ℕ) (h : Header) (p : Place) → p.items ≡ all → Due sh today banks p.kind p.date → Behind sh today h p k st (an_item (item_of texts.now x)) result }
 {
     let bytes = item_bytes(sh, texts, st, x);
     let found = item_found(sh, texts, k, all, banks, st, x);
@@ -303,7 +303,7 @@ fn behind_item(
 // Row k is an item.
 fn item_row(sh: Sheet, texts: &[u8], k: u64, all: u64, banks: Banks, st: State, x: ItemRow) -> Step
     requires { Low k st }
-    ensures { (today from to kind : ℕ) (seen : List ℕ) → Steps sh today from to all kind banks seen k st (toldItem texts.now x) result }
+    ensures { (today from to kind : ℕ) (seen : List ℕ) → Steps sh today from to all kind banks seen k st (told_item texts.now x) result }
 {
     let before = st.before;
     match rows::walk::item_proper(texts, before, x) {
@@ -329,7 +329,7 @@ pub fn step_of(
     banks: Banks,
     st: State,
 ) -> Step
-    requires today_value { realDay today ≡ true }
+    requires today_value { real_day today ≡ true }
     requires low { Low k st }
     ensures { StepsRead sh today from to all kind banks seen.words k st texts.now row result }
 {

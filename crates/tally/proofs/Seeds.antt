@@ -5,20 +5,20 @@ use Prim.Native.Nat.{ℕ}
 use lib.ListN.{length}
 use Rattle.sheet.specs.declared.Sheet.{Sheet}
 use Rattle.paper.specs.Lines.{Line, lines_of}
-use Rattle.tally.specs.Tally.{Tally, tFirst, tFile, tGroup, tItem, tStop, run, step, tally, seed, seededRun, seeded}
+use Rattle.tally.specs.Tally.{Tally, t_first, t_file, t_group, t_item, t_stop, run, step, tally, seed, seeded_run, seeded}
 
 seed-none : (c : Tally) → seed [] c ≡ c
 unfolding seed
-seed-none tFirst = refl
-seed-none (tFile b) = rw (append-nil b.seen)
-seed-none (tGroup b s) = rw (append-nil b.seen)
-seed-none (tItem b s o) = rw (append-nil b.seen)
-seed-none (tStop a) = refl
+seed-none t_first = refl
+seed-none (t_file b) = rw (append-nil b.seen)
+seed-none (t_group b s) = rw (append-nil b.seen)
+seed-none (t_item b s o) = rw (append-nil b.seen)
+seed-none (t_stop a) = refl
 
-run_none : (sh : Sheet) (today n : ℕ) (ts : List Line) → seededRun [] sh today n ts ≡ run sh today n 1 ts tFirst
-unfolding seededRun run
+run_none : (sh : Sheet) (today n : ℕ) (ts : List Line) → seeded_run [] sh today n ts ≡ run sh today n 1 ts t_first
+unfolding seeded_run run
 run_none sh today n [] = refl
-run_none sh today n (t ∷ ts) = ap (run sh today n 2 ts) (seed-none (step sh today 1 t tFirst))
+run_none sh today n (t ∷ ts) = ap (run sh today n 2 ts) (seed-none (step sh today 1 t t_first))
 
 pub seeded-none : (sh : Sheet) (today : ℕ) (f : List ℕ) → seeded [] sh today f ≡ tally sh today f
 unfolding seeded tally

@@ -1,7 +1,7 @@
 -- How large the numbers of the machine get. Each bound holds for every file, however long, and all stay below 2 ^ 64: at most 1,000
 -- account files of 99,999 items, a group for an item at most, six warnings for an item, two for a group. Assumes nothing.
 use Rattle.std.specs.Prelude.{◌+◌, ◌*◌, ◌≤◌}
-use Rattle.tally.specs.Tally.{Book, Shelf, Open, Tally, tFirst, tFile, tGroup, tItem, tStop}
+use Rattle.tally.specs.Tally.{Book, Shelf, Open, Tally, t_first, t_file, t_group, t_item, t_stop}
 
 -- no account file is open
 pub record SmallFile (b : Book) : Type 0 where
@@ -30,11 +30,11 @@ pub record SmallItem (b : Book) (s : Shelf) (o : Open) : Type 0 where
   pub sum : o.sum ≤ o.count * 99999999999999
 
 unfoldable pub Small : Tally → Type 0
-Small tFirst = Unit {0}
-Small (tFile b) = SmallFile b
-Small (tGroup b s) = SmallGroup b s
-Small (tItem b s o) = SmallItem b s o
-Small (tStop a) = Unit {0}
+Small t_first = Unit {0}
+Small (t_file b) = SmallFile b
+Small (t_group b s) = SmallGroup b s
+Small (t_item b s o) = SmallItem b s o
+Small (t_stop a) = Unit {0}
 
 -- what follows for the numbers of the whole file, in every state
 pub record Limits (b : Book) : Type 0 where

@@ -15,11 +15,11 @@ use Rattle.base.proofs.Seek.{seek-le, starts-long}
 use Rattle.base.proofs.Lists.{drop-take}
 use Rattle.sheet.specs.declared.Style.{Style}
 use Rattle.paper.specs.Read.{Field, fault}
-use Rattle.paper.specs.Bytes.{isText, av, np, mark, null}
-use Rattle.paper.specs.Texts.{Piece, piece, Noted, others, divide, cut, over, opens, fitted, finish, messageEnd, message, marked, readText}
-use Rattle.text.specs.Told.{countText, told, Inside, Tells}
-use Rattle.text.specs.Begun.{ofText, meant, Begins}
-use Rattle.text.specs.Finish.{fittedOne, finishAt, name_at}
+use Rattle.paper.specs.Bytes.{is_text, av, np, mark, null}
+use Rattle.paper.specs.Texts.{Piece, piece, Noted, others, divide, cut, over, opens, fitted, finish, message_end, message, marked, read_text}
+use Rattle.text.specs.Told.{count_text, told, Inside, Tells}
+use Rattle.text.specs.Begun.{of_text, meant, Begins}
+use Rattle.text.specs.Finish.{fitted_one, finish_at, name_at}
 use Rattle.text.specs.declared.Begun.{Begun}
 use Rattle.text.specs.declared.Begun.TheVariants as begun
 use Rattle.text.specs.declared.TextRead.{TextRead}
@@ -41,7 +41,7 @@ module _ (y : Style) (small : y.most ≤ 4) (s : List ℕ) (from k : ℕ) (l : f
   begins = omega (arith, length-take (from + k) s)
 
   without : length s - (from + k) ≤ 4
-      → Tells s (finishAt y (take (from + k) s) from 0 0) (finish y (divide from (take k (drop from s))) (piece (from + (k + 4)) (drop (k + 4) (drop from s))))
+      → Tells s (finish_at y (take (from + k) s) from 0 0) (finish y (divide from (take k (drop from s))) (piece (from + (k + 4)) (drop (k + 4) (drop from s))))
   without h =
       let n : length (drop from s) ≤ k + 4 = omega (arith, length-drop from s) in
       tells-same refl
@@ -49,7 +49,7 @@ module _ (y : Style) (small : y.most ≤ 4) (s : List ℕ) (from k : ℕ) (l : f
       (finish-right y small s (take (from + k) s) (from + k) refl from begins 0 0 (omega arith))
 
   behind : 4 < length s - (from + k)
-      → Tells s (finishAt y (take (from + k) s) from (from + k + 4) (length s - (from + k) - 4))
+      → Tells s (finish_at y (take (from + k) s) from (from + k + 4) (length s - (from + k) - 4))
       (finish y (divide from (take k (drop from s))) (piece (from + (k + 4)) (drop (k + 4) (drop from s))))
   behind h =
       let e : from + k + 4 ≡ from + (k + 4) = omega arith in
@@ -58,29 +58,29 @@ module _ (y : Style) (small : y.most ≤ 4) (s : List ℕ) (from k : ℕ) (l : f
       (rw (same-part, e, drop-drop (k + 4) from s, take_all (length s - (from + k) - 4) (drop (from + (k + 4)) s) n))
       (finish-right y small s (take (from + k) s) (from + k) refl from begins (from + k + 4) (length s - (from + k) - 4) (omega arith))
 
-end-le : (y : Style) (d : List ℕ) → messageEnd y d ≤ length d
-unfolding messageEnd
+end-le : (y : Style) (d : List ℕ) → message_end y d ≤ length d
+unfolding message_end
 end-le y d = either (λ (k : ℕ). k ≤ length d) y.names (λ e. seek-le mark d) (λ e. omega arith)
 
 -- read_message: e is what message_end answered, p what name_at did
-module _ (y : Style) (s : List ℕ) (from e : ℕ) (h : from ≤ length s) (g : e ≡ from + messageEnd y (drop from s)) where
+module _ (y : Style) (s : List ℕ) (from e : ℕ) (h : from ≤ length s) (g : e ≡ from + message_end y (drop from s)) where
   pub end-within : e ≤ length s
   end-within = omega (arith, end-le y (drop from s), length-drop from s)
 
   pub end_after : from ≤ length (take (e - 0) s)
   end_after = omega (arith, end-within, length-take (e - 0) s)
 
-  pub message-read : y.most ≤ 4 → (p : Span) (r : TextRead) → p ≡ name_at e (length s) → r ≡ finishAt y (take (e - 0) s) from p.at p.len
+  pub message-read : y.most ≤ 4 → (p : Span) (r : TextRead) → p ≡ name_at e (length s) → r ≡ finish_at y (take (e - 0) s) from p.at p.len
       → Tells s r (message y from (drop from s))
   unfolding message name_at pick
   message-read small p r n k =
       by-lt 4 (length s - e)
       (λ l.
       tells-same (k ∙ rw (n, lt-leb (length s - e) 4 l, sub-zero e, g)) refl
-      (behind y small s from (messageEnd y (drop from s)) (omega (arith, end-within)) (omega arith)))
+      (behind y small s from (message_end y (drop from s)) (omega (arith, end-within)) (omega arith)))
       (λ l.
       tells-same (k ∙ rw (n, le-leb (length s - e) 4 l, sub-zero e, g)) refl
-      (without y small s from (messageEnd y (drop from s)) (omega (arith, end-within)) (omega arith)))
+      (without y small s from (message_end y (drop from s)) (omega (arith, end-within)) (omega arith)))
 
 pub ruleset messages = (end-within, end_after, message-read)
 
@@ -117,38 +117,38 @@ module _ (y : Style) (s : List ℕ) (from : ℕ) (h : from ≤ length s) (b : Bo
 
 -- begin_text: c is what opens_at answered
 module _ (y : Style) (s : List ℕ) (from : ℕ) where
-  pub begun-plain : from ≤ length s → y.av ≡ false → Begins y s from (begun.Message from) (ofText y from (drop from s))
+  pub begun-plain : from ≤ length s → y.av ≡ false → Begins y s from (begun.Message from) (of_text y from (drop from s))
   begun-plain h f = record { means = sym (pick-false _ _ f); room = h }
 
   module _ (f : y.av ≡ true) (c : Bool) (k : c ≡ opens (drop from s)) where
-    pub begun-open : (r : Begun) → c ≡ true → Begins y s from r (marked y from (drop from s)) → Begins y s from r (ofText y from (drop from s))
+    pub begun-open : (r : Begun) → c ≡ true → Begins y s from r (marked y from (drop from s)) → Begins y s from r (of_text y from (drop from s))
     begun-open r o t = record { means = t.means ∙ sym (pick_true _ _ f ∙ pick_true _ _ (sym k ∙ o)); room = t.room }
 
-    pub begun-shut : c ≡ false → Begins y s from (begun.Refused 4) (ofText y from (drop from s))
+    pub begun-shut : c ≡ false → Begins y s from (begun.Refused 4) (of_text y from (drop from s))
     begun-shut o = record { means = sym (pick_true _ _ f ∙ pick-false _ _ (sym k ∙ o)); room = tt }
 
 pub ruleset beginnings = (begun-name, av-long, begun-av, begun-may, begun-none, begun-plain, begun-open, begun-shut)
 
 -- read_text: b is what all_text answered, q what begin_text did
-module _ (y : Style) (s : List ℕ) (from : ℕ) (h : from ≤ length s) (b : Bool) (g : b ≡ all isText (drop from s)) where
-  pub read-bytes : b ≡ false → fault 4 ≡ countText (readText y from (drop from s))
-  unfolding readText countText
-  read-bytes e = ap countText (sym (pick-false _ (fault 4) (sym g ∙ e)))
+module _ (y : Style) (s : List ℕ) (from : ℕ) (h : from ≤ length s) (b : Bool) (g : b ≡ all is_text (drop from s)) where
+  pub read-bytes : b ≡ false → fault 4 ≡ count_text (read_text y from (drop from s))
+  unfolding read_text count_text
+  read-bytes e = ap count_text (sym (pick-false _ (fault 4) (sym g ∙ e)))
 
-  module _ (e : b ≡ true) (q : Begun) (t : Begins y s from q (ofText y from (drop from s))) where
-    begun-read : meant y s from q ≡ readText y from (drop from s)
-    unfolding readText
+  module _ (e : b ≡ true) (q : Begun) (t : Begins y s from q (of_text y from (drop from s))) where
+    begun-read : meant y s from q ≡ read_text y from (drop from s)
+    unfolding read_text
     begun-read = t.means ∙ sym (pick_true _ _ (sym g ∙ e))
 
-    pub read-refused : (n : ℕ) → q ≡ begun.Refused n → fault n ≡ countText (readText y from (drop from s))
-    unfolding countText
-    read-refused n k = ap countText (rw k at begun-read)
+    pub read-refused : (n : ℕ) → q ≡ begun.Refused n → fault n ≡ count_text (read_text y from (drop from s))
+    unfolding count_text
+    read-refused n k = ap count_text (rw k at begun-read)
 
     pub message-within : (at : ℕ) → q ≡ begun.Message at → at ≤ length s
     message-within at k = rw k at t.room
 
-    pub read-message : (at : ℕ) (r : TextRead) → q ≡ begun.Message at → Tells s r (message y at (drop at s)) → told s r ≡ countText (readText y from (drop from s))
-    read-message at r k u = u.says ∙ ap countText (rw k at begun-read)
+    pub read-message : (at : ℕ) (r : TextRead) → q ≡ begun.Message at → Tells s r (message y at (drop at s)) → told s r ≡ count_text (read_text y from (drop from s))
+    read-message at r k u = u.says ∙ ap count_text (rw k at begun-read)
 
     module _ (k : q ≡ begun.Name) where
       pub name-within : from + 3 ≤ length s
@@ -157,7 +157,7 @@ module _ (y : Style) (s : List ℕ) (from : ℕ) (h : from ≤ length s) (b : Bo
       pub name-long : 3 ≤ length s - from
       name-long = omega (arith, name-within)
 
-      name-tells : y.most ≤ 4 → (r : TextRead) → r ≡ fittedOne y from 0 (from + 3) (length s - from - 3) → Tells s r (readText y from (drop from s))
+      name-tells : y.most ≤ 4 → (r : TextRead) → r ≡ fitted_one y from 0 (from + 3) (length s - from - 3) → Tells s r (read_text y from (drop from s))
       unfolding others seek
       name-tells small r w =
           let z : from - from ≡ 0 = omega arith in
@@ -169,10 +169,10 @@ module _ (y : Style) (s : List ℕ) (from : ℕ) (h : from ≤ length s) (b : Bo
           (rw (m, take_all (length s - from - 3) (drop (from + 3) s) n) (rw k at begun-read))
           (finish-right y small s (take from s) from refl from (omega arith) (from + 3) (length s - from - 3) (omega (arith, name-within)))
 
-      pub read_name : y.most ≤ 4 → (r : TextRead) → r ≡ fittedOne y from 0 (from + 3) (length s - from - 3) → told s r ≡ countText (readText y from (drop from s))
+      pub read_name : y.most ≤ 4 → (r : TextRead) → r ≡ fitted_one y from 0 (from + 3) (length s - from - 3) → told s r ≡ count_text (read_text y from (drop from s))
       read_name small r w = (name-tells small r w).says
 
-      pub inside-name : y.most ≤ 4 → (r : TextRead) → r ≡ fittedOne y from 0 (from + 3) (length s - from - 3) → Inside s r
+      pub inside-name : y.most ≤ 4 → (r : TextRead) → r ≡ fitted_one y from 0 (from + 3) (length s - from - 3) → Inside s r
       inside-name small r w = (name-tells small r w).inside
 
 pub tells-inside : (s : List ℕ) (r : TextRead) (x : Field Noted) → Tells s r x → Inside s r

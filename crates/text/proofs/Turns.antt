@@ -11,24 +11,24 @@ use Rattle.base.specs.Seek.{seek}
 use Rattle.base.proofs.Cases.{by-eq, pick_true, pick-false}
 use Rattle.sheet.specs.declared.Style.{Style}
 use Rattle.paper.specs.Bytes.{bar, mark}
-use Rattle.paper.specs.Texts.{others, opens, messageEnd}
+use Rattle.paper.specs.Texts.{others, opens, message_end}
 use Rattle.text.specs.span.Places.{span, part_at, ended, found_at, one_at}
 use Rattle.text.specs.declared.span.Part.{Part}
 use Rattle.text.specs.declared.span.Spans.{Spans}
 use Rattle.text.proofs.span.Turns.{part-bar, part-next, part-upto, part-near, bars-none, four-found, one_found}
 use Rattle.text.proofs.span.Bars.{count-least, count-few}
-use Rattle.text.specs.Finish.{judged, fittedOne, fittedAt, name_at}
+use Rattle.text.specs.Finish.{judged, fitted_one, fitted_at, name_at}
 use Rattle.text.specs.declared.TextRead.{TextRead}
 use Rattle.text.specs.declared.TextRead.TheVariants as answer
 
 -- fit_one
 module _ (y : Style) (from size at len : ℕ) where
-  pub one_none : y.most ≡ 0 → answer.Refused 14 ≡ fittedOne y from size at len
-  unfolding fittedOne
+  pub one_none : y.most ≡ 0 → answer.Refused 14 ≡ fitted_one y from size at len
+  unfolding fitted_one
   one_none z = sym (pick_true _ _ (eq-eqb y.most 0 z))
 
-  pub one-judged : (y.most ≡ 0 → ⊥) → (f : Spans) (r : TextRead) → f ≡ one_at from size at len → r ≡ judged y f → r ≡ fittedOne y from size at len
-  unfolding fittedOne
+  pub one-judged : (y.most ≡ 0 → ⊥) → (f : Spans) (r : TextRead) → f ≡ one_at from size at len → r ≡ judged y f → r ≡ fitted_one y from size at len
+  unfolding fitted_one
   one-judged z f r ef er = er ∙ (ap (judged y) ef ∙ sym (pick-false _ _ (ne_eqb y.most 0 z)))
 
 pub ruleset ones = (one_none, one-judged)
@@ -39,14 +39,14 @@ module _ (y : Style) (m : List ℕ) (from at len : ℕ) (h : from ≤ length m) 
   sum : i + j + k + l ≡ ended a + ended b + ended c + ended d
   sum = rw (ei, ej, ek, el)
 
-  pub finish-many : y.most ≤ i + j + k + l → answer.Refused 14 ≡ fittedAt y m from at len
-  unfolding fittedAt
+  pub finish-many : y.most ≤ i + j + k + l → answer.Refused 14 ≡ fitted_at y m from at len
+  unfolding fitted_at
   finish-many t =
       let n = count-least m from a b c d h ea eb ec ed (i + j + k + l) sum in
       sym (pick_true _ _ (le-leb y.most (length (others from (drop from m))) (omega arith)))
 
-  pub finished : i + j + k + l < y.most → y.most ≤ 4 → (f : Spans) (r : TextRead) → f ≡ found_at a b c d at len → r ≡ judged y f → r ≡ fittedAt y m from at len
-  unfolding fittedAt
+  pub finished : i + j + k + l < y.most → y.most ≤ 4 → (f : Spans) (r : TextRead) → f ≡ found_at a b c d at len → r ≡ judged y f → r ≡ fitted_at y m from at len
+  unfolding fitted_at
   finished t u f r ef er =
       let n = count-few m from a b c d h ea eb ec ed (i + j + k + l) sum (omega arith) in
       er ∙ (ap (judged y) (four-found m from at len f a b c d ea eb ec ed ef) ∙ sym (pick-false _ _ (lt-leb y.most (length (others from (drop from m))) (omega arith))))
@@ -56,8 +56,8 @@ module _ (y : Style) (m : List ℕ) (from at len e : ℕ) (g : e ≡ from + seek
   none : length m ≤ e → length (others from (drop from m)) ≡ 0
   none l = sym (bars-none m from 0 from e (omega arith) g h l)
 
-  pub finish-alone : length m ≤ e → (r : TextRead) → r ≡ fittedOne y from (e - from) at len → r ≡ fittedAt y m from at len
-  unfolding fittedAt fittedOne
+  pub finish-alone : length m ≤ e → (r : TextRead) → r ≡ fitted_one y from (e - from) at len → r ≡ fitted_at y m from at len
+  unfolding fitted_at fitted_one
   finish-alone l r k =
       by-eq y.most 0
       (λ z. k ∙ (pick_true _ _ (eq-eqb y.most 0 z) ∙ sym (pick_true _ _ (le-leb y.most (length (others from (drop from m))) (omega arith)))))
@@ -96,14 +96,14 @@ pub ruleset openings = (opens-none, opens-space, opens-good)
 
 -- message_end: e is what find answered
 module _ (y : Style) (s : List ℕ) (from : ℕ) where
-  pub end_mark : (e : ℕ) → e ≡ from + seek mark (drop from s) → y.names ≡ true → e ≡ from + messageEnd y (drop from s)
-  unfolding messageEnd
+  pub end_mark : (e : ℕ) → e ≡ from + seek mark (drop from s) → y.names ≡ true → e ≡ from + message_end y (drop from s)
+  unfolding message_end
   end_mark e g n = g ∙ ap (λ (k : ℕ). from + k) (sym (pick_true _ _ n))
 
-  pub end_line : from ≤ length s → y.names ≡ false → length s ≡ from + messageEnd y (drop from s)
-  unfolding messageEnd
-  end_line h n =
+  pub end-line : from ≤ length s → y.names ≡ false → length s ≡ from + message_end y (drop from s)
+  unfolding message_end
+  end-line h n =
       let e : length s ≡ from + length (drop from s) = omega (arith, length-drop from s) in
       e ∙ ap (λ (k : ℕ). from + k) (sym (pick-false _ _ n))
 
-pub ruleset ends = (end_mark, end_line)
+pub ruleset ends = (end_mark, end-line)

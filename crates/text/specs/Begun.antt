@@ -8,8 +8,8 @@ use Rattle.text.specs.declared.Begun.{Begun}
 use Rattle.text.specs.declared.Begun.TheVariants as begun
 
 -- a text that has text bytes alone
-abbrev pub ofText : Style → ℕ → List ℕ → Field Noted
-ofText y at t = pick y.av (pick (opens t) (marked y at t) (fault 4)) (message y at t)
+abbrev pub of_text : Style → ℕ → List ℕ → Field Noted
+of_text y at t = pick y.av (pick (opens t) (marked y at t) (fault 4)) (message y at t)
 
 -- what the text of the line s that begins at `from` then is
 abbrev pub meant : Style → List ℕ → ℕ → Begun → Field Noted

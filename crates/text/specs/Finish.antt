@@ -5,7 +5,7 @@ use Rattle.sheet.specs.declared.Style.{Style}
 use Rattle.paper.specs.Texts.{others, taken}
 use Rattle.text.specs.declared.span.Span.{Span}
 use Rattle.text.specs.declared.span.Spans.{Spans}
-use Rattle.text.specs.span.Places.{span, one_at, fourFrom}
+use Rattle.text.specs.span.Places.{span, one_at, four_from}
 use Rattle.text.specs.declared.TextRead.{TextRead}
 use Rattle.text.specs.declared.TextRead.TheVariants as answer
 
@@ -14,18 +14,18 @@ unfoldable pub judged : Style → Spans → TextRead
 judged y f = pick y.cuts (answer.Texts f) (pick (eqb f.warnings 0) (answer.Texts f) (answer.Refused 14))
 
 -- one part and a name
-unfoldable pub fittedOne : Style → ℕ → ℕ → ℕ → ℕ → TextRead
-fittedOne y from size at len = pick (eqb y.most 0) (answer.Refused 14) (judged y (one_at from size at len))
+unfoldable pub fitted_one : Style → ℕ → ℕ → ℕ → ℕ → TextRead
+fitted_one y from size at len = pick (eqb y.most 0) (answer.Refused 14) (judged y (one_at from size at len))
 
 -- where a name stands in a line of n bytes whose message ends at e
 unfoldable pub name_at : ℕ → ℕ → Span
 name_at e n = pick (leb (n - e) 4) (span 0 0) (span (e + 4) (n - e - 4))
 
 -- the message's parts from `from` to the end of m, and a name, whatever their bytes
-unfoldable pub fittedAt : Style → List ℕ → ℕ → ℕ → ℕ → TextRead
-fittedAt y m from at len =
-    pick (leb y.most (length (others from (drop from m)))) (answer.Refused 14) (judged y (fourFrom m from at len))
+unfoldable pub fitted_at : Style → List ℕ → ℕ → ℕ → ℕ → TextRead
+fitted_at y m from at len =
+    pick (leb y.most (length (others from (drop from m)))) (answer.Refused 14) (judged y (four_from m from at len))
 
 -- .. where the sheet takes the message's bytes
-unfoldable pub finishAt : Style → List ℕ → ℕ → ℕ → ℕ → TextRead
-finishAt y m from at len = pick (taken y (drop from m)) (fittedAt y m from at len) (answer.Refused 14)
+unfoldable pub finish_at : Style → List ℕ → ℕ → ℕ → ℕ → TextRead
+finish_at y m from at len = pick (taken y (drop from m)) (fitted_at y m from at len) (answer.Refused 14)

@@ -1,7 +1,7 @@
 // Whether an item has a text, and how long it is in the canonical spelling.
 ghost use Rattle.std.specs.Prelude.{◌≡◌, ◌≤◌, length};
 ghost use Rattle.paper.specs.Bytes.{null};
-ghost use Rattle.paper.specs.Texts.{joined, trim, spellName, spellText, noText};
+ghost use Rattle.paper.specs.Texts.{joined, trim, spell_name, spell_text, no_text};
 ghost use Rattle.text.specs.extent.Four.{four};
 
 use sheet::Style;
@@ -24,7 +24,7 @@ pub fn no_parts(a: &[u8], b: &[u8], c: &[u8], d: &[u8]) -> bool
 
 // All parts and the name are empty: there is no text, but where a sheet always has one.
 pub fn no_text(a: &[u8], b: &[u8], c: &[u8], d: &[u8], n: &[u8]) -> bool
-    ensures { result ≡ noText (four a.now b.now c.now d.now) n.now }
+    ensures { result ≡ no_text (four a.now b.now c.now d.now) n.now }
 {
     if no_parts(a, b, c, d) {
         return n.len() == 0;
@@ -56,7 +56,7 @@ fn parts_len(a: &[u8], b: &[u8], c: &[u8], d: &[u8]) -> usize
 // How long ` NP:` and the name are, or 0 if it is empty.
 fn name_len(n: &[u8]) -> usize
     requires { length n.now ≤ 35 }
-    ensures value { result ≡ length (spellName n.now) }
+    ensures value { result ≡ length (spell_name n.now) }
     ensures upper_bound { result ≤ 39 }
 {
     if n.len() == 0 {
@@ -72,7 +72,7 @@ pub fn text_len(y: Style, a: &[u8], b: &[u8], c: &[u8], d: &[u8], n: &[u8]) -> u
     requires c_len_bound { length c.now ≤ 35 }
     requires d_len_bound { length d.now ≤ 35 }
     requires n_len_bound { length n.now ≤ 35 }
-    ensures value { result ≡ length (spellText y (four a.now b.now c.now d.now) n.now) }
+    ensures value { result ≡ length (spell_text y (four a.now b.now c.now d.now) n.now) }
     ensures upper_bound { result ≤ 200 }
 {
     let av = y.av;

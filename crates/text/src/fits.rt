@@ -2,7 +2,7 @@
 ghost use Rattle.std.specs.Prelude.{◌≡◌, true, ◌≤◌, ltb, length, drop};
 ghost use Rattle.base.specs.Pick.{pick};
 ghost use Rattle.paper.specs.Bytes.{null, bar, mark};
-ghost use Rattle.paper.specs.Texts.{lacks, taken, nameProper, partProper, partCarried, nameCarried};
+ghost use Rattle.paper.specs.Texts.{lacks, taken, name_proper, part_proper, part_carried, name_carried};
 
 use sheet::Style;
 
@@ -10,7 +10,7 @@ use sheet::Style;
 // text is passed in one block.
 pub fn name_proper(s: &[u8], from: usize) -> bool
     requires { from ≤ length s.now }
-    ensures { result ≡ nameProper (drop from s.now) }
+    ensures { result ≡ name_proper (drop from s.now) }
 {
     if 35 < s.len() - from {
         return false;
@@ -29,7 +29,7 @@ fn no_bar(s: &[u8], from: usize) -> bool
 // A part: 0 to 35 text bytes, none of them `|`.
 pub fn part_proper(s: &[u8], from: usize) -> bool
     requires { from ≤ length s.now }
-    ensures { result ≡ partProper (drop from s.now) }
+    ensures { result ≡ part_proper (drop from s.now) }
 {
     if name_proper(s, from) {
         return no_bar(s, from);
@@ -72,7 +72,7 @@ fn unmarked(y: Style, p: &[u8]) -> bool
 // The sheet can carry p as part i, from 0 on, where it takes p's bytes.
 pub fn part_carried(y: Style, i: usize, p: &[u8]) -> bool
     requires { taken y p.now ≡ true }
-    ensures { result ≡ partCarried y i p.now }
+    ensures { result ≡ part_carried y i p.now }
 {
     if has_place(y, i, p) {
         return unmarked(y, p);
@@ -82,7 +82,7 @@ pub fn part_carried(y: Style, i: usize, p: &[u8]) -> bool
 
 // The sheet can carry n as the name.
 pub fn name_carried(y: Style, n: &[u8]) -> bool
-    ensures { result ≡ nameCarried y n.now }
+    ensures { result ≡ name_carried y n.now }
 {
     let named = y.names;
     if named {

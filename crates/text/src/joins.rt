@@ -1,13 +1,13 @@
 // Writing the parts of a message, divided by `|`.
 ghost use Rattle.std.specs.Prelude.{[], ◌∷◌, ◌+◌, ◌≤◌, length};
 ghost use Rattle.base.specs.Put.{Wrote};
-ghost use Rattle.paper.specs.Texts.{joinOn, joined, trim};
+ghost use Rattle.paper.specs.Texts.{join_on, joined, trim};
 ghost use Rattle.text.specs.extent.Four.{four};
 
 // Writes two parts.
 fn put_two(out: &mut [u8], at: usize, a: &[u8], b: &[u8]) -> usize
-    requires { at + length (joinOn a.now (b.now ∷ [])) ≤ length out.old }
-    ensures { Wrote out.old at (joinOn a.now (b.now ∷ [])) out.new result }
+    requires { at + length (join_on a.now (b.now ∷ [])) ≤ length out.old }
+    ensures { Wrote out.old at (join_on a.now (b.now ∷ [])) out.new result }
 {
     let e = out::put::put_bytes(out, at, a);
     let f = out::put::put_byte(out, e, 124);
@@ -16,8 +16,8 @@ fn put_two(out: &mut [u8], at: usize, a: &[u8], b: &[u8]) -> usize
 
 // Writes three parts.
 fn put_three(out: &mut [u8], at: usize, a: &[u8], b: &[u8], c: &[u8]) -> usize
-    requires { at + length (joinOn a.now (b.now ∷ c.now ∷ [])) ≤ length out.old }
-    ensures { Wrote out.old at (joinOn a.now (b.now ∷ c.now ∷ [])) out.new result }
+    requires { at + length (join_on a.now (b.now ∷ c.now ∷ [])) ≤ length out.old }
+    ensures { Wrote out.old at (join_on a.now (b.now ∷ c.now ∷ [])) out.new result }
 {
     let e = out::put::put_bytes(out, at, a);
     let f = out::put::put_byte(out, e, 124);
@@ -26,8 +26,8 @@ fn put_three(out: &mut [u8], at: usize, a: &[u8], b: &[u8], c: &[u8]) -> usize
 
 // Writes four parts.
 fn put_four(out: &mut [u8], at: usize, a: &[u8], b: &[u8], c: &[u8], d: &[u8]) -> usize
-    requires { at + length (joinOn a.now (b.now ∷ c.now ∷ d.now ∷ [])) ≤ length out.old }
-    ensures { Wrote out.old at (joinOn a.now (b.now ∷ c.now ∷ d.now ∷ [])) out.new result }
+    requires { at + length (join_on a.now (b.now ∷ c.now ∷ d.now ∷ [])) ≤ length out.old }
+    ensures { Wrote out.old at (join_on a.now (b.now ∷ c.now ∷ d.now ∷ [])) out.new result }
 {
     let e = out::put::put_bytes(out, at, a);
     let f = out::put::put_byte(out, e, 124);

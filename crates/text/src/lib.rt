@@ -11,11 +11,11 @@ ghost use Rattle.std.specs.Prelude.{◌≡◌, false, ◌+◌, ◌≤◌, length
 ghost use Rattle.base.specs.Pick.{pick};
 ghost use Rattle.base.specs.Seek.{starts, seek};
 ghost use Rattle.paper.specs.Bytes.{np, mark};
-ghost use Rattle.paper.specs.Texts.{taken, opens, messageEnd, message, marked, readText};
+ghost use Rattle.paper.specs.Texts.{taken, opens, message_end, message, marked, read_text};
 ghost use Rattle.text.specs.span.Places.{part_at};
-ghost use Rattle.text.specs.Told.{countText, told, Inside, Tells};
-ghost use Rattle.text.specs.Begun.{ofText, Begins};
-ghost use Rattle.text.specs.Finish.{judged, fittedOne, fittedAt, finishAt, name_at};
+ghost use Rattle.text.specs.Told.{count_text, told, Inside, Tells};
+ghost use Rattle.text.specs.Begun.{of_text, Begins};
+ghost use Rattle.text.specs.Finish.{judged, fitted_one, fitted_at, finish_at, name_at};
 
 use crate::span::{Part, Span, Spans, barred, gather, one_part, part_at};
 use scan::find::find_byte;
@@ -46,7 +46,7 @@ fn judge(y: Style, f: Spans) -> TextRead
 
 // One part and no other, and a name at its place.
 fn fit_one(y: Style, from: usize, size: usize, at: usize, len: usize) -> TextRead
-    ensures { result ≡ fittedOne y from size at len }
+    ensures { result ≡ fitted_one y from size at len }
 {
     let most = y.most;
     if most == 0 {
@@ -60,7 +60,7 @@ fn fit_parts(y: Style, m: &[u8], from: usize, a: Part, at: usize, len: usize) ->
     requires most_bound { y.most ≤ 4 }
     requires from_in_bounds { from ≤ length m.now }
     requires a_value { a ≡ part_at m.now from }
-    ensures { result ≡ fittedAt y m.now from at len }
+    ensures { result ≡ fitted_at y m.now from at len }
 {
     let b = part_at(m, a.next);
     let c = part_at(m, b.next);
@@ -77,7 +77,7 @@ fn fit_parts(y: Style, m: &[u8], from: usize, a: Part, at: usize, len: usize) ->
 fn fit_at(y: Style, m: &[u8], from: usize, at: usize, len: usize) -> TextRead
     requires most_bound { y.most ≤ 4 }
     requires from_in_bounds { from ≤ length m.now }
-    ensures { result ≡ fittedAt y m.now from at len }
+    ensures { result ≡ fitted_at y m.now from at len }
 {
     let end = find_byte(m, from, 124);
     if end < m.len() {
@@ -107,7 +107,7 @@ pub fn bytes_taken(y: Style, m: &[u8], from: usize) -> bool
 fn finish_at(y: Style, m: &[u8], from: usize, at: usize, len: usize) -> TextRead
     requires most_bound { y.most ≤ 4 }
     requires from_in_bounds { from ≤ length m.now }
-    ensures { result ≡ finishAt y m.now from at len }
+    ensures { result ≡ finish_at y m.now from at len }
 {
     if bytes_taken(y, m, from) {
         return fit_at(y, m, from, at, len);
@@ -137,7 +137,7 @@ fn find_mark(s: &[u8], from: usize) -> usize
 // Where the message that begins at `from` ends: before its first ` NP:`, where names are.
 pub fn message_end(y: Style, s: &[u8], from: usize) -> usize
     requires { from ≤ length s.now }
-    ensures { result ≡ from + messageEnd y (drop from s.now) }
+    ensures { result ≡ from + message_end y (drop from s.now) }
 {
     let names = y.names;
     if names {
@@ -227,7 +227,7 @@ pub fn opens_at(s: &[u8], from: usize) -> bool
 // The beginning of a text whose bytes are all text bytes.
 pub fn begin_text(y: Style, s: &[u8], from: usize) -> Begun
     requires { from ≤ length s.now }
-    ensures { Begins y s.now from result (ofText y from (drop from s.now)) }
+    ensures { Begins y s.now from result (of_text y from (drop from s.now)) }
 {
     let av = y.av;
     if av {
@@ -243,7 +243,7 @@ pub fn begin_text(y: Style, s: &[u8], from: usize) -> Begun
 pub fn read_text(y: Style, s: &[u8], from: usize) -> TextRead
     requires most_bound { y.most ≤ 4 }
     requires from_in_bounds { from ≤ length s.now }
-    ensures result_value { told s.now result ≡ countText (readText y from (drop from s.now)) }
+    ensures result_value { told s.now result ≡ count_text (read_text y from (drop from s.now)) }
     ensures inside { Inside s.now result }
 {
     if all_text(s, from) {

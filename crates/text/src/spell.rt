@@ -3,15 +3,15 @@ ghost use Rattle.std.specs.Prelude.{[], ◌+◌, ◌≤◌, length};
 ghost use Rattle.base.specs.Pick.{pick};
 ghost use Rattle.base.specs.Put.{Wrote};
 ghost use Rattle.paper.specs.Bytes.{av, np};
-ghost use Rattle.paper.specs.Texts.{spellName, spellText};
+ghost use Rattle.paper.specs.Texts.{spell_name, spell_text};
 ghost use Rattle.text.specs.extent.Four.{four};
 
 use sheet::Style;
 
 // Writes ` NP:` and the name, if it is not empty.
 fn put_name(out: &mut [u8], at: usize, n: &[u8]) -> usize
-    requires { at + length (spellName n.now) ≤ length out.old }
-    ensures { Wrote out.old at (spellName n.now) out.new result }
+    requires { at + length (spell_name n.now) ≤ length out.old }
+    ensures { Wrote out.old at (spell_name n.now) out.new result }
 {
     if n.len() == 0 {
         return at;
@@ -36,8 +36,8 @@ fn put_mark(out: &mut [u8], at: usize, marked: bool, alone: bool) -> usize
 
 // Writes the name behind the parts or, where it is `alone`, behind its mark; nothing where there are no marks.
 fn put_end(out: &mut [u8], at: usize, marked: bool, alone: bool, n: &[u8]) -> usize
-    requires { at + length (pick marked (pick alone n.now (spellName n.now)) []) ≤ length out.old }
-    ensures { Wrote out.old at (pick marked (pick alone n.now (spellName n.now)) []) out.new result }
+    requires { at + length (pick marked (pick alone n.now (spell_name n.now)) []) ≤ length out.old }
+    ensures { Wrote out.old at (pick marked (pick alone n.now (spell_name n.now)) []) out.new result }
 {
     if marked {
         if alone {
@@ -59,8 +59,8 @@ pub fn put_text(
     d: &[u8],
     n: &[u8],
 ) -> usize
-    requires { at + length (spellText y (four a.now b.now c.now d.now) n.now) ≤ length out.old }
-    ensures { Wrote out.old at (spellText y (four a.now b.now c.now d.now) n.now) out.new result }
+    requires { at + length (spell_text y (four a.now b.now c.now d.now) n.now) ≤ length out.old }
+    ensures { Wrote out.old at (spell_text y (four a.now b.now c.now d.now) n.now) out.new result }
 {
     let alone = crate::extent::no_parts(a, b, c, d);
     let e = put_mark(out, at, y.av, alone);

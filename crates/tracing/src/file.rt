@@ -1,9 +1,9 @@
 // A whole file judged, line by line and along the lines of a group at once: the one finding of a refused file, or the counts of an accepted one.
 ghost use Rattle.std.specs.Prelude.{◌≡◌, true, ◌<◌, length};
 ghost use Rattle.sheet.proofs.Laws.{Sane};
-ghost use Rattle.paper.specs.Days.{realDay};
+ghost use Rattle.paper.specs.Days.{real_day};
 ghost use Rattle.course.specs.declared.Move.TheVariants as move;
-ghost use Rattle.course.specs.Stands.{atGroup, atItem};
+ghost use Rattle.course.specs.Stands.{at_group, at_item};
 ghost use Rattle.tracing.specs.declared.file.Ahead.TheVariants as ahead;
 ghost use Rattle.tracing.specs.file.Comes.{Comes, Reached, AtEnd};
 ghost use Rattle.tracing.specs.file.Steps.{Steps, Met};
@@ -71,7 +71,7 @@ fn blamed(
     x: Course,
     words: [u64; 16],
 ) -> Outcome
-    requires sane { Sane sh × (realDay today ≡ true) }
+    requires sane { Sane sh × (real_day today ≡ true) }
     requires met { Met sh today f.now at cut line x words move.Halt }
     ensures { Comes sh today f.now result }
 {
@@ -91,7 +91,7 @@ fn moved(
     words: [u64; 16],
     to: Move,
 ) -> Ahead
-    requires sane { Sane sh × (realDay today ≡ true) }
+    requires sane { Sane sh × (real_day today ≡ true) }
     requires met { Met sh today f.now at cut line x words to }
     ensures { Steps sh today f.now at words result }
 {
@@ -107,7 +107,7 @@ fn moved(
 
 // In a group.
 fn in_group(from: u64, to: u64, held: Held) -> Course
-    ensures { result ≡ atItem from to held }
+    ensures { result ≡ at_item from to held }
 {
     Course {
         from,
@@ -118,7 +118,7 @@ fn in_group(from: u64, to: u64, held: Held) -> Course
 
 // Behind a group.
 fn behind_group(at: usize, line: u64, from: u64, to: u64, counts: Counts, shelf: Shelf) -> Ahead
-    ensures { result ≡ ahead.On at line (atGroup from to counts shelf) }
+    ensures { result ≡ ahead.On at line (at_group from to counts shelf) }
 {
     let x = Course {
         from,
@@ -140,8 +140,8 @@ fn whole_group(
     held: Held,
     words: [u64; 16],
 ) -> Ahead
-    requires sane { Sane sh × (realDay today ≡ true) }
-    requires reached { Reached sh today f.now at line (atItem from to held) words }
+    requires sane { Sane sh × (real_day today ≡ true) }
+    requires reached { Reached sh today f.now at line (at_item from to held) words }
     ensures { Steps sh today f.now at words result }
 {
     match crate::group::along(f, sh, today, at, line, held) {
@@ -178,7 +178,7 @@ fn step(
     x: Course,
     seen: &mut [u64; 16],
 ) -> Ahead
-    requires sane { Sane sh × (realDay today ≡ true) }
+    requires sane { Sane sh × (real_day today ≡ true) }
     requires at_in_bounds { at < length f.now }
     requires reached { Reached sh today f.now at line x seen.old }
     ensures { Steps sh today f.now at seen.new result }
@@ -206,7 +206,7 @@ fn step(
 
 // The whole file on the sheet sh.
 pub fn follow(f: &[u8], sh: Sheet, today: u64) -> Outcome
-    requires { Sane sh × (realDay today ≡ true) }
+    requires { Sane sh × (real_day today ≡ true) }
     ensures { Comes sh today f.now result }
 {
     let mut seen = [0u64; 16];

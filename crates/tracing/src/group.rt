@@ -1,7 +1,7 @@
 // The lines of an open group, gone along at once up to the one that closes it, or where judging halts.
 ghost use Rattle.std.specs.Prelude.{◌≡◌, true, List, ℕ};
 ghost use Rattle.sheet.proofs.Laws.{Sane};
-ghost use Rattle.paper.specs.Days.{realDay};
+ghost use Rattle.paper.specs.Days.{real_day};
 ghost use Rattle.judge.specs.group.Stands.{Begun};
 ghost use Rattle.tracing.specs.group.Along.{Closing, Through};
 
@@ -58,7 +58,7 @@ fn ended(end: GroupEnd, at: usize, cut: Cut, line: u64, held: Held) -> Far
 
 // The lines of an open group, from `at` on.
 pub fn along(f: &[u8], sh: Sheet, today: u64, at: usize, line: u64, held: Held) -> Far
-    requires sane { Sane sh × (realDay today ≡ true) }
+    requires sane { Sane sh × (real_day today ≡ true) }
     requires begun { Begun f.now at line held }
     ensures { Through sh today f.now at line held result }
 {

@@ -2,20 +2,20 @@
 ghost use Rattle.std.specs.Prelude.{◌≡◌, true, false, ◌≤◌};
 ghost use Rattle.sheet.proofs.Laws.{Sane};
 ghost use Rattle.paper.specs.Batch.{most14};
-ghost use Rattle.paper.specs.Days.{realDay};
+ghost use Rattle.paper.specs.Days.{real_day};
 ghost use Rattle.paper.specs.Lines.{lines_from};
-ghost use Rattle.paper.specs.Entries.{counted, groupLine, kind_of};
-ghost use Rattle.paper.specs.Terms.{dayHere};
-ghost use Rattle.paper.specs.GroupLine.{readGroup};
-ghost use Rattle.paper.specs.Rows.{accepted, singleBehind};
+ghost use Rattle.paper.specs.Entries.{counted, group_line, kind_of};
+ghost use Rattle.paper.specs.Terms.{day_here};
+ghost use Rattle.paper.specs.GroupLine.{read_group};
+ghost use Rattle.paper.specs.Rows.{accepted, single_behind};
 ghost use Rattle.paper.specs.Judge.{judge};
 ghost use Rattle.scan.specs.line.Cutting.{Cuts};
 ghost use Rattle.numeral.specs.counted.Counted.{Counted};
-ghost use Rattle.numeral.specs.placed.Said.{isSaid};
+ghost use Rattle.numeral.specs.placed.Said.{is_said};
 ghost use Rattle.why.specs.Finding.{accepts};
-ghost use Rattle.why.specs.Warned.{ahead, warnedIn};
+ghost use Rattle.why.specs.Warned.{ahead, warned_in};
 ghost use Rattle.listing.specs.Listed.{listed};
-ghost use Rattle.listing.specs.group.Warned.{groupWarned, cut as bytesIn, lineIn};
+ghost use Rattle.listing.specs.group.Warned.{group_warned, cut as bytes_in, line_in};
 ghost use Rattle.listing.specs.group.Ahead.{ItemsSaid};
 ghost use Rattle.tracing.specs.warnings.Passing.{Passes, Puts};
 
@@ -34,8 +34,8 @@ pub struct Step {
 
 // Is the group that the line s begins single?
 fn is_single(s: &[u8], sh: Sheet, today: u64) -> bool
-    requires { isSaid (readGroup sh today (dayHere sh 0) s.now) ≡ true }
-    ensures { result ≡ singleBehind false (counted (readGroup sh today (dayHere sh 0) s.now)) }
+    requires { is_said (read_group sh today (day_here sh 0) s.now) ≡ true }
+    ensures { result ≡ single_behind false (counted (read_group sh today (day_here sh 0) s.now)) }
 {
     let g = groupline::take::take_group(s, sh, today);
     account::is_nobody(g.prefix, g.base)
@@ -53,12 +53,12 @@ fn put_group(
     kind: u64,
     single: bool,
 ) -> usize
-    requires sane { Sane t.sheet × (realDay t.today ≡ true) }
+    requires sane { Sane t.sheet × (real_day t.today ≡ true) }
     requires cuts { Cuts f.now at cut }
-    requires stop_value { kind_of (bytesIn f.now at cut.stop) ≡ groupLine }
+    requires stop_value { kind_of (bytes_in f.now at cut.stop) ≡ group_line }
     requires items_said { ItemsSaid t.sheet single (lines_from f.now cut.next) }
     requires next_bound { ahead t.sheet t.today (accepted single) (lines_from f.now cut.next) ≤ most14 }
-    ensures { Counted out.old to (listed t f.now (groupWarned t.sheet t.today line (lineIn f.now at cut.stop) (dayHere t.sheet kind) (ahead t.sheet t.today (accepted single) (lines_from f.now cut.next)))) out.new result }
+    ensures { Counted out.old to (listed t f.now (group_warned t.sheet t.today line (line_in f.now at cut.stop) (day_here t.sheet kind) (ahead t.sheet t.today (accepted single) (lines_from f.now cut.next)))) out.new result }
 {
     let here = calendar::term::day_here(t.sheet, kind);
     let exact = listing::group::sum_ahead(f, t.sheet, cut.next, single);
@@ -67,7 +67,7 @@ fn put_group(
 
 // Line `line`, to which the pass came with x.
 fn put_line(out: &mut [u8], t: Telling, f: &[u8], at: usize, cut: Cut, line: u64, x: Step) -> Step
-    requires sane { Sane t.sheet × (realDay t.today ≡ true) }
+    requires sane { Sane t.sheet × (real_day t.today ≡ true) }
     requires cuts { Cuts f.now at cut }
     requires passes { Passes t f.now at line x }
     ensures { Puts t f.now at cut line x out.old out.new result }
@@ -100,9 +100,9 @@ fn put_line(out: &mut [u8], t: Telling, f: &[u8], at: usize, cut: Cut, line: u64
 
 // All warnings of an accepted file, in file order.
 pub fn put_warnings(out: &mut [u8], to: usize, t: Telling, f: &[u8]) -> usize
-    requires sane { Sane t.sheet × (realDay t.today ≡ true) }
+    requires sane { Sane t.sheet × (real_day t.today ≡ true) }
     requires f_value { accepts (judge t.sheet t.today f.now) ≡ true }
-    ensures { Counted out.old to (listed t f.now (warnedIn t.sheet t.today f.now)) out.new result }
+    ensures { Counted out.old to (listed t f.now (warned_in t.sheet t.today f.now)) out.new result }
 {
     let mut at: usize = 0;
     let mut line: u64 = 1;

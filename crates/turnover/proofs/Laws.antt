@@ -5,11 +5,11 @@ use Rattle.base.proofs.Cases.{either, by-eq}
 use Rattle.paper.specs.Batch.{most14}
 use Rattle.paper.specs.Read.{value}
 use Rattle.paper.specs.Numerals.{fixed}
-use Rattle.paper.specs.Entries.{Said, onField}
+use Rattle.paper.specs.Entries.{Said, on_field}
 use Rattle.numeral.proofs.Fixed.{fixed-length}
 use Rattle.numeral.proofs.Back.{fixed_back}
 use Rattle.gpc.specs.Parts.{slice, or51}
-use Rattle.gpc.specs.Signed.{Signed, signed, Fourteen, isDifference, above, below, side, readDigits, readMinus, onSigned, spellSigned, negative, signedWord, wordSigned}
+use Rattle.gpc.specs.Signed.{Signed, signed, Fourteen, is_difference, above, below, side, read_digits, read_minus, on_signed, spell_signed, negative, signed_word, word_signed}
 use Rattle.gpc.specs.Turnovers.{Moved, moved, is_code, most12, part, total, balanced}
 use Rattle.turnover.specs.declared.Turn.{Turn}
 use Rattle.turnover.specs.declared.Turns.{Turns}
@@ -40,36 +40,36 @@ signed_same false n some = by-eq n 0 (λ e. sym (read-zero false n e)) (λ e. sy
 -- ---- a record's field: `plus` is the byte that says plus, s the record, `at` the field's place in it
 
 module _ {B : Type 0} (plus at : ℕ) (s : List ℕ) (k : Signed → Said B) where
-  spelled : (minus : Bool) (n b : ℕ) → n ≤ most14 → slice at 14 s ≡ fixed 14 n → slice (at + 14) 1 s ≡ b ∷ [] → readMinus plus (b ∷ []) ≡ value minus
-      → onSigned plus at s k ≡ k (signed minus n)
-  unfolding onSigned onField readDigits or51
+  spelled : (minus : Bool) (n b : ℕ) → n ≤ most14 → slice at 14 s ≡ fixed 14 n → slice (at + 14) 1 s ≡ b ∷ [] → read_minus plus (b ∷ []) ≡ value minus
+      → on_signed plus at s k ≡ k (signed minus n)
+  unfolding on_signed on_field read_digits or51
   spelled minus n b h d g e = rw (d, fixed_back 14 n (omega arith), g, e) refl
 
   -- minus before fourteen zeros is read as zero
-  pub field-zero : slice at 14 s ≡ fixed 14 0 → slice (at + 14) 1 s ≡ 45 ∷ [] → onSigned plus at s k ≡ k (number false 0)
-  unfolding readMinus pick
+  pub field-zero : slice at 14 s ≡ fixed 14 0 → slice (at + 14) 1 s ≡ 45 ∷ [] → on_signed plus at s k ≡ k (number false 0)
+  unfolding read_minus pick
   field-zero d g = spelled true 0 45 (omega arith) d g refl ∙ ap k (minus-zero true)
 
-  sign-back : (minus : Bool) → (plus ≡ 45 → ⊥) → readMinus plus (pick minus 45 plus ∷ []) ≡ value minus
-  unfolding readMinus pick
+  sign-back : (minus : Bool) → (plus ≡ 45 → ⊥) → read_minus plus (pick minus 45 plus ∷ []) ≡ value minus
+  unfolding read_minus pick
   sign-back true n = refl
   sign-back false n = rw (ne_eqb plus 45 n, eq-eqb plus plus refl) refl
 
   -- what fourteen digits and a sign can say is read back from its spelling
   pub field_back : (x : Signed) → Fourteen x → (plus ≡ 45 → ⊥) → slice at 14 s ≡ fixed 14 x.size → slice (at + 14) 1 s ≡ pick x.minus 45 plus ∷ []
-      → onSigned plus at s k ≡ k x
+      → on_signed plus at s k ≡ k x
   field_back x h n d g =
       spelled x.minus x.size (pick x.minus 45 plus) h.small d g (sign-back x.minus n)
       ∙ ap k (signed_same x.minus x.size h.some)
 
-pub signed-length : (plus : ℕ) (x : Signed) → length (spellSigned plus x) ≡ 15
-unfolding spellSigned
+pub signed-length : (plus : ℕ) (x : Signed) → length (spell_signed plus x) ≡ 15
+unfolding spell_signed
 signed-length plus x = omega (arith, length-append (fixed 14 x.size) (pick x.minus 45 plus ∷ []), fixed-length 14 x.size)
 
 -- ---- words of a row
 
-back : (minus : Bool) (n : ℕ) → n ≤ most14 → (minus ≡ true → 0 < n) → wordSigned (signedWord (number minus n)) ≡ number minus n
-unfolding wordSigned signedWord negative pick
+back : (minus : Bool) (n : ℕ) → n ≤ most14 → (minus ≡ true → 0 < n) → word_signed (signed_word (number minus n)) ≡ number minus n
+unfolding word_signed signed_word negative pick
 back true n h some =
     let s = some refl in
     let high : 9223372036854775808 ≤ negative n = omega arith in
@@ -78,12 +78,12 @@ back true n h some =
 back false n h some = rw (lt-ltb n 9223372036854775808 (omega arith))
 
 -- what fourteen digits and a sign can say comes back from its word
-pub word_back : (x : Signed) → Fourteen x → wordSigned (signedWord x) ≡ x
+pub word_back : (x : Signed) → Fourteen x → word_signed (signed_word x) ≡ x
 word_back x h = back x.minus x.size h.small h.some
 
 -- .. and never minus zero, so a word of at most fourteen digits says what a field can say
-pub word-fourteen : (w : ℕ) → (wordSigned w).size ≤ most14 → Fourteen (wordSigned w)
-unfolding wordSigned signed
+pub word-fourteen : (w : ℕ) → (word_signed w).size ≤ most14 → Fourteen (word_signed w)
+unfolding word_signed signed
 word-fourteen w =
     either (λ (x : Signed). x.size ≤ most14 → Fourteen x) (ltb w 9223372036854775808)
     (λ t s. record { small = s; some = λ e. absurd (let f : false ≡ true = e in let z : ◌≡◌ {A = ℕ} 0 1 = cc in omega arith) })
@@ -142,7 +142,7 @@ room t ms few h = record { debit = free t.debit (at 1) (at 4) h.debits; credit =
 -- ---- the tests are exactly the equations
 
 module _ (u d : ℕ) (x : Signed) where
-  pub difference-true : isDifference u d x ≡ true → above x + d ≡ u + below x
+  pub difference-true : is_difference u d x ≡ true → above x + d ≡ u + below x
   difference-true e = eqb-true (above x + d) (u + below x) (sym (difference u d x) ∙ e)
 
 same_number : (m k : Bool) (a b : ℕ) → (m ≡ true → 0 < a) → (k ≡ true → 0 < b) → pick m 0 a + pick k b 0 ≡ pick k 0 b + pick m a 0
@@ -154,7 +154,7 @@ same_number true false a b f g e = absurd (omega (arith, f refl))
 same_number false true a b f g e = absurd (omega (arith, g refl))
 
 -- of all that a field can say, one number is the difference
-pub one-difference : (u d : ℕ) (x y : Signed) → Fourteen x → Fourteen y → isDifference u d x ≡ true → isDifference u d y ≡ true → x ≡ y
+pub one-difference : (u d : ℕ) (x y : Signed) → Fourteen x → Fourteen y → is_difference u d x ≡ true → is_difference u d y ≡ true → x ≡ y
 unfolding above below
 one-difference u d x y f g e h =
     let p = difference-true u d x e in
@@ -164,7 +164,7 @@ one-difference u d x y f g e h =
 
 -- the new balance is old − debit + credit
 pub balance-difference : (old new debit credit : Signed)
-    → balanced old new debit credit ≡ isDifference (above old + below debit + above credit) (below old + above debit + below credit) new
+    → balanced old new debit credit ≡ is_difference (above old + below debit + above credit) (below old + above debit + below credit) new
 unfolding balanced side
 balance-difference old new debit credit =
     let up = above old + below debit + above credit in

@@ -2,8 +2,8 @@
 use Rattle.std.proofs.Common.{◌≡◌, ℕ, ◌+◌, ◌≤◌, Bool, true, false, eqb, List, [], ◌∷◌, sym, refl, ◌∙◌, arith, eq-eqb, ne_eqb}
 use Rattle.base.specs.Pick.{pick}
 use Rattle.base.proofs.Cases.{by-eq}
-use Rattle.gpc.specs.Signed.{Signed, isDifference, above, below}
-use Rattle.gpc.specs.Turnovers.{Moved, moved, most12, part, total, isDebit, isCredit}
+use Rattle.gpc.specs.Signed.{Signed, is_difference, above, below}
+use Rattle.gpc.specs.Turnovers.{Moved, moved, most12, part, total, is_debit, is_credit}
 use Rattle.turnover.specs.declared.Turn.{Turn}
 use Rattle.turnover.specs.declared.Turns.{Turns}
 use Rattle.turnover.specs.Counts.{Stands, Raised, Lowered, Moves, none, one, Counts}
@@ -56,12 +56,12 @@ pub counts-more : (t : Turns) (d c : Turn) (k n : ℕ) → n ≤ most12 → Move
 counts-more t d c k n small p q ms h = record { debits = p.by ms h.debits; credits = q.by ms h.credits; amounts = one small h.amounts }
 
 module _ (t : Turns) (r : Bool) (x : Signed) where
-  pub debit-tested : ((u d : ℕ) → Stands t.debit u d → r ≡ isDifference u d x) → (ms : List Moved) → Counts t ms → r ≡ isDebit ms x
-  unfolding isDebit
+  pub debit-tested : ((u d : ℕ) → Stands t.debit u d → r ≡ is_difference u d x) → (ms : List Moved) → Counts t ms → r ≡ is_debit ms x
+  unfolding is_debit
   debit-tested f ms h = f _ _ h.debits
 
-  pub credit-tested : ((u d : ℕ) → Stands t.credit u d → r ≡ isDifference u d x) → (ms : List Moved) → Counts t ms → r ≡ isCredit ms x
-  unfolding isCredit
+  pub credit-tested : ((u d : ℕ) → Stands t.credit u d → r ≡ is_difference u d x) → (ms : List Moved) → Counts t ms → r ≡ is_credit ms x
+  unfolding is_credit
   credit-tested f ms h = f _ _ h.credits
 
 pub ruleset counting = (counts-none, counts-more, debit-tested, credit-tested)
@@ -79,17 +79,17 @@ carried true n u d = same_test (u + n) d (0 + d) (u + n) (λ e. omega arith) (λ
 carried false n u d = same_test u (n + d) (n + d) (u + 0) (λ e. omega arith) (λ e. omega arith)
 
 -- a difference with its minus carried over
-pub difference : (u d : ℕ) (x : Signed) → isDifference u d x ≡ eqb (above x + d) (u + below x)
-unfolding isDifference above below
+pub difference : (u d : ℕ) (x : Signed) → is_difference u d x ≡ eqb (above x + d) (u + below x)
+unfolding is_difference above below
 difference u d x = carried x.minus x.size u d
 
 module _ (t y : Turn) (x : Signed) (s : Stands y (above x) (below x)) where
-  pub same-high : t.high ≡ y.high → (u d : ℕ) → Stands t u d → eqb t.low y.low ≡ isDifference u d x
+  pub same-high : t.high ≡ y.high → (u d : ℕ) → Stands t u d → eqb t.low y.low ≡ is_difference u d x
   same-high e u d h =
       same_test t.low y.low (above x + d) (u + below x) (λ q. omega (arith, h.same, s.same)) (λ q. omega (arith, h.same, s.same))
       ∙ sym (difference u d x)
 
-  pub other-high : (t.high ≡ y.high → ⊥) → (u d : ℕ) → Stands t u d → false ≡ isDifference u d x
+  pub other-high : (t.high ≡ y.high → ⊥) → (u d : ℕ) → Stands t u d → false ≡ is_difference u d x
   other-high n u d h =
       sym (difference u d x ∙ ne_eqb (above x + d) (u + below x) (λ q. n (omega (arith, h.same, h.small, s.same, s.small))))
 

@@ -3,8 +3,8 @@ pub mod signed;
 
 ghost use Rattle.std.specs.Prelude.{◌≡◌, ℕ, ◌≤◌, List, [], ◌∷◌, ◌≢◌};
 ghost use Rattle.paper.specs.Batch.{most14};
-ghost use Rattle.gpc.specs.Signed.{isDifference, above, below};
-ghost use Rattle.gpc.specs.Turnovers.{Moved, moved, most12, isDebit, isCredit};
+ghost use Rattle.gpc.specs.Signed.{is_difference, above, below};
+ghost use Rattle.gpc.specs.Turnovers.{Moved, moved, most12, is_debit, is_credit};
 ghost use Rattle.turnover.specs.signed.Told.{said};
 ghost use Rattle.turnover.specs.Counts.{Stands, Room, Raised, Lowered, Moves, Counts, Roomy};
 
@@ -92,7 +92,7 @@ impl Turn {
     // Is it what a field says? A number has one `high` and one `low`, so minus zero needs no case of its own.
     pub fn is(self, x: Signed) -> bool
         requires { x.size ≤ most14 }
-        ensures { (u d : ℕ) → Stands self u d → result ≡ isDifference u d (said x) }
+        ensures { (u d : ℕ) → Stands self u d → result ≡ is_difference u d (said x) }
     {
         let said = Turn::of(x);
         if self.high == said.high {
@@ -134,7 +134,7 @@ impl Turns {
     // Is this the debit turnover?
     pub fn debit_is(self, x: Signed) -> bool
         requires { x.size ≤ most14 }
-        ensures { (ms : List Moved) → Counts self ms → result ≡ isDebit ms (said x) }
+        ensures { (ms : List Moved) → Counts self ms → result ≡ is_debit ms (said x) }
     {
         let sum = self.debit;
         sum.is(x)
@@ -143,7 +143,7 @@ impl Turns {
     // Is this the credit turnover?
     pub fn credit_is(self, x: Signed) -> bool
         requires { x.size ≤ most14 }
-        ensures { (ms : List Moved) → Counts self ms → result ≡ isCredit ms (said x) }
+        ensures { (ms : List Moved) → Counts self ms → result ≡ is_credit ms (said x) }
     {
         let sum = self.credit;
         sum.is(x)

@@ -1,8 +1,8 @@
 // Numbers with a sign: as they are read, as words of a row, and in the rule of a balance.
 ghost use Rattle.std.specs.Prelude.{◌≡◌, ◌≤◌};
 ghost use Rattle.paper.specs.Batch.{most14};
-ghost use Rattle.gpc.specs.Signed.{signed, above, below, side as side_of, signedWord, wordSigned};
-ghost use Rattle.gpc.specs.Turnovers.{balanced as balancedOf};
+ghost use Rattle.gpc.specs.Signed.{signed, above, below, side as side_of, signed_word, word_signed};
+ghost use Rattle.gpc.specs.Turnovers.{balanced as balanced_of};
 ghost use Rattle.turnover.specs.signed.Told.{said};
 
 #[derive(Drop)]
@@ -24,7 +24,7 @@ impl Signed {
 
     // As a word of a row: two's complement.
     pub fn word(self) -> u64
-        ensures { result ≡ signedWord (said self) }
+        ensures { result ≡ signed_word (said self) }
     {
         if self.minus {
             return std::num::wrapping_sub_u64(0, self.size);
@@ -34,7 +34,7 @@ impl Signed {
 
     // What a word of a row says.
     pub fn in_word(w: u64) -> Signed
-        ensures { said result ≡ wordSigned w }
+        ensures { said result ≡ word_signed w }
     {
         if w < 9223372036854775808 {
             return Signed {
@@ -80,7 +80,7 @@ fn side(a: Signed, b: Signed, c: Signed, d: Signed) -> u64
 // Does the new balance follow from the old one and both turnovers?
 pub fn balanced(old: Signed, new: Signed, debit: Signed, credit: Signed) -> bool
     requires { (old.size ≤ most14) × (new.size ≤ most14) × (debit.size ≤ most14) × (credit.size ≤ most14) }
-    ensures { result ≡ balancedOf (said old) (said new) (said debit) (said credit) }
+    ensures { result ≡ balanced_of (said old) (said new) (said debit) (said credit) }
 {
     side(new, debit, old, credit) == side(old, credit, new, debit)
 }

@@ -8,7 +8,7 @@ use Rattle.base.proofs.Cases.{either}
 use Rattle.paper.specs.Read.{Field, value, fault}
 use Rattle.paper.specs.Warnings.{Notice}
 use Rattle.paper.specs.Batch.{Header}
-use Rattle.paper.specs.Entries.{Entry, head, file, group, item, closeGroup, closeFile, Places, Listed, got, said, no, counted, onField, field, place, gap, lineEnd}
+use Rattle.paper.specs.Entries.{Entry, head, file, group, item, close_group, close_file, Places, Listed, got, said, no, counted, on_field, field, place, gap, line_end}
 use Rattle.paper.proofs.Passing.{same_parts}
 use Rattle.uncut.proofs.Takes.{Takes}
 
@@ -18,8 +18,8 @@ turned turn (head h) = head (turn h)
 turned turn (file k n) = file k n
 turned turn (group p t d) = group p t d
 turned turn (item x) = item x
-turned turn closeGroup = closeGroup
-turned turn closeFile = closeFile
+turned turn close_group = close_group
+turned turn close_file = close_file
 
 -- what the first reading says and is let through, the second one says, with the same warnings and places
 pub record Kept (Only : Entry → ℕ → Type 0) (turn : Header → Header) (r q : Listed) : Type 0 where
@@ -41,12 +41,12 @@ module _ {Only : Entry → ℕ → Type 0} {turn : Header → Header} where
       same (file k n) = refl
       same (group p s d) = refl
       same (item x) = refl
-      same closeGroup = refl
-      same closeFile = refl
+      same close_group = refl
+      same close_file = refl
 
   module _ {A : Type 0} where
-    pub on-kept : (at : ℕ) (x y : Field A) {k l : A → Listed} → Takes x y → ((v : A) → Kept Only turn (k v) (l v)) → Kept Only turn (onField at x k) (onField at y l)
-    unfolding onField
+    pub on-kept : (at : ℕ) (x y : Field A) {k l : A → Listed} → Takes x y → ((v : A) → Kept Only turn (k v) (l v)) → Kept Only turn (on_field at x k) (on_field at y l)
+    unfolding on_field
     on-kept at (value v) y r h = rw (r.takes v tt refl) (h v)
     on-kept at (fault n) y r h = refused-kept
 
@@ -56,8 +56,8 @@ module _ {Only : Entry → ℕ → Type 0} {turn : Header → Header} where
     field-kept read also r at s h = on-kept at _ _ (r _) λ v. h v _ _
 
     -- a field that the second sheet does not read
-    pub on-gone : (at : ℕ) (x : Field A) {k : A → Listed} {q : Listed} → ((v : A) → Kept Only turn (k v) q) → Kept Only turn (onField at x k) q
-    unfolding onField
+    pub on-gone : (at : ℕ) (x : Field A) {k : A → Listed} {q : Listed} → ((v : A) → Kept Only turn (k v) q) → Kept Only turn (on_field at x k) q
+    unfolding on_field
     on-gone at (value v) h = h v
     on-gone at (fault n) h = refused-kept
 
@@ -72,8 +72,8 @@ module _ {Only : Entry → ℕ → Type 0} {turn : Header → Header} where
   gap-kept at [] h = refused-kept
   gap-kept at (x ∷ s) h = h _ _
 
-  pub end_kept : (at : ℕ) (s : List ℕ) {r q : Listed} → Kept Only turn r q → Kept Only turn (lineEnd at s r) (lineEnd at s q)
-  unfolding lineEnd
+  pub end_kept : (at : ℕ) (s : List ℕ) {r q : Listed} → Kept Only turn r q → Kept Only turn (line_end at s r) (line_end at s q)
+  unfolding line_end
   end_kept at [] h = h
   end_kept at (x ∷ s) h = refused-kept
 

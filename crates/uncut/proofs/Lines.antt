@@ -12,18 +12,18 @@ use Rattle.base.proofs.Seek.{never}
 use Rattle.sheet.specs.declared.Sheet.{Sheet}
 use Rattle.paper.specs.Read.{Field, value, fault}
 use Rattle.paper.specs.Accounts.{Account, nobody}
-use Rattle.paper.specs.Amounts.{readTotal}
-use Rattle.paper.specs.Warnings.{pastDay, lowPriority, Notice, notices}
-use Rattle.paper.specs.Days.{dueWarnings}
+use Rattle.paper.specs.Amounts.{read_total}
+use Rattle.paper.specs.Warnings.{past_day, low_priority, Notice, notices}
+use Rattle.paper.specs.Days.{due_warnings}
 use Rattle.paper.specs.Batch.{Header, no_header}
-use Rattle.paper.specs.Texts.{Noted, readText}
-use Rattle.paper.specs.Entries.{Entry, head, file, group, item, closeGroup, closeFile, Places, Listed, said, plain, onField, field, Kind, headLine, fileLine, groupLine, itemLine, groupEnd, fileEnd, kind_of}
+use Rattle.paper.specs.Texts.{Noted, read_text}
+use Rattle.paper.specs.Entries.{Entry, head, file, group, item, close_group, close_file, Places, Listed, said, plain, on_field, field, Kind, head_line, file_line, group_line, item_line, group_end, file_end, kind_of}
 use Rattle.paper.specs.FirstLine.{read_first}
-use Rattle.paper.specs.FileLine.{numberFault, numberAllowed, readFile}
-use Rattle.paper.specs.GroupLine.{hasPayer, totalAndDate, readGroup}
-use Rattle.paper.specs.ItemLine.{is_value, readSymbol, fixedTail, afterSymbol, openTail, tail, item_of, fromPayee, readItem}
-use Rattle.paper.specs.ClosingLine.{plusAt, readClose}
-use Rattle.paper.specs.Spells.{Numbers, anyNumber, after, Context, numberTest, readAs, readLine}
+use Rattle.paper.specs.FileLine.{number_fault, number_allowed, read_file}
+use Rattle.paper.specs.GroupLine.{has_payer, total_and_date, read_group}
+use Rattle.paper.specs.ItemLine.{is_value, read_symbol, fixed_tail, after_symbol, open_tail, tail, item_of, from_payee, read_item}
+use Rattle.paper.specs.ClosingLine.{plus_at, read_close}
+use Rattle.paper.specs.Spells.{Numbers, any_number, after, Context, number_test, read_as, read_line}
 use Rattle.uncut.specs.Wider.{Heads, read_alike, read_none, TextsOf, Wider}
 use Rattle.paper.proofs.Passing.{same_parts}
 use Rattle.uncut.proofs.Tests.{same_test, easier, besides}
@@ -33,24 +33,24 @@ use Rattle.uncut.proofs.Texts.{text-takes}
 use Rattle.uncut.proofs.Kept.{turned, Kept, said-kept, refused-kept, same_kept, field-kept, on-gone, place-gone, gap-kept, end_kept, counted-kept}
 
 -- what becomes of the numbers that account files may have, where headers are turned
-abbrev turnedNumbers : (Header → Header) → Numbers → Numbers
-turnedNumbers turn anyNumber = anyNumber
-turnedNumbers turn (after h seen) = after (turn h) seen
+abbrev turned_numbers : (Header → Header) → Numbers → Numbers
+turned_numbers turn any_number = any_number
+turned_numbers turn (after h seen) = after (turn h) seen
 
 -- .. and of a context
-abbrev pub turnedIn : (Header → Header) → Context → Context
-turnedIn turn c = record { numbers = turnedNumbers turn c.numbers; kind = c.kind; date = c.date; single = c.single }
+abbrev pub turned_in : (Header → Header) → Context → Context
+turned_in turn c = record { numbers = turned_numbers turn c.numbers; kind = c.kind; date = c.date; single = c.single }
 
-total-takes : (may can : Bool) → (may ≡ true → can ≡ true) → (s : List ℕ) → Takes (readTotal may s) (readTotal can s)
-unfolding readTotal
+total-takes : (may can : Bool) → (may ≡ true → can ≡ true) → (s : List ℕ) → Takes (read_total may s) (read_total can s)
+unfolding read_total
 total-takes may can c s = amount-takes may can c 14 14 (omega arith) s
 
-any-number : (interval : Bool) (h : Header) (seen : List ℕ) (n : ℕ) → interval ≡ false → numberAllowed interval h seen n ≡ true
-unfolding numberAllowed numberFault pick
+any-number : (interval : Bool) (h : Header) (seen : List ℕ) (n : ℕ) → interval ≡ false → number_allowed interval h seen n ≡ true
+unfolding number_allowed number_fault pick
 any-number interval h seen n e = rw e
 
 same_number : (interval interval' : Bool) (h g : Header) (seen : List ℕ) (n : ℕ) → interval ≡ interval' → g ≡ h
-    → numberAllowed interval h seen n ≡ true → numberAllowed interval' g seen n ≡ true
+    → number_allowed interval h seen n ≡ true → number_allowed interval' g seen n ≡ true
 same_number interval interval' h g seen n i e q = rw (← i, e) q
 
 module _ (Only : Entry → ℕ → Type 0) (turn : Header → Header) (a b : Sheet) (wider : Wider Only turn a b) where
@@ -75,17 +75,17 @@ module _ (Only : Entry → ℕ → Type 0) (turn : Header → Header) (a b : She
   -- ---- the line that begins an account file
 
   number-kept : Heads turn a b → (h : Header) (seen : List ℕ) (n : ℕ)
-      → numberAllowed a.interval h seen n ≡ true → numberAllowed b.interval (turn h) seen n ≡ true
+      → number_allowed a.interval h seen n ≡ true → number_allowed b.interval (turn h) seen n ≡ true
   number-kept (read_alike t _ _ i) h seen n e = same_number a.interval b.interval h (turn h) seen n i (t h) e
   number-kept (read_none _ _ i) h seen n e = any-number b.interval (turn h) seen n i
 
-  allowed-kept : (m : Numbers) (n : ℕ) → eqb (numberTest a m n) 0 ≡ true → eqb (numberTest b (turnedNumbers turn m) n) 0 ≡ true
-  unfolding numberTest numberAllowed
-  allowed-kept anyNumber n e = e
+  allowed-kept : (m : Numbers) (n : ℕ) → eqb (number_test a m n) 0 ≡ true → eqb (number_test b (turned_numbers turn m) n) 0 ≡ true
+  unfolding number_test number_allowed
+  allowed-kept any_number n e = e
   allowed-kept (after h seen) n e = number-kept wider.heads h seen n e
 
-  file-kept : (m : Numbers) (s : List ℕ) → K (readFile a (numberTest a m) s) (readFile b (numberTest b (turnedNumbers turn m)) s)
-  unfolding readFile
+  file-kept : (m : Numbers) (s : List ℕ) → K (read_file a (number_test a m) s) (read_file b (number_test b (turned_numbers turn m)) s)
+  unfolding read_file
   file-kept m s =
       field-kept _ _ (kind-takes a b wider.kinds) _ _ λ kind a1 s1.
       gap-kept a1 s1 λ a2 s2.
@@ -96,18 +96,18 @@ module _ (Only : Entry → ℕ → Type 0) (turn : Header → Header) (a b : She
 
   -- ---- the line that begins a group
 
-  total_kept : (today : ℕ) (here : Bool) (payer : Account) (at : ℕ) (s : List ℕ) → K (totalAndDate a today here payer at s) (totalAndDate b today here payer at s)
-  unfolding totalAndDate
+  total_kept : (today : ℕ) (here : Bool) (payer : Account) (at : ℕ) (s : List ℕ) → K (total_and_date a today here payer at s) (total_and_date b today here payer at s)
+  unfolding total_and_date
   total_kept today here payer at s =
       field-kept _ _ (total-takes a.comma b.comma wider.comma) at s λ total a1 s1.
       gap-kept a1 s1 λ a2 s2.
       field-kept _ _ (due-takes _ _ wider.early _ _ wider.ahead today _ _ wider.long here) a2 s2 λ date a3 s3.
-      end_kept a3 s3 (said-kept (group payer total date) (ap (λ (warns : Bool). notices pastDay a2 (dueWarnings here warns today date)) wider.past))
+      end_kept a3 s3 (said-kept (group payer total date) (ap (λ (warns : Bool). notices past_day a2 (due_warnings here warns today date)) wider.past))
 
-  group-kept : (today : ℕ) (here : Bool) (s : List ℕ) → K (readGroup a today here s) (readGroup b today here s)
-  unfolding readGroup
+  group-kept : (today : ℕ) (here : Bool) (s : List ℕ) → K (read_group a today here s) (read_group b today here s)
+  unfolding read_group
   group-kept today here s =
-      same_test K _ _ (ap (λ (always : Bool). hasPayer always s) wider.empty)
+      same_test K _ _ (ap (λ (always : Bool). has_payer always s) wider.empty)
       (field-kept _ _ (λ t. payer-takes _ _ wider.base _ _ wider.joined t _ _ _ _ wider.empty wider.zero) _ _ λ payer a1 s1.
       gap-kept a1 s1 λ a2 s2.
       total_kept today here payer a2 s2)
@@ -117,11 +117,11 @@ module _ (Only : Entry → ℕ → Type 0) (turn : Header → Header) (a b : She
 
   module _ {k : ℕ → Noted → Listed} (own : (specific : ℕ) (t : Noted) → K (k specific t) (k specific t))
       (through : (specific : ℕ) (t : Noted) (e : Entry) (w : List Notice) (p : Places) → Only e (length w) → k specific t ≡ said e w p → TextsOf Only t) where
-    text-kept : (specific at : ℕ) (s : List ℕ) → K (onField at (readText a.text at s) (k specific)) (onField at (readText b.text at s) (k specific))
-    unfolding onField
-    text-kept specific at s = kept (readText a.text at s) refl
+    text-kept : (specific at : ℕ) (s : List ℕ) → K (on_field at (read_text a.text at s) (k specific)) (on_field at (read_text b.text at s) (k specific))
+    unfolding on_field
+    text-kept specific at s = kept (read_text a.text at s) refl
       where
-        kept : (x : Field Noted) → readText a.text at s ≡ x → K (onField at x (k specific)) (onField at (readText b.text at s) (k specific))
+        kept : (x : Field Noted) → read_text a.text at s ≡ x → K (on_field at x (k specific)) (on_field at (read_text b.text at s) (k specific))
         kept (value t) r =
             record {
               keeps =
@@ -131,27 +131,27 @@ module _ (Only : Entry → ℕ → Type 0) (turn : Header → Header) (a b : She
             }
         kept (fault n) r = refused-kept
 
-    fixed_kept : (at : ℕ) (s : List ℕ) → K (fixedTail a.text k at s) (fixedTail b.text k at s)
-    unfolding fixedTail
+    fixed_kept : (at : ℕ) (s : List ℕ) → K (fixed_tail a.text k at s) (fixed_tail b.text k at s)
+    unfolding fixed_tail
     fixed_kept at s =
         gap-kept at s λ a1 s1. field-kept _ _ (λ t. alike) a1 s1 λ specific a2 s2. gap-kept a2 s2 λ a3 s3. text-kept specific a3 s3
 
-    after_kept : (specific at : ℕ) (s : List ℕ) → K (afterSymbol a.text k specific at s) (afterSymbol b.text k specific at s)
-    unfolding afterSymbol
+    after_kept : (specific at : ℕ) (s : List ℕ) → K (after_symbol a.text k specific at s) (after_symbol b.text k specific at s)
+    unfolding after_symbol
     after_kept specific at [] = own specific _
     after_kept specific at (x ∷ s) = text-kept specific _ s
 
-    no_symbol : (at : ℕ) (x : Field ℕ) (l : ℕ → Listed) {q : Listed} → is_value x ≡ false → K (onField at x l) q
-    unfolding onField is_value
+    no_symbol : (at : ℕ) (x : Field ℕ) (l : ℕ → Listed) {q : Listed} → is_value x ≡ false → K (on_field at x l) q
+    unfolding on_field is_value
     no_symbol at (value v) l e = never e
     no_symbol at (fault n) l e = refused-kept
 
-    open_kept : (at : ℕ) (s : List ℕ) → K (openTail a.text k a.bare at s) (openTail b.text k b.bare at s)
-    unfolding openTail field
+    open_kept : (at : ℕ) (s : List ℕ) → K (open_tail a.text k a.bare at s) (open_tail b.text k b.bare at s)
+    unfolding open_tail field
     open_kept at [] = own 0 _
     open_kept at (x ∷ s) =
         besides K a.bare b.bare _ wider.bare (text-kept 0 _ s)
-        (field-kept readSymbol readSymbol (λ t. alike) _ s λ specific a1 s1. after_kept specific a1 s1)
+        (field-kept read_symbol read_symbol (λ t. alike) _ s λ specific a1 s1. after_kept specific a1 s1)
         (λ e. no_symbol _ _ _ (pick-not _ true e).0)
 
     tail-kept : (at : ℕ) (s : List ℕ) → K (tail a at s k) (tail b at s k)
@@ -159,8 +159,8 @@ module _ (Only : Entry → ℕ → Type 0) (turn : Header → Header) (a b : She
     tail-kept at s = same_test K _ _ wider.fixed (fixed_kept at s) (open_kept at s)
 
   payee-kept : (due due' : ℕ → Bool) → ((bank : ℕ) → due bank ≡ due' bank) → (payer : Account) (at : ℕ) (s : List ℕ)
-      → K (fromPayee a due payer at s) (fromPayee b due' payer at s)
-  unfolding fromPayee
+      → K (from_payee a due payer at s) (from_payee b due' payer at s)
+  unfolding from_payee
   payee-kept due due' d payer at s =
       field-kept _ _ (account-takes _ _ wider.base _ _ wider.joined) at s λ payee a1 s1.
       gap-kept a1 s1 λ a2 s2.
@@ -179,12 +179,12 @@ module _ (Only : Entry → ℕ → Type 0) (turn : Header → Header) (a b : She
         only = (rw (← z) at o);
         parts = refl;
         name = refl;
-        warnings = omega (arith, ap length n, length-append (notices lowPriority a6 bank.warnings) t.warnings);
+        warnings = omega (arith, ap length n, length-append (notices low_priority a6 bank.warnings) t.warnings);
       })
       a7 s7
 
-  item-kept : (due due' : ℕ → Bool) → ((bank : ℕ) → due bank ≡ due' bank) → (single : Bool) (s : List ℕ) → K (readItem a due single s) (readItem b due' single s)
-  unfolding readItem
+  item-kept : (due due' : ℕ → Bool) → ((bank : ℕ) → due bank ≡ due' bank) → (single : Bool) (s : List ℕ) → K (read_item a due single s) (read_item b due' single s)
+  unfolding read_item
   item-kept due due' d single s =
       either_way K single
       (field-kept _ _ (account-takes _ _ wider.base _ _ wider.joined) 0 s λ payer a1 s1. gap-kept a1 s1 λ a2 s2. payee-kept due due' d payer a2 s2)
@@ -192,28 +192,28 @@ module _ (Only : Entry → ℕ → Type 0) (turn : Header → Header) (a b : She
 
   -- ---- closing lines
 
-  plus-kept : (e : Entry) (at : ℕ) (s : List ℕ) → K (plusAt e at s) (plusAt (turned turn e) at s)
-  unfolding plusAt
+  plus-kept : (e : Entry) (at : ℕ) (s : List ℕ) → K (plus_at e at s) (plus_at (turned turn e) at s)
+  unfolding plus_at
   plus-kept e at [] = refused-kept
   plus-kept e at (x ∷ s) = either_way K _ (end_kept _ s (said-kept e refl)) refused-kept
 
-  close-kept : (e : Entry) (s : List ℕ) → K (readClose a.near e s) (readClose b.near (turned turn e) s)
-  unfolding readClose
+  close-kept : (e : Entry) (s : List ℕ) → K (read_close a.near e s) (read_close b.near (turned turn e) s)
+  unfolding read_close
   close-kept e s = either_way K _ (plus-kept e 2 _) (easier K a.near b.near _ wider.near (plus-kept e 1 _) (λ r. refused-kept))
 
   -- ---- any line
 
   module _ (today : ℕ) (c : Context) where
-    as-kept : (kind : Kind) (s : List ℕ) → K (readAs a today c kind s) (readAs b today (turnedIn turn c) kind s)
-    unfolding readAs
-    as-kept headLine s = first-kept wider.heads s
-    as-kept fileLine s = file-kept c.numbers s
-    as-kept groupLine s = rw (same_here a b wider.collects c.kind) (group-kept today _ s)
-    as-kept itemLine s = item-kept _ _ (same-due a b wider.collects c.kind wider.own today c.date) c.single s
-    as-kept groupEnd s = close-kept closeGroup s
-    as-kept fileEnd s = close-kept closeFile s
+    as-kept : (kind : Kind) (s : List ℕ) → K (read_as a today c kind s) (read_as b today (turned_in turn c) kind s)
+    unfolding read_as
+    as-kept head_line s = first-kept wider.heads s
+    as-kept file_line s = file-kept c.numbers s
+    as-kept group_line s = rw (same_here a b wider.collects c.kind) (group-kept today _ s)
+    as-kept item_line s = item-kept _ _ (same-due a b wider.collects c.kind wider.own today c.date) c.single s
+    as-kept group_end s = close-kept close_group s
+    as-kept file_end s = close-kept close_file s
 
-    pub line_kept : (s : List ℕ) (e : Entry) (w : ℕ) (p : Places) → Only e w → readLine a today c s ≡ said e w p
-        → readLine b today (turnedIn turn c) s ≡ said (turned turn e) w p
-    unfolding readLine
-    line_kept s = counted-kept (readAs a today c (kind_of s) s) (readAs b today (turnedIn turn c) (kind_of s) s) (as-kept (kind_of s) s)
+    pub line_kept : (s : List ℕ) (e : Entry) (w : ℕ) (p : Places) → Only e w → read_line a today c s ≡ said e w p
+        → read_line b today (turned_in turn c) s ≡ said (turned turn e) w p
+    unfolding read_line
+    line_kept s = counted-kept (read_as a today c (kind_of s) s) (read_as b today (turned_in turn c) (kind_of s) s) (as-kept (kind_of s) s)

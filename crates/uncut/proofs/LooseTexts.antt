@@ -13,7 +13,7 @@ use Rattle.base.proofs.Seek.{never, seek-le}
 use Rattle.sheet.specs.declared.Style.{Style}
 use Rattle.paper.specs.Read.{Field, value, fault}
 use Rattle.paper.specs.Bytes.{mark, np, av}
-use Rattle.paper.specs.Texts.{Piece, Noted, others, divide, taken, partsTaken, finish, messageEnd, message, marked, readText}
+use Rattle.paper.specs.Texts.{Piece, Noted, others, divide, taken, parts_taken, finish, message_end, message, marked, read_text}
 use Rattle.uncut.specs.Looser.{Looser}
 use Rattle.uncut.proofs.Tests.{same_test, easier, besides}
 use Rattle.uncut.proofs.Texts.{made, finish-only, finish-also}
@@ -47,8 +47,8 @@ pick_less false false k n h l = omega arith
 -- ---- the readings of two styles
 
 module _ (y z : Style) (looser : Looser y z) where
-  all-taken : (ps : List Piece) → partsTaken z ps ≡ true
-  unfolding partsTaken taken
+  all-taken : (ps : List Piece) → parts_taken z ps ≡ true
+  unfolding parts_taken taken
   all-taken [] = refl
   all-taken (p ∷ ps) = both-pick _ _ (pick-false _ _ looser.clean) (all-taken ps)
 
@@ -60,21 +60,21 @@ module _ (y z : Style) (looser : Looser y z) where
   finish-some : (ps qs : List Piece) (n o : Piece) → length qs ≤ length ps → Some (finish y ps n) (finish z qs o)
   finish-some ps qs n o l = record { somes = λ t e. finished qs o (omega (arith, l, (finish-only y ps n t e).few, looser.most)) }
 
-  ends-sooner : (m : List ℕ) → messageEnd z m ≤ messageEnd y m
-  unfolding messageEnd
+  ends-sooner : (m : List ℕ) → message_end z m ≤ message_end y m
+  unfolding message_end
   ends-sooner m = pick_less y.names z.names (seek mark m) (length m) looser.names (seek-le mark m)
 
   module _ (at : ℕ) (m : List ℕ) where
     message-some : Some (message y at m) (message z at m)
     unfolding message
     message-some =
-        let fewer = others-fewer at (messageEnd z m) (messageEnd y m) m (ends-sooner m) in
-        finish-some (divide at (take (messageEnd y m) m)) (divide at (take (messageEnd z m) m)) _ _ (omega (arith, fewer))
+        let fewer = others-fewer at (message_end z m) (message_end y m) m (ends-sooner m) in
+        finish-some (divide at (take (message_end y m) m)) (divide at (take (message_end z m) m)) _ _ (omega (arith, fewer))
 
     -- one part is no more than a message has
     message-one : (p n : Piece) → Some (message y at m) (finish z (p ∷ []) n)
     unfolding message
-    message-one p n = finish-some (divide at (take (messageEnd y m) m)) (p ∷ []) _ n (omega arith)
+    message-one p n = finish-some (divide at (take (message_end y m) m)) (p ∷ []) _ n (omega arith)
 
   module _ (at : ℕ) (t : List ℕ) where
     -- a message that begins `AV:`, or may lack it
@@ -95,6 +95,6 @@ module _ (y z : Style) (looser : Looser y z) where
     marked-some =
         besides Some y.names z.names (starts np t) looser.names (finish-some _ _ _ _ (omega arith)) begun-some (λ _. begun-one _ _)
 
-    pub text-some : Some (readText y at t) (readText z at t)
-    unfolding readText
+    pub text-some : Some (read_text y at t) (read_text z at t)
+    unfolding read_text
     text-some = either_way Some _ (same_test Some _ _ looser.av (either_way Some _ marked-some none) (message-some at t)) none

@@ -7,12 +7,12 @@ use native.Mathlib.Omega.{arith}
 use lib.ListN.{length}
 use Rattle.sheet.specs.declared.Sheet.{Sheet}
 use Rattle.sheet.specs.declared.Style.{Style}
-use Rattle.paper.specs.Accounts.{isNobody}
+use Rattle.paper.specs.Accounts.{is_nobody}
 use Rattle.paper.specs.Batch.{Item, Group, AccountFile, Batch, Header, sum}
 use Rattle.paper.specs.Lines.{Line, lines_of}
-use Rattle.paper.specs.Entries.{Entry, head, file, group, item, closeGroup, closeFile}
+use Rattle.paper.specs.Entries.{Entry, head, file, group, item, close_group, close_file}
 use Rattle.paper.specs.FileLine.{series}
-use Rattle.paper.specs.Spells.{forGroup, forItem, Context, Reads, Due, due, itemDues, groupDues, fileDues, dues, SaysEntry, Each, groupItems, fileItems, GroupRules, FileRules, Rules}
+use Rattle.paper.specs.Spells.{for_group, for_item, Context, Reads, Due, due, item_dues, group_dues, file_dues, dues, SaysEntry, Each, group_items, file_items, GroupRules, FileRules, Rules}
 use Rattle.paper.specs.Judge.{Accepted, judge}
 use Rattle.exact.proofs.Main.{exact}
 use Rattle.uncut.specs.Severe.{restyled}
@@ -32,7 +32,7 @@ Alike (d ∷ ds) (e ∷ es) = (o : Words) × (e ≡ due d.context (in_words d.en
 record Items (c : Context) (xs : List Item) (r es : List Due) : Type 0 where
   items : List Item
   rest : List Due
-  are : es ≡ itemDues c items rest
+  are : es ≡ item_dues c items rest
   sums : sum items ≡ sum xs
   many : length items ≡ length xs
   alike : Alike r rest
@@ -41,26 +41,26 @@ record Items (c : Context) (xs : List Item) (r es : List Due) : Type 0 where
 record Groups (kind : ℕ) (gs : List Group) (r es : List Due) : Type 0 where
   groups : List Group
   rest : List Due
-  are : es ≡ groupDues kind groups rest
+  are : es ≡ group_dues kind groups rest
   rules : GroupRules gs → GroupRules groups
-  counts : groupItems groups ≡ groupItems gs
+  counts : group_items groups ≡ group_items gs
   many : length groups ≡ length gs
   alike : Alike r rest
 
 -- .. of some account files
 record Files (h : Header) (seen : List ℕ) (fs : List AccountFile) (es : List Due) : Type 0 where
   files : List AccountFile
-  are : es ≡ fileDues h seen files
+  are : es ≡ file_dues h seen files
   rules : FileRules fs → FileRules files
-  counts : fileItems files ≡ fileItems fs
+  counts : file_items files ≡ file_items fs
   many : length files ≡ length fs
 
 -- what is due first, and what is due behind it
 both-due : {d e : Due} {ds es : List Due} → d ≡ e → ds ≡ es → (d ∷ ds) ≡ (e ∷ es)
 both-due p q = rw (p, q)
 
-items_alike : (c : Context) (xs : List Item) (r es : List Due) → Alike (itemDues c xs r) es → Items c xs r es
-unfolding itemDues sum
+items_alike : (c : Context) (xs : List Item) (r es : List Due) → Alike (item_dues c xs r) es → Items c xs r es
+unfolding item_dues sum
 items_alike c [] r [] a = absurd a
 items_alike c [] r (e ∷ es) (o, q, a) = record { items = []; rest = es; are = rw q; sums = refl; many = refl; alike = a }
 items_alike c (x ∷ xs) r [] a = absurd a
@@ -75,38 +75,38 @@ items_alike c (x ∷ xs) r (e ∷ es) (o, q, a) =
       alike = i.alike;
     }
 
-groups-alike : (kind : ℕ) (gs : List Group) (r es : List Due) → Alike (groupDues kind gs r) es → Groups kind gs r es
-unfolding groupDues groupItems
+groups-alike : (kind : ℕ) (gs : List Group) (r es : List Due) → Alike (group_dues kind gs r) es → Groups kind gs r es
+unfolding group_dues group_items
 groups-alike kind [] r [] a = absurd a
 groups-alike kind [] r (e ∷ es) (o, q, a) =
     record { groups = []; rest = es; are = rw q; rules = λ _. tt; counts = refl; many = refl; alike = a }
 groups-alike kind (g ∷ gs) r [] a = absurd a
 groups-alike kind (g ∷ gs) r (e ∷ es) (o, q, a) =
-    let i = items_alike (forItem kind g.date (isNobody g.payer)) g.items (groupDues kind gs r) es a in
+    let i = items_alike (for_item kind g.date (is_nobody g.payer)) g.items (group_dues kind gs r) es a in
     let j = groups-alike kind gs r i.rest i.alike in
     record {
       groups = record { date = g.date; payer = g.payer; items = i.items } ∷ j.groups;
       rest = j.rest;
       are =
-          both-due (q ∙ ap (λ (n : ℕ). due (forGroup kind) (group g.payer n g.date)) (sym i.sums))
-          (i.are ∙ ap (λ (ds : List Due). itemDues (forItem kind g.date (isNobody g.payer)) i.items ds) j.are);
+          both-due (q ∙ ap (λ (n : ℕ). due (for_group kind) (group g.payer n g.date)) (sym i.sums))
+          (i.are ∙ ap (λ (ds : List Due). item_dues (for_item kind g.date (is_nobody g.payer)) i.items ds) j.are);
       rules = λ (some, most, rules). (omega (arith, some, i.many), omega (arith, most, i.sums), j.rules rules);
       counts = omega (arith, i.many, j.counts);
       many = omega (arith, j.many);
       alike = j.alike;
     }
 
-files-alike : (h : Header) (seen : List ℕ) (fs : List AccountFile) (es : List Due) → Alike (fileDues h seen fs) es → Files h seen fs es
-unfolding fileDues fileItems
+files-alike : (h : Header) (seen : List ℕ) (fs : List AccountFile) (es : List Due) → Alike (file_dues h seen fs) es → Files h seen fs es
+unfolding file_dues file_items
 files-alike h seen [] [] a = record { files = []; are = refl; rules = λ _. tt; counts = refl; many = refl }
 files-alike h seen [] (e ∷ es) a = absurd a
 files-alike h seen (f ∷ fs) [] a = absurd a
 files-alike h seen (f ∷ fs) (e ∷ es) (o, q, a) =
-    let i = groups-alike f.kind f.groups (fileDues h (series f.number ∷ seen) fs) es a in
+    let i = groups-alike f.kind f.groups (file_dues h (series f.number ∷ seen) fs) es a in
     let j = files-alike h (series f.number ∷ seen) fs i.rest i.alike in
     record {
       files = record { kind = f.kind; number = f.number; groups = i.groups } ∷ j.files;
-      are = both-due q (i.are ∙ ap (λ (ds : List Due). groupDues f.kind i.groups ds) j.are);
+      are = both-due q (i.are ∙ ap (λ (ds : List Due). group_dues f.kind i.groups ds) j.are);
       rules = λ (some, most, each, rules). (omega (arith, some, i.many), omega (arith, most, i.counts), i.rules each, j.rules rules);
       counts = omega (arith, i.counts, j.counts);
       many = omega (arith, j.many);
@@ -114,7 +114,7 @@ files-alike h seen (f ∷ fs) (e ∷ es) (o, q, a) =
 
 -- .. of a batch: its first line, and its account files
 batch-alike : (h : Header) (b : Batch) (es : List Due) → Alike (dues h b) es
-    → (c : Batch) × (es ≡ dues h c) × (length c ≡ length b) × (fileItems c ≡ fileItems b) × (FileRules b → FileRules c)
+    → (c : Batch) × (es ≡ dues h c) × (length c ≡ length b) × (file_items c ≡ file_items b) × (FileRules b → FileRules c)
 unfolding dues
 batch-alike h b [] a = absurd a
 batch-alike h b (e ∷ es) (o, q, a) =
@@ -135,8 +135,8 @@ module _ (sh : Sheet) (y z : Style) (strict : Bool) (looser : Looser y z) (today
     says-also (group payer exact date) w (total, v, r, same, q) =
         let (o, u, t) = reads-also (group payer total date) v r in (o, _, (total, u, t, same, refl))
     says-also (item x) w r = reads-also _ w r
-    says-also closeGroup w r = reads-also _ w r
-    says-also closeFile w r = reads-also _ w r
+    says-also close_group w r = reads-also _ w r
+    says-also close_file w r = reads-also _ w r
 
   -- ---- all lines
 

@@ -12,14 +12,14 @@ use Rattle.base.proofs.Cases.{by-test}
 use Rattle.base.proofs.Seek.{never}
 use Rattle.sheet.specs.declared.Sheet.{Sheet}
 use Rattle.sheet.specs.declared.Style.{Style}
-use Rattle.sheet.specs.Sheets.{bankAllowed}
+use Rattle.sheet.specs.Sheets.{bank_allowed}
 use Rattle.paper.specs.Accounts.{Account}
 use Rattle.paper.specs.Batch.{Batch, Header}
 use Rattle.paper.specs.Entries.{Entry, group}
 use Rattle.paper.specs.Spells.{Due, differs, dues}
 use Rattle.paper.specs.Judge.{Accepted, judge}
 use Rattle.paper.proofs.Lists.{empty-null, null-none}
-use Rattle.uncut.specs.Wider.{read_alike, named-alike, WiderStyle, TextsOf, Wider, Throughout}
+use Rattle.uncut.specs.Wider.{read_alike, named_alike, WiderStyle, TextsOf, Wider, Throughout}
 use Rattle.uncut.specs.Severe.{uncutting, restyled, severe}
 use Rattle.uncut.proofs.Walk.{taken-too}
 
@@ -31,7 +31,7 @@ restyled-wider : (Only : Entry → ℕ → Type 0) (sh : Sheet) (y z : Style) (s
     → ((payer : Account) (total sum date v : ℕ) → Only (group payer sum date) (v + differs total sum)
     → Only (group payer total date) v × ((strict ≡ true → total ≡ sum) → strictly ≡ true → total ≡ sum))
     → Wider Only (λ h. h) (restyled sh y strict) (restyled sh z strictly)
-unfolding bankAllowed
+unfolding bank_allowed
 restyled-wider Only sh y z strict strictly texts totals =
     record {
       heads = read_alike (λ h. refl) refl refl refl;
@@ -84,14 +84,14 @@ module _ (sh : Sheet) where
   silent-wider : Wider Silent (λ h. h) sh (severe sh)
   silent-wider =
       restyled-wider Silent sh sh.text (uncutting sh.text) sh.strict true
-      (record { av = refl; may = λ e. e; names = named-alike refl; most = omega arith; cuts = λ t on _ _. null-none t.warnings (sym (empty-null t.warnings) ∙ eq-eqb (length t.warnings) 0 (omega (arith, on.only, on.warnings))); clean = λ e. e })
+      (record { av = refl; may = λ e. e; names = named_alike refl; most = omega arith; cuts = λ t on _ _. null-none t.warnings (sym (empty-null t.warnings) ∙ eq-eqb (length t.warnings) 0 (omega (arith, on.only, on.warnings))); clean = λ e. e })
       (λ payer total sum date v o. (omega arith, λ _ _. same_total total sum (omega arith)))
 
   -- and all that is read there is read here
   any-wider : Wider Any (λ h. h) (severe sh) sh
   any-wider =
       restyled-wider Any sh (uncutting sh.text) sh.text true sh.strict
-      (record { av = refl; may = λ e. e; names = named-alike refl; most = omega arith; cuts = λ t on c _. never (sym c); clean = λ e. e })
+      (record { av = refl; may = λ e. e; names = named_alike refl; most = omega arith; cuts = λ t on c _. never (sym c); clean = λ e. e })
       (λ payer total sum date v o. (tt, λ same _. same refl))
 
   module _ (today : ℕ) where

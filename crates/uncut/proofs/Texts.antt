@@ -14,13 +14,13 @@ use Rattle.base.proofs.Cases.{by-test, either_way, pick_same, pick_true, pick-fa
 use Rattle.base.proofs.Seek.{never}
 use Rattle.sheet.specs.declared.Style.{Style}
 use Rattle.paper.specs.Read.{Field, value, fault}
-use Rattle.paper.specs.Warnings.{longName, Notice}
+use Rattle.paper.specs.Warnings.{long_name, Notice}
 use Rattle.paper.specs.Bytes.{mark, np, av, null}
-use Rattle.paper.specs.Texts.{Piece, piece, Noted, divide, cut, over, overs, cuts, pad, taken, partsTaken, fitted, finish, messageEnd, message, marked, readText}
-use Rattle.paper.specs.ItemLine.{partBytes}
+use Rattle.paper.specs.Texts.{Piece, piece, Noted, divide, cut, over, overs, cuts, pad, taken, parts_taken, fitted, finish, message_end, message, marked, read_text}
+use Rattle.paper.specs.ItemLine.{part_bytes}
 use Rattle.paper.proofs.Lists.{null-none}
 use Rattle.uncut.specs.Unmarked.{Unmarked}
-use Rattle.uncut.specs.Wider.{Names, named-alike, named_more, WiderStyle}
+use Rattle.uncut.specs.Wider.{Names, named_alike, named_more, WiderStyle}
 use Rattle.uncut.proofs.Tests.{same_test, easier, besides}
 use Rattle.uncut.proofs.Takes.{TakesOn, refused}
 use Rattle.uncut.proofs.Unmarked.{pieces-free}
@@ -33,7 +33,7 @@ made ps n = record { parts = pad 4 (map cut ps); name = cut n; warnings = cuts p
 
 -- a style takes them, as these texts
 pub record Finished (y : Style) (ps : List Piece) (n : Piece) (t : Noted) : Type 0 where
-  pub bytes : partsTaken y ps ≡ true
+  pub bytes : parts_taken y ps ≡ true
   pub few : length ps ≤ y.most
   pub fits : pick y.cuts true (null (cuts ps n)) ≡ true
   pub is : made ps n ≡ t
@@ -42,7 +42,7 @@ module _ (y : Style) (ps : List Piece) (n : Piece) (t : Noted) where
   pub finish-only : finish y ps n ≡ value t → Finished y ps n t
   unfolding finish fitted pick
   finish-only e =
-      by-test (partsTaken y ps)
+      by-test (parts_taken y ps)
       (λ bytes. by-test (ltb y.most (length ps))
       (λ many. absurd (let q : fault 14 ≡ value t = rw (bytes, many) at e in let z : ◌≡◌ {A = ℕ} 0 1 = cc in omega arith))
       (λ few. by-test (pick y.cuts true (null (cuts ps n)))
@@ -68,12 +68,12 @@ module _ (y z : Style) (h : z.clean ≡ true → y.clean ≡ true) where
   unfolding taken
   part-too p t = by-test z.clean (λ c. pick_true _ _ c ∙ sym (pick_true _ _ (h c)) ∙ t) (λ c. pick-false _ _ c)
 
-  bytes-too : (ps : List Piece) → partsTaken y ps ≡ true → partsTaken z ps ≡ true
-  unfolding partsTaken
+  bytes-too : (ps : List Piece) → parts_taken y ps ≡ true → parts_taken z ps ≡ true
+  unfolding parts_taken
   bytes-too [] e = refl
   bytes-too (p ∷ ps) e =
-      let b = pick-both (taken y p.bytes) (partsTaken y ps) e in
-      both-pick (taken z p.bytes) (partsTaken z ps) (part-too p.bytes b.0) (bytes-too ps b.1)
+      let b = pick-both (taken y p.bytes) (parts_taken y ps) e in
+      both-pick (taken z p.bytes) (parts_taken z ps) (part-too p.bytes b.0) (bytes-too ps b.1)
 
 -- a name alone is no message
 np-not-av : (t : List ℕ) → starts np t ≡ true → starts av t ≡ false
@@ -111,29 +111,29 @@ module _ (On : Noted → Type 0) where
         }
 
     module _ (at : ℕ) (m : List ℕ) where
-      ends-takes : messageEnd y m ≡ messageEnd z m → Reads (message y at m) (message z at m)
+      ends-takes : message_end y m ≡ message_end z m → Reads (message y at m) (message z at m)
       unfolding message
       ends-takes e = rw e (finish-takes _ _)
 
       -- the parts are let through, so the message ends where the line does on both sheets
-      no_name : y.names ≡ false → y.cuts ≡ false → y.most ≤ 4 → (t : Noted) → Unmarked (partBytes t) → message y at m ≡ value t
-          → messageEnd y m ≡ messageEnd z m
-      unfolding message messageEnd
+      no_name : y.names ≡ false → y.cuts ≡ false → y.most ≤ 4 → (t : Noted) → Unmarked (part_bytes t) → message y at m ≡ value t
+          → message_end y m ≡ message_end z m
+      unfolding message message_end
       no_name names uncut most t u e =
-          let end : messageEnd y m ≡ length m = pick-false _ _ names in
-          let front = take (messageEnd y m) m in
+          let end : message_end y m ≡ length m = pick-false _ _ names in
+          let front = take (message_end y m) m in
           let f = finish-only y (divide at front) _ t e in
           let few : length (divide at front) ≤ 4 = omega (arith, f.few) in
-          let name = over longName (piece (at + (messageEnd y m + 4)) (drop (messageEnd y m + 4) m)) in
+          let name = over long_name (piece (at + (message_end y m + 4)) (drop (message_end y m + 4) m)) in
           let none : overs (divide at front) ++ name ≡ [] = null-none _ (sym (pick-false _ _ uncut) ∙ f.fits) in
-          let free : Free mark front = pieces-free at front 4 few ((append-eq-nil_iff {p = overs (divide at front)} {q = name}).0 none).0 (subst (λ (x : Noted). Unmarked (partBytes x)) (sym f.is) u) in
+          let free : Free mark front = pieces-free at front 4 few ((append-eq-nil_iff {p = overs (divide at front)} {q = name}).0 none).0 (subst (λ (x : Noted). Unmarked (part_bytes x)) (sym f.is) u) in
           let all : front ≡ m = ap (λ (k : ℕ). take k m) end ∙ take-length m in
           let sought : seek mark m ≡ length m = rw all at free in
           end ∙ sym (ap (λ (k : ℕ). pick z.names k (length m)) sought ∙ pick_same z.names (length m))
 
       message-takes : Names On y z → Reads (message y at m) (message z at m)
-      unfolding messageEnd
-      message-takes (named-alike n) = ends-takes (ap (λ (names : Bool). pick names (seek mark m) (length m)) n)
+      unfolding message_end
+      message-takes (named_alike n) = ends-takes (ap (λ (names : Bool). pick names (seek mark m) (length m)) n)
       message-takes (named_more names _ _ cuts most u) = record { takes = λ t on e. (ends-takes (no_name names cuts most t (u t on) e)).takes t on e }
 
     -- a message that begins `AV:`, or may lack it
@@ -146,14 +146,14 @@ module _ (On : Noted → Type 0) where
 
     marked-takes : Names On y z → (at : ℕ) (t : List ℕ) → Reads (marked y at t) (marked z at t)
     unfolding marked
-    marked-takes (named-alike n) at t =
+    marked-takes (named_alike n) at t =
         same_test Reads _ _ (ap (λ (names : Bool). pick names (starts np t) false) n) (finish-takes _ _) (begun-takes at t)
     marked-takes (named_more off on may _ _ _) at t =
         besides Reads y.names z.names (starts np t) (λ _. on) (finish-takes _ _) (begun-takes at t)
         (λ e. not-begun t e y.may may _ _)
 
-    pub text-takes : (at : ℕ) (s : List ℕ) (t : Noted) → On t → readText y at s ≡ value t → readText z at s ≡ value t
-    unfolding readText
+    pub text-takes : (at : ℕ) (s : List ℕ) (t : Noted) → On t → read_text y at s ≡ value t → read_text z at s ≡ value t
+    unfolding read_text
     text-takes at s =
         (either_way Reads _
         (same_test Reads _ _ wider.av (either_way Reads _ (marked-takes wider.names at s) refused) (message-takes at s wider.names))

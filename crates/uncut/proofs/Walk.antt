@@ -4,42 +4,42 @@ use mathlib.Core.List.{List, [], ◌∷◌, map}
 use Prim.Native.Nat.{ℕ}
 use native.Mathlib.Omega.{arith}
 use Rattle.sheet.specs.declared.Sheet.{Sheet}
-use Rattle.paper.specs.Accounts.{isNobody}
+use Rattle.paper.specs.Accounts.{is_nobody}
 use Rattle.paper.specs.Batch.{Item, Group, AccountFile, Batch, Header}
 use Rattle.paper.specs.Lines.{Line, lines_of}
-use Rattle.paper.specs.Entries.{Entry, head, file, group, item, closeGroup, closeFile}
+use Rattle.paper.specs.Entries.{Entry, head, file, group, item, close_group, close_file}
 use Rattle.paper.specs.FileLine.{series}
-use Rattle.paper.specs.Spells.{forItem, Context, Reads, Due, due, itemDues, groupDues, fileDues, dues, SaysEntry, Each}
+use Rattle.paper.specs.Spells.{for_item, Context, Reads, Due, due, item_dues, group_dues, file_dues, dues, SaysEntry, Each}
 use Rattle.paper.specs.Judge.{Accepted, judge}
 use Rattle.exact.proofs.Main.{exact}
 use Rattle.uncut.specs.Wider.{Wider, Throughout}
 use Rattle.uncut.proofs.Kept.{turned}
-use Rattle.uncut.proofs.Lines.{turnedIn, line_kept}
+use Rattle.uncut.proofs.Lines.{turned_in, line_kept}
 
 -- ---- the lines that are due, where headers are turned
 
 module _ (turn : Header → Header) where
-  abbrev turnedDue : Due → Due
-  turnedDue d = due (turnedIn turn d.context) (turned turn d.entry)
+  abbrev turned_due : Due → Due
+  turned_due d = due (turned_in turn d.context) (turned turn d.entry)
 
-  items-turned : (c : Context) (xs : List Item) (r : List Due) → map turnedDue (itemDues c xs r) ≡ itemDues (turnedIn turn c) xs (map turnedDue r)
-  unfolding itemDues
+  items-turned : (c : Context) (xs : List Item) (r : List Due) → map turned_due (item_dues c xs r) ≡ item_dues (turned_in turn c) xs (map turned_due r)
+  unfolding item_dues
   items-turned c [] r = refl
   items-turned c (x ∷ xs) r = rw (items-turned c xs r)
 
-  groups-turned : (kind : ℕ) (gs : List Group) (r : List Due) → map turnedDue (groupDues kind gs r) ≡ groupDues kind gs (map turnedDue r)
-  unfolding groupDues
+  groups-turned : (kind : ℕ) (gs : List Group) (r : List Due) → map turned_due (group_dues kind gs r) ≡ group_dues kind gs (map turned_due r)
+  unfolding group_dues
   groups-turned kind [] r = refl
   groups-turned kind (g ∷ gs) r =
-      rw (items-turned (forItem kind g.date (isNobody g.payer)) g.items (groupDues kind gs r), groups-turned kind gs r)
+      rw (items-turned (for_item kind g.date (is_nobody g.payer)) g.items (group_dues kind gs r), groups-turned kind gs r)
 
-  files-turned : (h : Header) (seen : List ℕ) (fs : List AccountFile) → map turnedDue (fileDues h seen fs) ≡ fileDues (turn h) seen fs
-  unfolding fileDues
+  files-turned : (h : Header) (seen : List ℕ) (fs : List AccountFile) → map turned_due (file_dues h seen fs) ≡ file_dues (turn h) seen fs
+  unfolding file_dues
   files-turned h seen [] = refl
   files-turned h seen (f ∷ fs) =
-      rw (groups-turned f.kind f.groups (fileDues h (series f.number ∷ seen) fs), files-turned h (series f.number ∷ seen) fs)
+      rw (groups-turned f.kind f.groups (file_dues h (series f.number ∷ seen) fs), files-turned h (series f.number ∷ seen) fs)
 
-  dues-turned : (h : Header) (b : Batch) → map turnedDue (dues h b) ≡ dues (turn h) b
+  dues-turned : (h : Header) (b : Batch) → map turned_due (dues h b) ≡ dues (turn h) b
   unfolding dues
   dues-turned h b = rw (files-turned h [] b)
 
@@ -47,22 +47,22 @@ module _ (Only : Entry → ℕ → Type 0) (turn : Header → Header) (a b : She
   -- ---- one line
 
   module _ (s : List ℕ) (c : Context) where
-    reads-too : (e : Entry) (w : ℕ) → Only e w → Reads a today s c e w → Reads b today s (turnedIn turn c) (turned turn e) w
+    reads-too : (e : Entry) (w : ℕ) → Only e w → Reads a today s c e w → Reads b today s (turned_in turn c) (turned turn e) w
     reads-too e w o (p, q) = (p, line_kept Only turn a b wider today c s e w p o q)
 
-    says-too : (e : Entry) (w : ℕ) → Only e w → SaysEntry a today s c e w → SaysEntry b today s (turnedIn turn c) (turned turn e) w
+    says-too : (e : Entry) (w : ℕ) → Only e w → SaysEntry a today s c e w → SaysEntry b today s (turned_in turn c) (turned turn e) w
     says-too (head h) w o r = reads-too _ w o r
     says-too (file k n) w o r = reads-too _ w o r
     says-too (group payer sum date) w o (total, v, r, same, q) =
         let (only, exactly) = wider.totals payer total sum date v (rw q at o) in
         (total, v, reads-too (group payer total date) v only r, exactly same, q)
     says-too (item x) w o r = reads-too _ w o r
-    says-too closeGroup w o r = reads-too _ w o r
-    says-too closeFile w o r = reads-too _ w o r
+    says-too close_group w o r = reads-too _ w o r
+    says-too close_file w o r = reads-too _ w o r
 
   -- ---- all lines
 
-  each-too : (ts : List Line) (ds : List Due) (w : ℕ) → Throughout Only ds w → Each a today ts ds w → Each b today ts (map (turnedDue turn) ds) w
+  each-too : (ts : List Line) (ds : List Due) (w : ℕ) → Throughout Only ds w → Each a today ts ds w → Each b today ts (map (turned_due turn) ds) w
   each-too [] [] w o e = e
   each-too [] (d ∷ ds) w o e = absurd e
   each-too (t ∷ ts) [] w o e = absurd e

@@ -2,11 +2,11 @@
 use Rattle.std.specs.Prelude.{ℕ, ◌+◌, ◌≤◌, ◌≡◌, true, false, List, [], ◌∷◌, length}
 use Rattle.sheet.specs.declared.Sheet.{Sheet}
 use Rattle.sheet.specs.declared.Style.{Style}
-use Rattle.sheet.specs.Sheets.{bankAllowed}
+use Rattle.sheet.specs.Sheets.{bank_allowed}
 use Rattle.paper.specs.Accounts.{Account}
 use Rattle.paper.specs.Batch.{Item, Header, no_header}
 use Rattle.paper.specs.Texts.{Noted}
-use Rattle.paper.specs.ItemLine.{partBytes}
+use Rattle.paper.specs.ItemLine.{part_bytes}
 use Rattle.paper.specs.Entries.{Entry, group, item}
 use Rattle.paper.specs.Spells.{Due, differs}
 use Rattle.uncut.specs.Unmarked.{Unmarked}
@@ -19,8 +19,8 @@ pub data Heads (turn : Header → Header) (a b : Sheet) : Type 0 where
 -- Names: both sheets read them or neither does. Or the wider one alone, of texts (`On`) without ` NP:` for which the narrower one asks `AV:`, and
 -- which it does not cut.
 pub data Names (On : Noted → Type 0) (y z : Style) : Type 0 where
-  named-alike : y.names ≡ z.names → Names On y z
-  named_more : y.names ≡ false → z.names ≡ true → y.may ≡ false → y.cuts ≡ false → y.most ≤ 4 → ((t : Noted) → On t → Unmarked (partBytes t)) → Names On y z
+  named_alike : y.names ≡ z.names → Names On y z
+  named_more : y.names ≡ false → z.names ≡ true → y.may ≡ false → y.cuts ≡ false → y.most ≤ 4 → ((t : Noted) → On t → Unmarked (part_bytes t)) → Names On y z
 
 -- Of the texts that `On` lets through: what the narrower style y reads the wider style z reads alike.
 pub record WiderStyle (On : Noted → Type 0) (y z : Style) : Type 0 where
@@ -36,7 +36,7 @@ pub record TextsOf (Only : Entry → ℕ → Type 0) (t : Noted) : Type 0 where
   pub of : Item
   pub warned : ℕ
   pub only : Only (item of) warned
-  pub parts : of.parts ≡ partBytes t
+  pub parts : of.parts ≡ part_bytes t
   pub name : of.name ≡ t.name.bytes
   pub warnings : length t.warnings ≤ warned
 
@@ -47,7 +47,7 @@ pub record Wider (Only : Entry → ℕ → Type 0) (turn : Header → Header) (a
   pub heads : Heads turn a b
   -- `1 KIND NUMBER BANK`
   pub kinds : a.lastkind ≤ b.lastkind
-  pub banks : (code : ℕ) → bankAllowed a code ≡ true → bankAllowed b code ≡ true
+  pub banks : (code : ℕ) → bank_allowed a code ≡ true → bank_allowed b code ≡ true
   -- accounts, and a group's payer
   pub joined : a.joined ≡ true → b.joined ≡ true
   pub base : b.basemin ≤ a.basemin

@@ -5,10 +5,10 @@ use Rattle.tracing.specs.declared.file.Outcome.TheVariants as outcome
 use Rattle.verdict.specs.declared.Verdict.{Verdict}
 
 -- a refusal's number, line and byte, or the counts
-abbrev pub verdictOf : ReadAnswer → Verdict
-verdictOf a = record { number = a.number; line = a.line; byte = a.byte; rows = a.rows; warnings = a.warnings }
+abbrev pub verdict_of : ReadAnswer → Verdict
+verdict_of a = record { number = a.number; line = a.line; byte = a.byte; rows = a.rows; warnings = a.warnings }
 
 -- .. from the finding of a refused file, or the counts of an accepted one
-abbrev pub verdictIn : Outcome → Verdict
-verdictIn (outcome.Found x) = record { number = x.number; line = x.line; byte = x.byte; rows = 0; warnings = 0 }
-verdictIn (outcome.Passed rows warnings) = record { number = 0; line = 0; byte = 0; rows = rows; warnings = warnings }
+abbrev pub verdict_in : Outcome → Verdict
+verdict_in (outcome.Found x) = record { number = x.number; line = x.line; byte = x.byte; rows = 0; warnings = 0 }
+verdict_in (outcome.Passed rows warnings) = record { number = 0; line = 0; byte = 0; rows = rows; warnings = warnings }

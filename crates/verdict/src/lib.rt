@@ -3,13 +3,13 @@ pub mod sheets;
 
 ghost use Rattle.std.specs.Prelude.{◌≡◌, ◌++◌, length};
 ghost use Rattle.sheet.specs.declared.Known.TheVariants as known;
-ghost use Rattle.sheet.specs.Sheets.{sheetOf};
+ghost use Rattle.sheet.specs.Sheets.{sheet_of};
 ghost use Rattle.sheet.proofs.Laws.{Sane};
 ghost use Rattle.paper.specs.Numerals.{decimal};
-ghost use Rattle.paper.specs.Reading.{readWith};
-ghost use Rattle.paper.specs.Explaining.{refusedLine};
+ghost use Rattle.paper.specs.Reading.{read_with};
+ghost use Rattle.paper.specs.Explaining.{refused_line};
 ghost use Rattle.numeral.specs.counted.Counted.{Counted};
-ghost use Rattle.verdict.specs.Told.{verdictOf, verdictIn};
+ghost use Rattle.verdict.specs.Told.{verdict_of, verdict_in};
 
 use sheet::{Known, Sheet};
 use tracing::file::Outcome;
@@ -28,7 +28,7 @@ pub struct Verdict {
 
 // What a pass over the file came to, as a verdict.
 pub fn verdict_of(o: Outcome) -> Verdict
-    ensures { result ≡ verdictIn o }
+    ensures { result ≡ verdict_in o }
 {
     match o {
         Outcome::Found(x) => Verdict {
@@ -52,7 +52,7 @@ pub fn verdict_of(o: Outcome) -> Verdict
 // for takes.
 fn verdict_on(file: &[u8], sh: Sheet, today: u64) -> Verdict
     requires { Sane sh }
-    ensures { result ≡ verdictOf (readWith (known.Sheet sh) today file.now (length file.now)) }
+    ensures { result ≡ verdict_of (read_with (known.Sheet sh) today file.now (length file.now)) }
 {
     if calendar::real_day(today) {
         return verdict_of(tracing::file::follow(file, sh, today));
@@ -68,7 +68,7 @@ fn verdict_on(file: &[u8], sh: Sheet, today: u64) -> Verdict
 
 // The verdict on the sheet of that number.
 pub fn verdict_for(file: &[u8], sheet: u64, today: u64) -> Verdict
-    ensures { result ≡ verdictOf (readWith (sheetOf sheet) today file.now (length file.now)) }
+    ensures { result ≡ verdict_of (read_with (sheet_of sheet) today file.now (length file.now)) }
 {
     match sheet::sheet_of(sheet) {
         Known::Sheet(sh) => verdict_on(file, sh, today),
@@ -94,7 +94,7 @@ pub fn put_said(out: &mut [u8], at: usize, word: &[u8], n: u64) -> usize
 
 // The line of a refusal.
 pub fn put_refused(out: &mut [u8], at: usize, number: u64, line: u64, byte: u64) -> usize
-    ensures { Counted out.old at (refusedLine number line byte) out.new result }
+    ensures { Counted out.old at (refused_line number line byte) out.new result }
 {
     let e = put_said(out, at, b"refused ", number);
     let f = put_said(out, e, b" line ", line);

@@ -1,21 +1,21 @@
 // What each known sheet says of a file on a day: a line for each, and a bit for each that accepts it.
 ghost use Rattle.std.specs.Prelude.{◌≡◌, true, ◌∷◌, ◌++◌, eqb, length};
 ghost use Rattle.base.specs.Pick.{pick};
-ghost use Rattle.sheet.specs.Sheets.{sheetOf};
+ghost use Rattle.sheet.specs.Sheets.{sheet_of};
 ghost use Rattle.paper.specs.Bytes.{bytes};
-ghost use Rattle.paper.specs.Days.{realDay};
-ghost use Rattle.paper.specs.Reading.{readWith};
+ghost use Rattle.paper.specs.Days.{real_day};
+ghost use Rattle.paper.specs.Reading.{read_with};
 ghost use Rattle.numeral.specs.counted.Counted.{Counted};
-ghost use Rattle.verdict.specs.Told.{verdictOf};
-ghost use Rattle.verdict.specs.Sheets.{acceptedWords, refusedWords, verdictWords, sheetLines, accepting};
+ghost use Rattle.verdict.specs.Told.{verdict_of};
+ghost use Rattle.verdict.specs.Sheets.{accepted_words, refused_words, verdict_words, sheet_lines, accepting};
 
 use crate::Verdict;
 use sheet::Known;
 
 // The verdict on the sheet n. That of the sheet asked for is known already, so that the file is not judged by it again.
 fn verdict_at(file: &[u8], n: u64, today: u64, asked: u64, v: Verdict) -> Verdict
-    requires { v ≡ verdictOf (readWith (sheetOf asked) today file.now (length file.now)) }
-    ensures { result ≡ verdictOf (readWith (sheetOf n) today file.now (length file.now)) }
+    requires { v ≡ verdict_of (read_with (sheet_of asked) today file.now (length file.now)) }
+    ensures { result ≡ verdict_of (read_with (sheet_of n) today file.now (length file.now)) }
 {
     if n == asked {
         return v;
@@ -27,7 +27,7 @@ fn verdict_at(file: &[u8], n: u64, today: u64, asked: u64, v: Verdict) -> Verdic
 
 // Of a sheet that accepts the file.
 fn put_accepted(out: &mut [u8], at: usize, warnings: u64) -> usize
-    ensures { Counted out.old at (acceptedWords warnings) out.new result }
+    ensures { Counted out.old at (accepted_words warnings) out.new result }
 {
     let e = crate::put_said(out, at, b": accepted, warnings ", warnings);
     numeral::counted::put_bytes(out, e, b".\n")
@@ -35,7 +35,7 @@ fn put_accepted(out: &mut [u8], at: usize, warnings: u64) -> usize
 
 // Of one that refuses it.
 fn put_refused(out: &mut [u8], at: usize, number: u64, line: u64, byte: u64) -> usize
-    ensures { Counted out.old at (refusedWords number line byte) out.new result }
+    ensures { Counted out.old at (refused_words number line byte) out.new result }
 {
     let e = crate::put_said(out, at, b": refused (", number);
     let f = crate::put_said(out, e, b") at line ", line);
@@ -45,7 +45,7 @@ fn put_refused(out: &mut [u8], at: usize, number: u64, line: u64, byte: u64) -> 
 
 // Of either.
 fn put_verdict(out: &mut [u8], at: usize, v: Verdict) -> usize
-    ensures { Counted out.old at (verdictWords v) out.new result }
+    ensures { Counted out.old at (verdict_words v) out.new result }
 {
     if v.number == 0 {
         return put_accepted(out, at, v.warnings);
@@ -55,7 +55,7 @@ fn put_verdict(out: &mut [u8], at: usize, v: Verdict) -> usize
 
 // The line: the sheet's letter, and what it says.
 fn put_sheet(out: &mut [u8], at: usize, letter: u8, v: Verdict) -> usize
-    ensures { Counted out.old at (bytes "Sheet " ++ (letter ∷ verdictWords v)) out.new result }
+    ensures { Counted out.old at (bytes "Sheet " ++ (letter ∷ verdict_words v)) out.new result }
 {
     let d = numeral::counted::put_bytes(out, at, b"Sheet ");
     let e = numeral::counted::put_byte(out, d, letter);
@@ -71,8 +71,8 @@ pub fn put_sheets(
     asked: u64,
     v: Verdict,
 ) -> usize
-    requires { v ≡ verdictOf (readWith (sheetOf asked) today file.now (length file.now)) }
-    ensures { Counted out.old at (sheetLines today file.now) out.new result }
+    requires { v ≡ verdict_of (read_with (sheet_of asked) today file.now (length file.now)) }
+    ensures { Counted out.old at (sheet_lines today file.now) out.new result }
 {
     let mut next = at;
     let mut k: u64 = 0;
@@ -104,8 +104,8 @@ fn bit_if(v: Verdict, bit: u64) -> u64
 
 // The bits of all known sheets; `bit` is the one at `place`.
 pub fn accepting(file: &[u8], today: u64, asked: u64, v: Verdict) -> u64
-    requires today_value { realDay today ≡ true }
-    requires v_value { v ≡ verdictOf (readWith (sheetOf asked) today file.now (length file.now)) }
+    requires today_value { real_day today ≡ true }
+    requires v_value { v ≡ verdict_of (read_with (sheet_of asked) today file.now (length file.now)) }
     ensures { result ≡ accepting today file.now }
 {
     let mut set: u64 = 0;

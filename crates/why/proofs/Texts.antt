@@ -14,14 +14,14 @@ use Rattle.base.proofs.Cases.{by-test, by-lt, by-eq, pick_true, pick-false, pick
 use Rattle.base.proofs.Seek.{seek-le}
 use Rattle.sheet.specs.declared.Style.{Style}
 use Rattle.paper.specs.Read.{Field, fault}
-use Rattle.paper.specs.Warnings.{Warning, longPart, longName}
-use Rattle.paper.specs.Bytes.{isText, bar, av, null}
-use Rattle.paper.specs.Texts.{Piece, piece, Noted, divide, over, overs, cuts, opens, taken, partsTaken, fitted, finish, messageEnd, message, marked, readText, lacks}
+use Rattle.paper.specs.Warnings.{Warning, long_part, long_name}
+use Rattle.paper.specs.Bytes.{is_text, bar, av, null}
+use Rattle.paper.specs.Texts.{Piece, piece, Noted, divide, over, overs, cuts, opens, taken, parts_taken, fitted, finish, message_end, message, marked, read_text, lacks}
 use Rattle.text.specs.wording.Wording.{bytes_of}
 use Rattle.text.proofs.wording.Parts.{others-free, others-anywhere}
 use Rattle.text.proofs.span.Turns.{others-some}
-use Rattle.why.specs.Rule.{Rule, kept, broke, firstBroken}
-use Rattle.why.specs.Texts.{isMessage, isName, begins, unmarked, parts_of, name_of, areShort, areFew, areTaken, isShort, markedRules, plainRules, textRules}
+use Rattle.why.specs.Rule.{Rule, kept, broke, first_broken}
+use Rattle.why.specs.Texts.{is_message, is_name, begins, unmarked, parts_of, name_of, are_short, are_few, are_taken, is_short, marked_rules, plain_rules, text_rules}
 use Rattle.why.proofs.Agrees.{Agrees, takes, refuses, next_both, breaks}
 
 -- ---- where parts stand does not matter, but their bytes alone
@@ -39,29 +39,29 @@ pub null-over : (w : Warning) (p : Piece) → null (over w p) ≡ short p.bytes
 unfolding over null pick
 null-over w p = by-test (ltb 35 (length p.bytes)) (λ e. rw e) (λ e. rw e)
 
-abbrev pub shortParts : List (List ℕ) → Bool
-shortParts [] = true
-shortParts (b ∷ bs) = pick (short b) (shortParts bs) false
+abbrev pub short_parts : List (List ℕ) → Bool
+short_parts [] = true
+short_parts (b ∷ bs) = pick (short b) (short_parts bs) false
 
-pub overs-short : (ps : List Piece) → null (overs ps) ≡ shortParts (bytes_of ps)
+pub overs-short : (ps : List Piece) → null (overs ps) ≡ short_parts (bytes_of ps)
 unfolding overs null
 overs-short [] = refl
-overs-short (p ∷ ps) = null-both (over longPart p) (overs ps) ∙ rw (null-over longPart p, overs-short ps)
+overs-short (p ∷ ps) = null-both (over long_part p) (overs ps) ∙ rw (null-over long_part p, overs-short ps)
 
-pub cuts-short : (ps : List Piece) (n : Piece) → null (cuts ps n) ≡ pick (shortParts (bytes_of ps)) (short n.bytes) false
-cuts-short ps n = null-both (overs ps) (over longName n) ∙ rw (overs-short ps, null-over longName n)
+pub cuts-short : (ps : List Piece) (n : Piece) → null (cuts ps n) ≡ pick (short_parts (bytes_of ps)) (short n.bytes) false
+cuts-short ps n = null-both (overs ps) (over long_name n) ∙ rw (overs-short ps, null-over long_name n)
 
 count-parts : (ps : List Piece) → length ps ≡ length (bytes_of ps)
 count-parts [] = refl
 count-parts (p ∷ ps) = ap suc (count-parts ps)
 
 module _ (y : Style) where
-  abbrev takenParts : List (List ℕ) → Bool
-  takenParts [] = true
-  takenParts (b ∷ bs) = pick (taken y b) (takenParts bs) false
+  abbrev taken_parts : List (List ℕ) → Bool
+  taken_parts [] = true
+  taken_parts (b ∷ bs) = pick (taken y b) (taken_parts bs) false
 
-  parts-taken : (ps : List Piece) → partsTaken y ps ≡ takenParts (bytes_of ps)
-  unfolding partsTaken
+  parts-taken : (ps : List Piece) → parts_taken y ps ≡ taken_parts (bytes_of ps)
+  unfolding parts_taken
   parts-taken [] = refl
   parts-taken (p ∷ ps) = rw (parts-taken ps)
 
@@ -72,59 +72,59 @@ module _ (y : Style) where
 
   -- parts and name that have these bytes: by how many there are, how long they are, and their bytes
   finish-agrees : (t : List ℕ) (ps : List Piece) (n : Piece) → begins y t ≡ true → bytes_of ps ≡ bytes_of (parts_of y t) → n.bytes ≡ (name_of y t).bytes
-      → Agrees (finish y ps n) (firstBroken (markedRules y) t)
-  unfolding finish fitted firstBroken areShort areFew areTaken pick
+      → Agrees (finish y ps n) (first_broken (marked_rules y) t)
+  unfolding finish fitted first_broken are_short are_few are_taken pick
   finish-agrees t ps n b a e =
       let i : length (parts_of y t) ≡ length ps = count-parts (parts_of y t) ∙ (ap length (sym a) ∙ sym (count-parts ps)) in
       let j : null (cuts (parts_of y t) (name_of y t)) ≡ null (cuts ps n) = cuts-short (parts_of y t) (name_of y t) ∙ (rw (← a, ← e) (sym (cuts-short ps n))) in
-      let k : partsTaken y (parts_of y t) ≡ partsTaken y ps = parts-taken (parts_of y t) ∙ (ap takenParts (sym a) ∙ sym (parts-taken ps)) in
+      let k : parts_taken y (parts_of y t) ≡ parts_taken y ps = parts-taken (parts_of y t) ∙ (ap taken_parts (sym a) ∙ sym (parts-taken ps)) in
       rw (b, i, j, k)
       (by-lt y.most (length ps)
-      (λ l. by-test (partsTaken y ps)
+      (λ l. by-test (parts_taken y ps)
       (λ o. rw (o, lt-ltb y.most (length ps) l, lt-leb (length ps) y.most l) (refuses refl))
       (λ o. rw (o, lt-leb (length ps) y.most l) (refuses refl)))
       (λ l. by-test (pick y.cuts true (null (cuts ps n)))
-      (λ o. by-test (partsTaken y ps)
+      (λ o. by-test (parts_taken y ps)
       (λ q. rw (q, le-ltb y.most (length ps) l, le-leb (length ps) y.most l, o) takes)
       (λ q. rw (q, le-leb (length ps) y.most l, o) (refuses refl)))
-      (λ o. by-test (partsTaken y ps)
+      (λ o. by-test (parts_taken y ps)
       (λ q. rw (q, le-ltb y.most (length ps) l, le-leb (length ps) y.most l, o) (refuses refl))
       (λ q. rw (q, le-leb (length ps) y.most l, o) (refuses refl)))))
 
   -- a message m, whatever stands before it
-  message-agrees : (at : ℕ) (t m : List ℕ) → isName y t ≡ false → unmarked t ≡ m → begins y t ≡ true → Agrees (message y at m) (firstBroken (markedRules y) t)
+  message-agrees : (at : ℕ) (t m : List ℕ) → is_name y t ≡ false → unmarked t ≡ m → begins y t ≡ true → Agrees (message y at m) (first_broken (marked_rules y) t)
   unfolding message parts_of name_of
   message-agrees at t m e u b =
       finish-agrees t _ _ b
-      (rw (pick-false _ _ e, u) (divide-anywhere at 0 (take (messageEnd y m) m)))
+      (rw (pick-false _ _ e, u) (divide-anywhere at 0 (take (message_end y m) m)))
       (rw (pick-false _ _ e, u))
 
   -- what is read: a name alone, a message behind `AV:`, or one without it
   module _ (at : ℕ) (t : List ℕ) where
-    named-is : isName y t ≡ true → marked y at t ≡ finish y (piece at [] ∷ []) (piece (at + 3) (drop 3 t))
-    unfolding marked isName
+    named-is : is_name y t ≡ true → marked y at t ≡ finish y (piece at [] ∷ []) (piece (at + 3) (drop 3 t))
+    unfolding marked is_name
     named-is e = pick_true _ _ e
 
-    led-is : isName y t ≡ false → starts av t ≡ true → marked y at t ≡ message y (at + 3) (drop 3 t)
-    unfolding marked isName
+    led-is : is_name y t ≡ false → starts av t ≡ true → marked y at t ≡ message y (at + 3) (drop 3 t)
+    unfolding marked is_name
     led-is e f = pick-false _ _ e ∙ pick_true _ _ f
 
-    bare-is : isName y t ≡ false → starts av t ≡ false → marked y at t ≡ pick y.may (message y at t) (fault 14)
-    unfolding marked isName
+    bare-is : is_name y t ≡ false → starts av t ≡ false → marked y at t ≡ pick y.may (message y at t) (fault 14)
+    unfolding marked is_name
     bare-is e f = pick-false _ _ e ∙ pick-false _ _ f
 
     -- without `AV:`, where that may be
-    bare-agrees : isName y t ≡ false → starts av t ≡ false → Agrees (pick y.may (message y at t) (fault 14)) (firstBroken (markedRules y) t)
+    bare-agrees : is_name y t ≡ false → starts av t ≡ false → Agrees (pick y.may (message y at t) (fault 14)) (first_broken (marked_rules y) t)
     unfolding begins unmarked
     bare-agrees e f =
         by-test y.may
         (λ g. rw (pick_true (message y at t) (fault 14) g) (message-agrees at t t e (pick-false _ _ f) (pick-false _ _ e ∙ (pick-false _ _ f ∙ g))))
         (λ g. rw (pick-false (message y at t) (fault 14) g) (breaks _ _ t 14 refl (pick-false _ _ e ∙ (pick-false _ _ f ∙ g))))
 
-    marked-agrees : Agrees (marked y at t) (firstBroken (markedRules y) t)
+    marked-agrees : Agrees (marked y at t) (first_broken (marked_rules y) t)
     unfolding begins unmarked parts_of name_of
     marked-agrees =
-        by-test (isName y t)
+        by-test (is_name y t)
         (λ e. rw (named-is e) (finish-agrees t _ _ (pick_true _ _ e) (rw (pick_true _ _ e)) (rw (pick_true _ _ e))))
         (λ e. by-test (starts av t)
         (λ f. rw (led-is e f) (message-agrees (at + 3) t (drop 3 t) e (pick_true _ _ f) (pick-false _ _ e ∙ pick_true _ _ f)))
@@ -135,7 +135,7 @@ module _ (y : Style) where
   module _ (names : y.names ≡ false) (one : y.most ≡ 1) (at : ℕ) (t : List ℕ) where
     -- all of it is the message
     plain-is : message y at t ≡ finish y (divide at t) (piece (at + (length t + 4)) [])
-    unfolding message messageEnd
+    unfolding message message_end
     plain-is = rw (pick-false _ _ names, take-length t, drop_of_length-le t {i = length t + 4} (omega arith))
 
     -- with no `|` it is one part
@@ -148,7 +148,7 @@ module _ (y : Style) where
     barred e n =
         let l : seek bar t < length t = omega (arith, seek-le bar t) in
         let m : y.most < length (divide at t) = omega (arith, one, others-some at t l) in
-        ap (λ (x : Field Noted). pick (partsTaken y (divide at t)) x (fault 14)) (pick_true _ _ (lt-ltb y.most (length (divide at t)) m)) ∙ pick_same _ _
+        ap (λ (x : Field Noted). pick (parts_taken y (divide at t)) x (fault 14)) (pick_true _ _ (lt-ltb y.most (length (divide at t)) m)) ∙ pick_same _ _
 
     -- one part, by its length and its bytes
     whole_is : (k : ℕ) → null (cuts (piece at t ∷ []) (piece k [])) ≡ leb (length t) 35
@@ -159,7 +159,7 @@ module _ (y : Style) where
 
     single : (k : ℕ) (u v : Rule) → u.number ≡ 14 → v.number ≡ 14
         → Agrees (finish y (piece at t ∷ []) (piece k [])) (pick (pick y.cuts true (leb (length t) 35)) (pick (taken y t) kept (broke v)) (broke u))
-    unfolding finish fitted partsTaken pick
+    unfolding finish fitted parts_taken pick
     single k u v i j =
         let m : ltb y.most (length (piece at t ∷ [])) ≡ false = le-ltb y.most 1 (omega (arith, one)) in
         let c : pick y.cuts true (null (cuts (piece at t ∷ []) (piece k []))) ≡ pick y.cuts true (leb (length t) 35) = ap (pick y.cuts true) (whole_is k) in
@@ -167,8 +167,8 @@ module _ (y : Style) where
         (λ g. by-test (taken y t) (λ f. rw (f, m, c, g) takes) (λ f. rw (f, g) (refuses j)))
         (λ g. by-test (taken y t) (λ f. rw (f, m, c, g) (refuses i)) (λ f. rw (f, g) (refuses i)))
 
-    plain-agrees : Agrees (message y at t) (firstBroken (plainRules y) t)
-    unfolding lacks firstBroken isShort pick
+    plain-agrees : Agrees (message y at t) (first_broken (plain_rules y) t)
+    unfolding lacks first_broken is_short pick
     plain-agrees =
         by-eq (seek bar t) (length t)
         (λ e. rw (plain-is, free-is e, eq-eqb (seek bar t) (length t) e) (single _ _ _ refl refl))
@@ -177,15 +177,15 @@ module _ (y : Style) where
 
   -- ---- any text
 
-  pub text-agrees : (y.av ≡ false → y.names ≡ false) → (y.av ≡ false → y.most ≡ 1) → (at : ℕ) (t : List ℕ) → Agrees (readText y at t) (firstBroken (textRules y) t)
-  unfolding readText isMessage firstBroken
+  pub text-agrees : (y.av ≡ false → y.names ≡ false) → (y.av ≡ false → y.most ≡ 1) → (at : ℕ) (t : List ℕ) → Agrees (read_text y at t) (first_broken (text_rules y) t)
+  unfolding read_text is_message first_broken
   text-agrees n m at t =
       by-test y.av
       (λ f.
-      let r : pick y.av (markedRules y) (plainRules y) ≡ markedRules y = pick_true _ _ f in
+      let r : pick y.av (marked_rules y) (plain_rules y) ≡ marked_rules y = pick_true _ _ f in
       rw (r, pick_true (opens t) true f, pick_true (pick (opens t) (marked y at t) (fault 4)) (message y at t) f)
-      (next_both (all isText t) (opens t) _ 4 refl (marked-agrees at t)))
+      (next_both (all is_text t) (opens t) _ 4 refl (marked-agrees at t)))
       (λ f.
-      let r : pick y.av (markedRules y) (plainRules y) ≡ plainRules y = pick-false _ _ f in
+      let r : pick y.av (marked_rules y) (plain_rules y) ≡ plain_rules y = pick-false _ _ f in
       rw (r, pick-false (opens t) true f, pick-false (pick (opens t) (marked y at t) (fault 4)) (message y at t) f, ← (pick_true (message y at t) (fault 4) refl))
-      (next_both (all isText t) true _ 4 refl (plain-agrees (n f) (m f) at t)))
+      (next_both (all is_text t) true _ 4 refl (plain-agrees (n f) (m f) at t)))

@@ -14,13 +14,13 @@ use Rattle.base.proofs.Seek.{seek-le}
 use Rattle.sheet.specs.declared.Sheet.{Sheet}
 use Rattle.paper.specs.Read.{Field, value, fault}
 use Rattle.paper.specs.Bytes.{space, field_of, rest_of}
-use Rattle.paper.specs.Entries.{Said, no, onField, field, place, gap, lineEnd}
+use Rattle.paper.specs.Entries.{Said, no, on_field, field, place, gap, line_end}
 use Rattle.paper.specs.Spells.{Context}
-use Rattle.why.specs.Rule.{Rule, rule, Tested, kept, broke, firstBroken}
+use Rattle.why.specs.Rule.{Rule, rule, Tested, kept, broke, first_broken}
 use Rattle.why.specs.Names.{Name}
-use Rattle.why.specs.Fields.{rulesOf}
-use Rattle.why.specs.Walk.{Walked, passed, onTested, divider, ended, column, spot, last}
-use Rattle.why.specs.Told.{Clear, keeps, divides, missing, surplus, Told, by-rule, by_form}
+use Rattle.why.specs.Fields.{rules_of}
+use Rattle.why.specs.Walk.{Walked, passed, on_tested, divider, ended, column, spot, last}
+use Rattle.why.specs.Told.{Clear, keeps, divides, missing, surplus, Told, by-rule, by-form}
 use Rattle.why.proofs.Agrees.{Agrees, takes, refuses}
 
 -- as many bytes as were taken are those bytes
@@ -31,7 +31,7 @@ take-taken (suc n) (x ∷ s) = ap (λ (l : List ℕ). x ∷ l) (take-taken n s)
 
 module _ (sh : Sheet) (today : ℕ) (c : Context) (w : List ℕ) (from : ℕ) where
   abbrev Rules : Name → List Rule
-  Rules = rulesOf sh today c w
+  Rules = rules_of sh today c w
 
   -- what stands from `at` on, with nothing broken before it
   pub record Here (at : ℕ) (s : List ℕ) : Type 0 where
@@ -43,33 +43,33 @@ module _ (sh : Sheet) (today : ℕ) (c : Context) (w : List ℕ) (from : ℕ) wh
     Tells = Told sh today c w from
 
     -- a field of these bytes
-    on : {X : Type 0} (name : Name) (at n : ℕ) (x : Field X) (q : Tested) {k : X → Said A} {j : Walked} → Agrees x q → firstBroken (Rules name) (take n (drop at w)) ≡ q
-        → Clear sh today c w from at → ((v : X) → x ≡ value v → Clear sh today c w from (at + n) → Tells (k v) j) → Tells (onField at x k) (onTested name at n q j)
-    unfolding onField onTested
+    on : {X : Type 0} (name : Name) (at n : ℕ) (x : Field X) (q : Tested) {k : X → Said A} {j : Walked} → Agrees x q → first_broken (Rules name) (take n (drop at w)) ≡ q
+        → Clear sh today c w from at → ((v : X) → x ≡ value v → Clear sh today c w from (at + n) → Tells (k v) j) → Tells (on_field at x k) (on_tested name at n q j)
+    unfolding on_field on_tested
     on name at n (value v) kept takes e clear h = h v refl (keeps n name clear e)
     on name at n (fault m) (broke r) (refuses g) e clear h = by-rule g clear e
 
     -- .. of a line that is too short for it
-    short : (name : Name) (at n : ℕ) (q : Tested) (j : Walked) (form : List ℕ → Bool) → q ≡ broke (rule 4 40 form) → firstBroken (Rules name) (take n (drop at w)) ≡ q
-        → Clear sh today c w from at → Tells (no 4 at) (onTested name at n q j)
-    unfolding onTested
+    short : (name : Name) (at n : ℕ) (q : Tested) (j : Walked) (form : List ℕ → Bool) → q ≡ broke (rule 4 40 form) → first_broken (Rules name) (take n (drop at w)) ≡ q
+        → Clear sh today c w from at → Tells (no 4 at) (on_tested name at n q j)
+    unfolding on_tested
     short name at n q j form f e clear = rw f (by-rule refl clear (e ∙ f))
 
     -- ---- fields from left to right
 
-    pub columns : {X : Type 0} (read : List ℕ → Field X) (name : Name) → ((t : List ℕ) → Agrees (read t) (firstBroken (Rules name) t)) → (at : ℕ) (s : List ℕ)
+    pub columns : {X : Type 0} (read : List ℕ → Field X) (name : Name) → ((t : List ℕ) → Agrees (read t) (first_broken (Rules name) t)) → (at : ℕ) (s : List ℕ)
         {k : X → ℕ → List ℕ → Said A} {j : ℕ → List ℕ → Walked} → Here at s → ((v : X) (a : ℕ) (r : List ℕ) → Here a r → Tells (k v a r) (j a r))
         → Tells (field read at s k) (column sh today c w name at s j)
     unfolding field column
     columns read name agree at s here h =
         let n : length (field_of s) ≡ seek space s = length-take-le (seek space s) s (seek-le space s) in
         let t : take (length (field_of s)) (drop at w) ≡ field_of s = rw here.left (take-taken (seek space s) s) in
-        on name at (length (field_of s)) (read (field_of s)) (firstBroken (Rules name) (field_of s)) (agree (field_of s)) (ap (firstBroken (Rules name)) t) here.clear
+        on name at (length (field_of s)) (read (field_of s)) (first_broken (Rules name) (field_of s)) (agree (field_of s)) (ap (first_broken (Rules name)) t) here.clear
         λ v _ clear. h v (at + seek space s) (rest_of s) (record { left = sym (drop-drop (seek space s) at w) ∙ ap (drop (seek space s)) here.left; clear = rw n at clear })
 
     -- a field of n bytes by place, whose rules want as many
-    pub spots : {X : Type 0} (n : ℕ) (read : List ℕ → Field X) (name : Name) → ((t : List ℕ) → length t ≡ n → Agrees (read t) (firstBroken (Rules name) t))
-        → {form : List ℕ → Bool} → ((t : List ℕ) → length t < n → firstBroken (Rules name) t ≡ broke (rule 4 40 form)) → (at : ℕ) (s : List ℕ)
+    pub spots : {X : Type 0} (n : ℕ) (read : List ℕ → Field X) (name : Name) → ((t : List ℕ) → length t ≡ n → Agrees (read t) (first_broken (Rules name) t))
+        → {form : List ℕ → Bool} → ((t : List ℕ) → length t < n → first_broken (Rules name) t ≡ broke (rule 4 40 form)) → (at : ℕ) (s : List ℕ)
         {k : X → ℕ → List ℕ → Said A} {j : ℕ → List ℕ → Walked} → Here at s → ((v : X) (a : ℕ) (r : List ℕ) → read (take n s) ≡ value v → a ≡ at + n → Here a r → Tells (k v a r) (j a r))
         → Tells (place n read at s k) (spot sh today c w n name at s j)
     unfolding place spot
@@ -79,28 +79,28 @@ module _ (sh : Sheet) (today : ℕ) (c : Context) (w : List ℕ) (from : ℕ) wh
         (λ l.
         let below : length (take n s) < n = omega (arith, ltb-true (length s) n l, length-take n s) in
         rw (pick_true _ _ l)
-        (short name at (length (take n s)) (firstBroken (Rules name) (take n s)) _ form (few (take n s) below) (ap (firstBroken (Rules name)) t) here.clear))
+        (short name at (length (take n s)) (first_broken (Rules name) (take n s)) _ form (few (take n s) below) (ap (first_broken (Rules name)) t) here.clear))
         (λ l.
         let long : length (take n s) ≡ n = length-take-le n s (ltb-false (length s) n l) in
         rw (pick-false _ _ l)
-        (on name at (length (take n s)) (read (take n s)) (firstBroken (Rules name) (take n s)) (agree (take n s) long) (ap (firstBroken (Rules name)) t) here.clear
+        (on name at (length (take n s)) (read (take n s)) (first_broken (Rules name) (take n s)) (agree (take n s) long) (ap (first_broken (Rules name)) t) here.clear
         λ v e clear. h v (at + n) (drop n s) e refl (record { left = sym (drop-drop n at w) ∙ ap (drop n) here.left; clear = rw long at clear })))
 
     -- the rest of the line
-    pub lasts : {X : Type 0} (read : List ℕ → Field X) (name : Name) (at : ℕ) (s : List ℕ) {k : X → Said A} → Agrees (read s) (firstBroken (Rules name) s) → Here at s
-        → ((v : X) → Tells (k v) passed) → Tells (onField at (read s) k) (last sh today c w name at s)
+    pub lasts : {X : Type 0} (read : List ℕ → Field X) (name : Name) (at : ℕ) (s : List ℕ) {k : X → Said A} → Agrees (read s) (first_broken (Rules name) s) → Here at s
+        → ((v : X) → Tells (k v) passed) → Tells (on_field at (read s) k) (last sh today c w name at s)
     unfolding last
     lasts read name at s agree here h =
-        on name at (length s) (read s) (firstBroken (Rules name) s) agree (ap (firstBroken (Rules name)) (rw here.left (take-length s))) here.clear λ v _ _. h v
+        on name at (length s) (read s) (first_broken (Rules name) s) agree (ap (first_broken (Rules name)) (rw here.left (take-length s))) here.clear λ v _ _. h v
 
     pub gaps : (name : Name) (at : ℕ) (s : List ℕ) {k : ℕ → List ℕ → Said A} {j : ℕ → List ℕ → Walked} → Here at s → ((a : ℕ) (r : List ℕ) → Here a r → Tells (k a r) (j a r))
         → Tells (gap at s k) (divider name at s j)
     unfolding gap divider
-    gaps name at [] here h = by_form here.clear (missing here.left)
+    gaps name at [] here h = by-form here.clear (missing here.left)
     gaps name at (x ∷ s) here h =
         h (at + 1) s (record { left = sym (drop-drop 1 at w) ∙ ap (drop 1) here.left; clear = divides x s here.clear here.left })
 
-    pub ends : (name : Name) (at : ℕ) (s : List ℕ) {r : Said A} → Here at s → Tells r passed → Tells (lineEnd at s r) (ended 42 name at s)
-    unfolding lineEnd ended
+    pub ends : (name : Name) (at : ℕ) (s : List ℕ) {r : Said A} → Here at s → Tells r passed → Tells (line_end at s r) (ended 42 name at s)
+    unfolding line_end ended
     ends name at [] here h = h
-    ends name at (x ∷ s) here h = by_form here.clear (surplus x s here.left)
+    ends name at (x ∷ s) here h = by-form here.clear (surplus x s here.left)

@@ -30,6 +30,6 @@ pub data Tested : Type 0 where
   broke : Rule → Tested
 
 -- "in one field first 4 and then upward": the rules are tested in their order
-unfoldable pub firstBroken : List Rule → List ℕ → Tested
-firstBroken [] s = kept
-firstBroken (r ∷ rs) s = pick (r.keeps s) (firstBroken rs s) (broke r)
+unfoldable pub first_broken : List Rule → List ℕ → Tested
+first_broken [] s = kept
+first_broken (r ∷ rs) s = pick (r.keeps s) (first_broken rs s) (broke r)

@@ -2,30 +2,30 @@
 use Rattle.std.specs.Prelude.{ℕ, ◌≡◌, true, List, ◌++◌, length, drop}
 use Rattle.base.specs.Pick.{pick}
 use Rattle.sheet.specs.declared.Sheet.{Sheet}
-use Rattle.paper.specs.Batch.{Header, Thing, batchOf}
-use Rattle.paper.specs.Proper.{fine, batchProper}
-use Rattle.paper.specs.Carried.{headerCarried, batchCarried}
+use Rattle.paper.specs.Batch.{Header, Thing, batch_of}
+use Rattle.paper.specs.Proper.{fine, batch_proper}
+use Rattle.paper.specs.Carried.{header_carried, batch_carried}
 use Rattle.paper.specs.Canonical.{canon}
-use Rattle.paper.specs.Writing.{Draft, drafted, refusal, onVerdict, WriteAnswer}
+use Rattle.paper.specs.Writing.{Draft, drafted, refusal, on_verdict, WriteAnswer}
 use Rattle.write.specs.declared.AboWritten.{AboWritten}
 use Rattle.write.specs.declared.BatchJudged.{BatchJudged}
 use Rattle.write.specs.declared.BatchJudged.TheVariants as judged
 
 -- "The batch": the header of these numbers and this name
-abbrev pub headerOf : ℕ → List ℕ → ℕ → ℕ → ℕ → Header
-headerOf date name client from to = record { date = date; name = name; client = client; from = from; to = to }
+abbrev pub header_of : ℕ → List ℕ → ℕ → ℕ → ℕ → Header
+header_of date name client from to = record { date = date; name = name; client = client; from = from; to = to }
 
 -- the number returned, its row and field, and the bytes written or needed
 abbrev pub told : AboWritten → WriteAnswer
 told a = record { number = a.number; row = a.row; field = a.field; bytes = a.bytes }
 
 -- a refusal has no bytes
-abbrev pub refusedAt : ℕ → ℕ → ℕ → WriteAnswer
-refusedAt number row field = record { number = number; row = row; field = field; bytes = 0 }
+abbrev pub refused_at : ℕ → ℕ → ℕ → WriteAnswer
+refused_at number row field = record { number = number; row = row; field = field; bytes = 0 }
 
 -- 0 and 16 have no row and no field
-abbrev pub countedAs : ℕ → ℕ → WriteAnswer
-countedAs number bytes = record { number = number; row = 0; field = 0; bytes = bytes }
+abbrev pub counted_as : ℕ → ℕ → WriteAnswer
+counted_as number bytes = record { number = number; row = 0; field = 0; bytes = bytes }
 
 -- where the sheet has a header, its name is 20 bytes
 abbrev pub Named : Sheet → Header → Type 0
@@ -41,9 +41,9 @@ Tells (judged.Refused number row field) d = d ≡ refusal number row field
 Tells (judged.Bytes n) d = (s : List ℕ) × (d ≡ drafted s) × (n ≡ length s)
 
 -- behind the header's 20: the rows' 20, the header's 21, the rows' 21
-unfoldable pub rowsDraft : Sheet → ℕ → Header → List Thing → Draft
-rowsDraft sh today h ts =
-    onVerdict 20 (batchProper ts)
-    (onVerdict 21 (pick sh.header (headerCarried sh.interval h) fine)
-    (onVerdict 21 (batchCarried sh today h ts)
-    (drafted (canon sh h (batchOf ts)))))
+unfoldable pub rows_draft : Sheet → ℕ → Header → List Thing → Draft
+rows_draft sh today h ts =
+    on_verdict 20 (batch_proper ts)
+    (on_verdict 21 (pick sh.header (header_carried sh.interval h) fine)
+    (on_verdict 21 (batch_carried sh today h ts)
+    (drafted (canon sh h (batch_of ts)))))

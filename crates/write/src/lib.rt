@@ -3,16 +3,16 @@
 ghost use Rattle.std.specs.Prelude.{◌≡◌, true, ◌+◌, ◌≤◌, length};
 ghost use Rattle.base.specs.Pick.{pick};
 ghost use Rattle.sheet.specs.declared.Known.TheVariants as known;
-ghost use Rattle.paper.specs.Days.{realDay};
-ghost use Rattle.paper.specs.Batch.{Header, batchOf};
-ghost use Rattle.paper.specs.Proper.{fine, headerProper, batchProper};
-ghost use Rattle.paper.specs.Carried.{headerCarried};
-ghost use Rattle.paper.specs.FirstLine.{spellFirst};
-ghost use Rattle.paper.specs.Rows.{rowsIn, thingsIn};
+ghost use Rattle.paper.specs.Days.{real_day};
+ghost use Rattle.paper.specs.Batch.{Header, batch_of};
+ghost use Rattle.paper.specs.Proper.{fine, header_proper, batch_proper};
+ghost use Rattle.paper.specs.Carried.{header_carried};
+ghost use Rattle.paper.specs.FirstLine.{spell_first};
+ghost use Rattle.paper.specs.Rows.{rows_in, things_in};
 ghost use Rattle.paper.specs.Canonical.{canon};
-ghost use Rattle.paper.specs.Writing.{Draft, onVerdict, draftOf, draftWith, draft, writtenIn, outputAfter};
+ghost use Rattle.paper.specs.Writing.{Draft, on_verdict, draft_of, draft_with, draft, written_in, output_after};
 ghost use Rattle.rows.specs.read.After.{after};
-ghost use Rattle.write.specs.Told.{headerOf, told, refusedAt, countedAs, Tells, rowsDraft, Named, before};
+ghost use Rattle.write.specs.Told.{header_of, told, refused_at, counted_as, Tells, rows_draft, Named, before};
 ghost use Rattle.write.specs.declared.BatchJudged.TheVariants.{Bytes};
 
 use rows::read::Check;
@@ -38,7 +38,7 @@ pub enum BatchJudged {
 
 // A refusal writes nothing and names no bytes.
 pub fn refusal(number: u64, row: u64, field: u64) -> AboWritten
-    ensures { told result ≡ refusedAt number row field }
+    ensures { told result ≡ refused_at number row field }
 {
     AboWritten {
         number,
@@ -50,7 +50,7 @@ pub fn refusal(number: u64, row: u64, field: u64) -> AboWritten
 
 // The file's bytes: written with 0, needed with 16.
 pub fn counted(number: u64, bytes: u64) -> AboWritten
-    ensures { told result ≡ countedAs number bytes }
+    ensures { told result ≡ counted_as number bytes }
 {
     AboWritten {
         number,
@@ -62,7 +62,7 @@ pub fn counted(number: u64, bytes: u64) -> AboWritten
 
 // 20 of the header, where the sheet has one.
 fn header_proper(sh: Sheet, date: u64, name: &[u8], client: u64, from: u64, to: u64) -> Check
-    ensures { after 0 result fine ≡ pick sh.header (headerProper (headerOf date name.now client from to)) fine }
+    ensures { after 0 result fine ≡ pick sh.header (header_proper (header_of date name.now client from to)) fine }
 {
     if sh.header {
         return rows::proper::header_check(date, name, client, from, to);
@@ -72,7 +72,7 @@ fn header_proper(sh: Sheet, date: u64, name: &[u8], client: u64, from: u64, to: 
 
 // 21 of the header, where the sheet has one: the interval's start is not above its end.
 fn header_carried(sh: Sheet, from: u64, to: u64) -> Check
-    ensures { (h : Header) → h.from ≡ from → h.to ≡ to → after 0 result fine ≡ pick sh.header (headerCarried sh.interval h) fine }
+    ensures { (h : Header) → h.from ≡ from → h.to ≡ to → after 0 result fine ≡ pick sh.header (header_carried sh.interval h) fine }
 {
     if !sh.header {
         return Check::Fine;
@@ -87,7 +87,7 @@ fn header_carried(sh: Sheet, from: u64, to: u64) -> Check
 
 // What the sheet cannot carry of the header comes before `next`, which is what the rows are judged to be.
 fn carry(sh: Sheet, from: u64, to: u64, next: BatchJudged) -> BatchJudged
-    ensures { (h : Header) (d : Draft) → h.from ≡ from → h.to ≡ to → Tells next d → Tells result (onVerdict 21 (pick sh.header (headerCarried sh.interval h) fine) d) }
+    ensures { (h : Header) (d : Draft) → h.from ≡ from → h.to ≡ to → Tells next d → Tells result (on_verdict 21 (pick sh.header (header_carried sh.interval h) fine) d) }
 {
     match header_carried(sh, from, to) {
         Check::Wrong(field) => BatchJudged::Refused(21, 0, field),
@@ -98,15 +98,15 @@ fn carry(sh: Sheet, from: u64, to: u64, next: BatchJudged) -> BatchJudged
 // How many bytes the whole file has, where its lines behind the first have `rest` bytes.
 fn file_len(sh: Sheet, rest: u64) -> u64
     requires { rest ≤ 200000000000 }
-    ensures { (h : Header) → Named sh h → result ≡ length (spellFirst sh h) + 2 + rest }
+    ensures { (h : Header) → Named sh h → result ≡ length (spell_first sh h) + 2 + rest }
 {
     spelling::linelen::first_len(sh) as u64 + 2 + rest
 }
 
 // The rows, behind a header that is as "The batch" says; 20 of the rows comes before 21 of the header.
 fn judge_rows(rows: &[u8], texts: &[u8], sh: Sheet, today: u64, from: u64, to: u64) -> BatchJudged
-    requires { realDay today ≡ true }
-    ensures { (h : Header) → h.from ≡ from → h.to ≡ to → Named sh h → Tells result (rowsDraft sh today h (thingsIn texts.now (rowsIn rows.now))) }
+    requires { real_day today ≡ true }
+    ensures { (h : Header) → h.from ≡ from → h.to ≡ to → Named sh h → Tells result (rows_draft sh today h (things_in texts.now (rows_in rows.now))) }
 {
     match survey::survey(rows, texts, sh, today, from, to) {
         Surveyed::Improper(row, field) => BatchJudged::Refused(20, row, field),
@@ -127,8 +127,8 @@ fn judge(
     sh: Sheet,
     today: u64,
 ) -> BatchJudged
-    requires { realDay today ≡ true }
-    ensures { Tells result (draftOf sh today (headerOf date name.now client from to) (thingsIn texts.now (rowsIn rows.now))) }
+    requires { real_day today ≡ true }
+    ensures { Tells result (draft_of sh today (header_of date name.now client from to) (things_in texts.now (rows_in rows.now))) }
 {
     match header_proper(sh, date, name, client, from, to) {
         Check::Wrong(field) => BatchJudged::Refused(20, 0, field),
@@ -148,9 +148,9 @@ fn fill(
     sh: Sheet,
     out: &mut [u8],
 )
-    requires rows_value { batchProper (thingsIn texts.now (rowsIn rows.now)) ≡ fine }
-    requires rows_in_bounds { length (canon sh (headerOf date name.now client from to) (batchOf (thingsIn texts.now (rowsIn rows.now)))) ≤ length out.old }
-    ensures { out.new ≡ before (canon sh (headerOf date name.now client from to) (batchOf (thingsIn texts.now (rowsIn rows.now)))) out.old }
+    requires rows_value { batch_proper (things_in texts.now (rows_in rows.now)) ≡ fine }
+    requires rows_in_bounds { length (canon sh (header_of date name.now client from to) (batch_of (things_in texts.now (rows_in rows.now)))) ≤ length out.old }
+    ensures { out.new ≡ before (canon sh (header_of date name.now client from to) (batch_of (things_in texts.now (rows_in rows.now)))) out.old }
 {
     let at = spelling::putlines::put_first(out, 0, sh, date, name, client, from, to);
     spelling::file::fill_file(rows, texts, sh, out, at);
@@ -170,9 +170,9 @@ fn accept(
     bytes: u64,
     out: &mut [u8],
 ) -> AboWritten
-    requires { Tells (Bytes bytes) (draftOf sh today (headerOf date name.now client from to) (thingsIn texts.now (rowsIn rows.now))) }
-    ensures result_value { told result ≡ writtenIn (length out.old) (draftOf sh today (headerOf date name.now client from to) (thingsIn texts.now (rowsIn rows.now))) }
-    ensures out_after { out.new ≡ outputAfter out.old (draftOf sh today (headerOf date name.now client from to) (thingsIn texts.now (rowsIn rows.now))) }
+    requires { Tells (Bytes bytes) (draft_of sh today (header_of date name.now client from to) (things_in texts.now (rows_in rows.now))) }
+    ensures result_value { told result ≡ written_in (length out.old) (draft_of sh today (header_of date name.now client from to) (things_in texts.now (rows_in rows.now))) }
+    ensures out_after { out.new ≡ output_after out.old (draft_of sh today (header_of date name.now client from to) (things_in texts.now (rows_in rows.now))) }
 {
     if (out.len() as u64) < bytes {
         return counted(16, bytes);
@@ -194,8 +194,8 @@ fn write_on(
     today: u64,
     out: &mut [u8],
 ) -> AboWritten
-    ensures result_value { told result ≡ writtenIn (length out.old) (draftWith (known.Sheet sh) today (headerOf date name.now client from to) (thingsIn texts.now (rowsIn rows.now))) }
-    ensures out_after { out.new ≡ outputAfter out.old (draftWith (known.Sheet sh) today (headerOf date name.now client from to) (thingsIn texts.now (rowsIn rows.now))) }
+    ensures result_value { told result ≡ written_in (length out.old) (draft_with (known.Sheet sh) today (header_of date name.now client from to) (things_in texts.now (rows_in rows.now))) }
+    ensures out_after { out.new ≡ output_after out.old (draft_with (known.Sheet sh) today (header_of date name.now client from to) (things_in texts.now (rows_in rows.now))) }
 {
     if calendar::real_day(today) {
         match judge(rows, texts, date, name, client, from, to, sh, today) {
@@ -222,8 +222,8 @@ pub fn write_file(
     today: u64,
     out: &mut [u8],
 ) -> AboWritten
-    ensures result_value { told result ≡ writtenIn (length out.old) (draft sheet today (headerOf date name.now client from to) rows.now texts.now) }
-    ensures out_after { out.new ≡ outputAfter out.old (draft sheet today (headerOf date name.now client from to) rows.now texts.now) }
+    ensures result_value { told result ≡ written_in (length out.old) (draft sheet today (header_of date name.now client from to) rows.now texts.now) }
+    ensures out_after { out.new ≡ output_after out.old (draft sheet today (header_of date name.now client from to) rows.now texts.now) }
 {
     match sheet::sheet_of(sheet) {
         Known::Sheet(sh) => write_on(rows, texts, date, name, client, from, to, sh, today, out),

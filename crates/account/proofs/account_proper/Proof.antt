@@ -1,23 +1,23 @@
 -- `account_proper` goes by the tests of its definition.
 use borrow.Author.Rules.{rules}
 use Rattle.base.proofs.Cases.{picks}
-use Rattle.paper.specs.Accounts.{accountProper}
+use Rattle.paper.specs.Accounts.{account_proper}
 use Rattle.account.proofs.account_proper.Statement.{statement}
 use Rattle.account.proofs.account_proper.Tie as tie
 
 returns : tie.Need-returns
-unfolding accountProper
+unfolding account_proper
 returns c = search picks
 
 returns-2 : tie.Need-returns-2
-unfolding accountProper
+unfolding account_proper
 returns-2 c = search picks
 
 account-ok-requires : tie.Need-account-ok-requires
 account-ok-requires c κs = search rules
 
 returns-3 : tie.Need-returns-3
-unfolding accountProper
+unfolding account_proper
 returns-3 c = search picks
 
 pub account-proper-spec : {M : Type 1} → statement M

@@ -7,10 +7,10 @@ use native.Mathlib.Omega.{arith}
 use lib.ListN.{length, drop}
 use Rattle.paper.specs.Read.{value}
 use Rattle.paper.specs.Numerals.{digits}
-use Rattle.paper.specs.Accounts.{accountOk}
+use Rattle.paper.specs.Accounts.{account_ok}
 use Rattle.numeral.proofs.Digits.{ten-le}
 use Rattle.numeral.proofs.Sound.{digits-sound}
-use Rattle.account.specs.Doubled.{doubled, sumsOk}
+use Rattle.account.specs.Doubled.{doubled, sums_ok}
 use Rattle.account.proofs.Doubled.{doubled-none, doubled-le, doubled-more}
 use Rattle.account.proofs.Rule.{sums-of}
 use Rattle.numeral.specs.field.Digits.{run}
@@ -70,6 +70,6 @@ module _ (s : List ℕ) (at e v : ℕ) where
 pub ruleset smalls = (sum-start, zero-small, short-small, base-small, base-inside, run_short, prefix-small)
 
 -- the rule, by the sums
-module _ (p b x y : ℕ) (t : Bool) (k : t ≡ sumsOk x y) (l : p < 10000000000) (e : x ≡ doubled 19 p) (m : b < 10000000000) (f : y ≡ doubled 19 b) where
-  pub rule-by-sums : t ≡ accountOk p b
+module _ (p b x y : ℕ) (t : Bool) (k : t ≡ sums_ok x y) (l : p < 10000000000) (e : x ≡ doubled 19 p) (m : b < 10000000000) (f : y ≡ doubled 19 b) where
+  pub rule-by-sums : t ≡ account_ok p b
   rule-by-sums = k ∙ rw (e, f) (sums-of p b l m)

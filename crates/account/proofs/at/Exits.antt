@@ -15,32 +15,32 @@ use Rattle.paper.specs.Read.{value}
 use Rattle.paper.specs.Bytes.{space, field_of, null}
 use Rattle.paper.specs.Numerals.{digits}
 use Rattle.paper.specs.Accounts as paper
-use Rattle.paper.specs.Accounts.{ruled, readAccount}
+use Rattle.paper.specs.Accounts.{ruled, read_account}
 use Rattle.numeral.specs.field.At.{At, missed, ending, field_at}
 use Rattle.numeral.specs.field.Digits.{run}
 use Rattle.numeral.proofs.field.Number.{run_ends, run-field, run-open, number-value, number_short, number-long}
 use Rattle.numeral.proofs.field.Behind.{behind-field, behind-end}
 use Rattle.numeral.proofs.field.Onward.{onward, given-at}
 use Rattle.account.specs.at.Parts.{undashed, dashed}
-use Rattle.account.specs.Parts.{withBase}
+use Rattle.account.specs.Parts.{with_base}
 use Rattle.account.proofs.at.Digits.{undashed-is, dashed-is}
 
 -- a base behind its prefix
-pub base-field : (r : At paper.Account) (least p : ℕ) (s : List ℕ) (at : ℕ) → r ≡ onward (field_at (digits least 10) s at) (λ b. ruled p b) → r ≡ field_at (withBase least p) s at
-unfolding field_at withBase
+pub base-field : (r : At paper.Account) (least p : ℕ) (s : List ℕ) (at : ℕ) → r ≡ onward (field_at (digits least 10) s at) (λ b. ruled p b) → r ≡ field_at (with_base least p) s at
+unfolding field_at with_base
 base-field r least p s at q = q ∙ given-at (λ b. ruled p b) (digits least 10) s at
 
 -- a base's digits end at e, and t is whether the field ends there
 module _ (least p : ℕ) (s : List ℕ) (at e v : ℕ) (h : e ≡ at + length (run 10 (drop at s))) (t : Bool) (k : t ≡ null (field_of (drop e s))) where
-  pub base-value : (r : At paper.Account) → t ≡ true → digits 0 10 (run 10 (drop at s)) ≡ value v → least ≤ e - at → r ≡ ending e (ruled p v) → r ≡ field_at (withBase least p) s at
+  pub base-value : (r : At paper.Account) → t ≡ true → digits 0 10 (run 10 (drop at s)) ≡ value v → least ≤ e - at → r ≡ ending e (ruled p v) → r ≡ field_at (with_base least p) s at
   unfolding onward
   base-value r y g l q = base-field r least p s at (q ∙ ap (λ x. onward x (λ b. ruled p b)) (number-value s at least 10 e v h t k y g l))
 
-  pub base_short : t ≡ true → e - at < least → missed 4 ≡ field_at (withBase least p) s at
+  pub base_short : t ≡ true → e - at < least → missed 4 ≡ field_at (with_base least p) s at
   unfolding onward
   base_short y l = base-field (missed 4) least p s at (ap (λ x. onward x (λ b. ruled p b)) (number_short s at least 10 e v h t k y l))
 
-  pub base-long : t ≡ false → missed 4 ≡ field_at (withBase least p) s at
+  pub base-long : t ≡ false → missed 4 ≡ field_at (with_base least p) s at
   unfolding onward
   base-long y = base-field (missed 4) least p s at (ap (λ x. onward x (λ b. ruled p b)) (number-long s at least 10 e v h t k y))
 
@@ -65,7 +65,7 @@ module _ (s : List ℕ) (at e : ℕ) (h : dashed s at e ≡ true) where
 -- its first digits end at e, and t is whether the field ends there
 module _ (s : List ℕ) (at e v : ℕ) (h : e ≡ at + length (run 16 (drop at s))) (g : digits 0 16 (run 16 (drop at s)) ≡ value v) where
   module _ (t : Bool) (k : t ≡ null (field_of (drop e s))) (joined : Bool) (least : ℕ) (r : At paper.Account) where
-    pub digits-account : t ≡ true → r ≡ ending e (undashed joined least (e - at) v) → r ≡ field_at (readAccount joined least) s at
+    pub digits-account : t ≡ true → r ≡ ending e (undashed joined least (e - at) v) → r ≡ field_at (read_account joined least) s at
     unfolding field_at
     digits-account y q =
         let n : e - at ≡ length (run 16 (drop at s)) = omega arith in
@@ -73,7 +73,7 @@ module _ (s : List ℕ) (at e v : ℕ) (h : e ≡ at + length (run 16 (drop at s
 
   -- a dash follows
   module _ (t : Bool) (k : t ≡ null (field_of (drop e s))) (n : t ≡ false) (m : at ≤ length s) (u : Bool) (d : u ≡ dashed s at e) (joined : Bool) (least : ℕ) (r : At paper.Account) where
-    pub dashed-account : u ≡ true → r ≡ field_at (withBase least v) s (e + 1) → r ≡ field_at (readAccount joined least) s at
+    pub dashed-account : u ≡ true → r ≡ field_at (with_base least v) s (e + 1) → r ≡ field_at (read_account joined least) s at
     unfolding field_at
     dashed-account y q =
         let l : e < length s = run-open s at 0 16 e v h t k n m in

@@ -11,13 +11,13 @@ use Rattle.paper.specs.Read.{value, fault}
 use Rattle.paper.specs.Bytes.{field_of, null}
 use Rattle.paper.specs.Numerals.{digits}
 use Rattle.paper.specs.Accounts as paper
-use Rattle.paper.specs.Accounts.{accountOk, ruled, readAccount}
+use Rattle.paper.specs.Accounts.{account_ok, ruled, read_account}
 use Rattle.numeral.proofs.Sound.{same}
-use Rattle.account.specs.Doubled.{doubled, sumsOk}
+use Rattle.account.specs.Doubled.{doubled, sums_ok}
 use Rattle.numeral.specs.field.At.{found, missed, ending, field_at}
 use Rattle.numeral.specs.field.Digits.{run}
 use Rattle.account.specs.at.Parts.{undashed, dashed}
-use Rattle.account.specs.Parts.{withBase}
+use Rattle.account.specs.Parts.{with_base}
 use Rattle.account.proofs.at.Doubling.{sum-start, base-small, run_short, prefix-small, rule-by-sums}
 use Rattle.account.proofs.at.Exits.{base-value, base_short, base-long, digits-account, dashed-account}
 use Rattle.numeral.specs.field.Kept.{keeping, nothing}
@@ -31,7 +31,7 @@ Ruled p b e m = (x y : ℕ) → x < 10000000000 → p ≡ doubled 19 x → y < 1
 
 -- ---- by the sums: t is whether they keep the rule
 
-module _ (p b e : ℕ) (t : Bool) (k : t ≡ sumsOk p b) (x y : ℕ) (l : x < 10000000000) (f : p ≡ doubled 19 x) (m : y < 10000000000) (g : b ≡ doubled 19 y) where
+module _ (p b e : ℕ) (t : Bool) (k : t ≡ sums_ok p b) (x y : ℕ) (l : x < 10000000000) (f : p ≡ doubled 19 x) (m : y < 10000000000) (g : b ≡ doubled 19 y) where
   pub rule-kept : t ≡ true → found tt e ≡ keeping nothing (ending e (ruled x y))
   unfolding ruled keeping ending
   rule-kept h = rw (pick_true (value (paper.account x y)) (fault 5) (sym (rule-by-sums x y p b t k l f m g) ∙ h))
@@ -44,15 +44,15 @@ module _ (p b e : ℕ) (t : Bool) (k : t ≡ sumsOk p b) (x y : ℕ) (l : x < 10
 
 module _ (least x : ℕ) (s : List ℕ) (at e v : ℕ) (h : e ≡ at + length (run 10 (drop at s))) (t : Bool) (k : t ≡ null (field_of (drop e s))) where
   pub base-judged : (m : Passed) (p b : ℕ) → t ≡ true → digits 0 10 (run 10 (drop at s)) ≡ value v → b ≡ doubled 19 v → least ≤ e - at → Ruled p b e m
-      → x < 10000000000 → p ≡ doubled 19 x → passed m ≡ keeping nothing (field_at (withBase least x) s at)
+      → x < 10000000000 → p ≡ doubled 19 x → passed m ≡ keeping nothing (field_at (with_base least x) s at)
   base-judged m p b y g f l j c d =
       j x v c d (base-small s at e v g) f ∙ ap (keeping nothing) (base-value least x s at e v h t k (ending e (ruled x v)) y g l refl)
 
-  pub base-too-short : t ≡ true → e - at < least → missed 4 ≡ keeping nothing (field_at (withBase least x) s at)
+  pub base-too-short : t ≡ true → e - at < least → missed 4 ≡ keeping nothing (field_at (with_base least x) s at)
   unfolding keeping
   base-too-short y l = ap (keeping nothing) (base_short least x s at e v h t k y l)
 
-  pub base-too-long : t ≡ false → missed 4 ≡ keeping nothing (field_at (withBase least x) s at)
+  pub base-too-long : t ≡ false → missed 4 ≡ keeping nothing (field_at (with_base least x) s at)
   unfolding keeping
   base-too-long y = ap (keeping nothing) (base-long least x s at e v h t k y)
 
@@ -61,14 +61,14 @@ module _ (least x : ℕ) (s : List ℕ) (at e v : ℕ) (h : e ≡ at + length (r
 module _ (s : List ℕ) (at e v : ℕ) (h : e ≡ at + length (run 16 (drop at s))) (g : digits 0 16 (run 16 (drop at s)) ≡ value v) (t : Bool) (k : t ≡ null (field_of (drop e s))) (joined : Bool) (least : ℕ) where
   -- it does, behind ten digits or fewer
   module _ (y : t ≡ true) (n : e - at ≤ 10) where
-    digits-field : ending e (undashed joined least (e - at) v) ≡ field_at (readAccount joined least) s at
+    digits-field : ending e (undashed joined least (e - at) v) ≡ field_at (read_account joined least) s at
     digits-field = digits-account s at e v h g t k joined least (ending e (undashed joined least (e - at) v)) y refl
 
-    pub digits-short : e - at < least → missed 4 ≡ keeping nothing (field_at (readAccount joined least) s at)
+    pub digits-short : e - at < least → missed 4 ≡ keeping nothing (field_at (read_account joined least) s at)
     unfolding keeping ending undashed
     digits-short l = rw (← digits-field) (rw (pick-false _ _ (le-ltb 10 (e - at) n), pick_true _ _ (lt-ltb (e - at) least l)))
 
-    pub digits-judged : (m : Passed) (b : ℕ) → b ≡ doubled 19 v → least ≤ e - at → Ruled 0 b e m → passed m ≡ keeping nothing (field_at (readAccount joined least) s at)
+    pub digits-judged : (m : Passed) (b : ℕ) → b ≡ doubled 19 v → least ≤ e - at → Ruled 0 b e m → passed m ≡ keeping nothing (field_at (read_account joined least) s at)
     unfolding undashed
     digits-judged m b f l j =
         let u : undashed joined least (e - at) v ≡ ruled 0 v = pick-false _ _ (le-ltb 10 (e - at) n) ∙ pick-false _ _ (le-ltb (e - at) least l) in
@@ -77,27 +77,27 @@ module _ (s : List ℕ) (at e v : ℕ) (h : e ≡ at + length (run 16 (drop at s
   -- it does, behind more than ten, which are judged as m
   pub digits_long : t ≡ true → 10 < e - at → (m : Passed)
       → ((v least n : ℕ) → digits 0 16 (run 16 (drop at s)) ≡ value v → 10 < n → passed m ≡ keeping nothing (ending e (undashed joined least n v)))
-      → passed m ≡ keeping nothing (field_at (readAccount joined least) s at)
+      → passed m ≡ keeping nothing (field_at (read_account joined least) s at)
   digits_long y l m j = j v least (e - at) g l ∙ ap (keeping nothing) (digits-account s at e v h g t k joined least (ending e (undashed joined least (e - at) v)) y refl)
 
   -- it does not, and no dash follows a prefix
-  pub other-judged : t ≡ false → (u : Bool) → u ≡ dashed s at e → u ≡ false → missed 4 ≡ keeping nothing (field_at (readAccount joined least) s at)
+  pub other-judged : t ≡ false → (u : Bool) → u ≡ dashed s at e → u ≡ false → missed 4 ≡ keeping nothing (field_at (read_account joined least) s at)
   unfolding keeping
   other-judged y u d n = ap (keeping nothing) (other-account s at e v h t k y u d joined least n)
 
   -- a dash follows, and the base is judged as m
   pub dashed-judged : t ≡ false → at ≤ length s → (u : Bool) → u ≡ dashed s at e → u ≡ true → (m : Passed) (p : ℕ) → p ≡ doubled 19 v
-      → ((x : ℕ) → x < 10000000000 → p ≡ doubled 19 x → passed m ≡ keeping nothing (field_at (withBase least x) s (e + 1)))
-      → passed m ≡ keeping nothing (field_at (readAccount joined least) s at)
+      → ((x : ℕ) → x < 10000000000 → p ≡ doubled 19 x → passed m ≡ keeping nothing (field_at (with_base least x) s (e + 1)))
+      → passed m ≡ keeping nothing (field_at (read_account joined least) s at)
   dashed-judged y a u d w m p f j =
-      j v (prefix-small s at e v h g u d w) f ∙ ap (keeping nothing) (dashed-account s at e v h g t k y a u d joined least (field_at (withBase least v) s (e + 1)) w refl)
+      j v (prefix-small s at e v h g u d w) f ∙ ap (keeping nothing) (dashed-account s at e v h g t k y a u d joined least (field_at (with_base least v) s (e + 1)) w refl)
 
 -- ---- more than ten digits: t is whether the two numbers keep the rule
 
 module _ (v e : ℕ) (joined : Bool) (least n : ℕ) (l : 10 < n) where
   -- w is their number as it was read
-  module _ (w : ℕ) (d : List ℕ) (f : digits 0 16 d ≡ value w) (g : digits 0 16 d ≡ value v) (t : Bool) (k : t ≡ accountOk (w / 10000000000) (w % 10000000000)) (j : joined ≡ true) where
-    is_ok : t ≡ accountOk (v / 10000000000) (v % 10000000000)
+  module _ (w : ℕ) (d : List ℕ) (f : digits 0 16 d ≡ value w) (g : digits 0 16 d ≡ value v) (t : Bool) (k : t ≡ account_ok (w / 10000000000) (w % 10000000000)) (j : joined ≡ true) where
+    is_ok : t ≡ account_ok (v / 10000000000) (v % 10000000000)
     is_ok = let e : w ≡ v = same w v (sym f ∙ g) in rw e at k
 
     pub long_kept : t ≡ true → found tt e ≡ keeping nothing (ending e (undashed joined least n v))

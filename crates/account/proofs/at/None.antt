@@ -12,9 +12,9 @@ use Rattle.base.specs.Seek.{seek, before}
 use Rattle.base.proofs.Cases.{by-test, pick-false}
 use Rattle.base.proofs.Seek.{never, all_append}
 use Rattle.paper.specs.Read.{Field, value, fault, given}
-use Rattle.paper.specs.Bytes.{isDigit, dash, space, field_of, null}
+use Rattle.paper.specs.Bytes.{is_digit, dash, space, field_of, null}
 use Rattle.paper.specs.Numerals.{digits}
-use Rattle.paper.specs.Accounts.{Account, twoParts, onePart, readAccount}
+use Rattle.paper.specs.Accounts.{Account, two_parts, one_part, read_account}
 use Rattle.numeral.proofs.Sound.{digits-plain, digits-least, digits-most, digits-fault, digits-reads}
 use Rattle.numeral.specs.field.At.{missed, ending, field_at}
 use Rattle.numeral.specs.field.Digits.{run}
@@ -45,21 +45,21 @@ module _ (f : List ℕ) (none : (v : ℕ) → digits 0 16 f ≡ value v → ⊥)
   no_both p q x y =
       let v =
       digits-reads 0 16 f
-      (rw (take-append-drop (length f - 10) f) at (all_append isDigit front back (digits-plain 1 6 front p x) (digits-plain 10 10 back q y)))
+      (rw (take-append-drop (length f - 10) f) at (all_append is_digit front back (digits-plain 1 6 front p x) (digits-plain 10 10 back q y)))
       (omega arith)
       (omega (arith, digits-most 1 6 front p x, digits-most 10 10 back q y, ap length (take-append-drop (length f - 10) f), length-append front back)) in
       none v.0 v.1
 
-  no-parts : twoParts 10 front back ≡ fault 4
-  unfolding twoParts
+  no-parts : two_parts 10 front back ≡ fault 4
+  unfolding two_parts
   no-parts = digits-four 1 6 front _ (λ p x. digits-four 10 10 back _ (λ q y. absurd (no_both p q x y)))
 
-  no-base : (least : ℕ) → onePart least f ≡ fault 4
-  unfolding onePart
+  no-base : (least : ℕ) → one_part least f ≡ fault 4
+  unfolding one_part
   no-base least = digits-four least 10 f _ (λ v x. absurd (none v (recount least 10 0 16 f v x (omega arith) (omega (arith, digits-most least 10 f v x)))))
 
-  no-account : (seek dash f < length f → (v : ℕ) → digits 1 6 (before dash f) ≡ value v → ⊥) → (joined : Bool) (least : ℕ) → readAccount joined least f ≡ fault 4
-  unfolding readAccount twoParts pick
+  no-account : (seek dash f < length f → (v : ℕ) → digits 1 6 (before dash f) ≡ value v → ⊥) → (joined : Bool) (least : ℕ) → read_account joined least f ≡ fault 4
+  unfolding read_account two_parts pick
   no-account undashed joined least =
       by-test (ltb (seek dash f) (length f))
       (λ t. simp t (digits-four 1 6 (before dash f) _ (λ v x. absurd (undashed (ltb-true _ _ t) v x))))
@@ -69,7 +69,7 @@ module _ (f : List ℕ) (none : (v : ℕ) → digits 0 16 f ≡ value v → ⊥)
 
 module _ (s : List ℕ) (at e v : ℕ) (h : e ≡ at + length (run 16 (drop at s))) where
   is-dashed : seek dash (field_of (drop at s)) < length (field_of (drop at s)) → (p : ℕ) → digits 1 6 (before dash (field_of (drop at s))) ≡ value p → dashed s at e ≡ true
-  unfolding dashed isDigit pick
+  unfolding dashed is_digit pick
   is-dashed l p x =
       let f : List ℕ = field_of (drop at s) in
       let b : List ℕ = before dash f in
@@ -82,7 +82,7 @@ module _ (s : List ℕ) (at e v : ℕ) (h : e ≡ at + length (run 16 (drop at s
       ∙ (pick-false _ _ (le-ltb 6 (e - at) (omega (arith, digits-most 1 6 b p x))) ∙ eq-eqb (get_or s e 0) 45 (rw o (part-byte s at b 45 _ q)))
 
   module _ (t : Bool) (k : t ≡ null (field_of (drop e s))) (n : t ≡ false) (u : Bool) (d : u ≡ dashed s at e) (joined : Bool) (least : ℕ) where
-    pub other-account : u ≡ false → missed 4 ≡ field_at (readAccount joined least) s at
+    pub other-account : u ≡ false → missed 4 ≡ field_at (read_account joined least) s at
     unfolding field_at ending
     other-account y =
         rw (no-account (field_of (drop at s)) (number-other s at 0 16 e v h t k n) (λ l p x. never (sym (is-dashed l p x) ∙ (sym d ∙ y))) joined least)

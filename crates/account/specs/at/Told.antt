@@ -7,10 +7,10 @@ use Rattle.account.specs.declared.at.PayerAt.{PayerAt}
 use Rattle.account.specs.declared.at.PayerAt.TheVariants as answer
 
 -- whether a group's payer is nobody, with its field's end, or the number of the refusal
-abbrev pub toldPayer : PayerAt → At Bool
-toldPayer (answer.At t e) = found t e
-toldPayer (answer.Refused n) = missed n
+abbrev pub told_payer : PayerAt → At Bool
+told_payer (answer.At t e) = found t e
+told_payer (answer.Refused n) = missed n
 
 -- an account that was taken, with its field's end
-abbrev pub toldAccount : Account → At Said
-toldAccount r = found (account r.prefix r.base) r.end
+abbrev pub told_account : Account → At Said
+told_account r = found (account r.prefix r.base) r.end

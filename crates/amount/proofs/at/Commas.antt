@@ -15,7 +15,7 @@ use Rattle.base.specs.Seek.{seek, before}
 use Rattle.paper.specs.Read.{Field, value, fault}
 use Rattle.paper.specs.Bytes.{comma}
 use Rattle.paper.specs.Numerals.{digits}
-use Rattle.paper.specs.Amounts.{withComma, readAmount}
+use Rattle.paper.specs.Amounts.{with_comma, read_amount}
 use Rattle.numeral.specs.declared.Num.{Num}
 use Rattle.numeral.specs.declared.Num.TheVariants.{Value, Refused}
 use Rattle.numeral.specs.Told.{told}
@@ -27,8 +27,8 @@ module _ (f : List ℕ) (d : ℕ) (h : d < length f) (e : d ≡ seek comma f) (m
   front : told m ≡ digits 1 11 (before comma f)
   front = let z : d - 0 ≡ seek comma f = omega arith in p ∙ rw z
 
-  pub bad-crowns : (n : ℕ) → m ≡ Refused n → fault n ≡ withComma f
-  unfolding withComma
+  pub bad-crowns : (n : ℕ) → m ≡ Refused n → fault n ≡ with_comma f
+  unfolding with_comma
   bad-crowns n a = step-refused _ _ m _ front n a refl
 
   -- k is what was read behind it
@@ -36,12 +36,12 @@ module _ (f : List ℕ) (d : ℕ) (h : d < length f) (e : d ≡ seek comma f) (m
     back : told k ≡ digits 2 2 (drop (seek comma f + 1) f)
     back = rw (← e) (q ∙ rw (take_all (length f - (d + 1)) (drop (d + 1) f) (omega (arith, length-drop (d + 1) f))))
 
-    pub bad-rest : (n : ℕ) → k ≡ Refused n → fault n ≡ withComma f
-    unfolding withComma
+    pub bad-rest : (n : ℕ) → k ≡ Refused n → fault n ≡ with_comma f
+    unfolding with_comma
     bad-rest n b = step_value _ _ m _ front v a (step-refused _ _ k _ back n b refl)
 
-    pub both_read : (w : ℕ) → k ≡ Value w → value (v * 100 + w) ≡ withComma f
-    unfolding withComma
+    pub both_read : (w : ℕ) → k ≡ Value w → value (v * 100 + w) ≡ with_comma f
+    unfolding with_comma
     both_read w b = step_value _ _ m _ front v a (step_value _ _ k _ back w b refl)
 
 -- what was read fits a word: at most eleven digits, and two more behind them
@@ -58,17 +58,17 @@ module _ (m : Num) (v least : ℕ) (s : List ℕ) (p : told m ≡ digits least 1
 
 -- with a comma, and without
 module _ (f : List ℕ) (may : Bool) (most : ℕ) (r : Field ℕ) where
-  pub no-comma : may ≡ false → r ≡ digits 1 most f → r ≡ readAmount may most f
-  unfolding readAmount pick
+  pub no-comma : may ≡ false → r ≡ digits 1 most f → r ≡ read_amount may most f
+  unfolding read_amount pick
   no-comma a e = e ∙ rw a
 
   module _ (a : may ≡ true) (d : ℕ) (e : d ≡ 0 + seek comma f) where
-    pub comma-absent : length f ≤ d → r ≡ digits 1 most f → r ≡ readAmount may most f
-    unfolding readAmount pick
+    pub comma-absent : length f ≤ d → r ≡ digits 1 most f → r ≡ read_amount may most f
+    unfolding read_amount pick
     comma-absent l g = g ∙ rw a (simp (le-ltb (seek comma f) (length f) (omega arith)))
 
-    pub comma-there : d < length f → r ≡ withComma f → r ≡ readAmount may most f
-    unfolding readAmount pick
+    pub comma-there : d < length f → r ≡ with_comma f → r ≡ read_amount may most f
+    unfolding read_amount pick
     comma-there l g = g ∙ rw a (simp (lt-ltb (seek comma f) (length f) (omega arith)))
 
 pub ruleset exits = (bad-crowns, bad-rest, both_read, fits-crowns, fits_both, no-comma, comma-absent, comma-there)

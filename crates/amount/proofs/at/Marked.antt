@@ -11,7 +11,7 @@ use mir.Syntax.{w64}
 use Rattle.base.specs.Seek.{seek, before}
 use Rattle.paper.specs.Read.{value, fault}
 use Rattle.paper.specs.Numerals.{digits}
-use Rattle.paper.specs.Amounts.{withMark}
+use Rattle.paper.specs.Amounts.{with_mark}
 use Rattle.numeral.specs.declared.Num.{Num}
 use Rattle.numeral.specs.declared.Num.TheVariants.{Value, Refused}
 use Rattle.numeral.specs.Told.{told}
@@ -23,8 +23,8 @@ module _ (q : ℕ) (f : List ℕ) (d : ℕ) (h : d < length f) (e : d ≡ seek (
   front : told m ≡ digits 1 11 (before (q ∷ []) f)
   front = let z : d - 0 ≡ seek (q ∷ []) f = omega arith in p ∙ rw z
 
-  pub bad-crowns : (n : ℕ) → m ≡ Refused n → fault n ≡ withMark (q ∷ []) f
-  unfolding withMark
+  pub bad-crowns : (n : ℕ) → m ≡ Refused n → fault n ≡ with_mark (q ∷ []) f
+  unfolding with_mark
   bad-crowns n a = step-refused _ _ m _ front n a refl
 
   -- k is what was read behind it
@@ -32,12 +32,12 @@ module _ (q : ℕ) (f : List ℕ) (d : ℕ) (h : d < length f) (e : d ≡ seek (
     back : told k ≡ digits 2 2 (drop (seek (q ∷ []) f + 1) f)
     back = rw (← e) (o ∙ rw (take_all (length f - (d + 1)) (drop (d + 1) f) (omega (arith, length-drop (d + 1) f))))
 
-    pub bad-rest : (n : ℕ) → k ≡ Refused n → fault n ≡ withMark (q ∷ []) f
-    unfolding withMark
+    pub bad-rest : (n : ℕ) → k ≡ Refused n → fault n ≡ with_mark (q ∷ []) f
+    unfolding with_mark
     bad-rest n b = step_value _ _ m _ front v a (step-refused _ _ k _ back n b refl)
 
-    pub both_read : (w : ℕ) → k ≡ Value w → value (v * 100 + w) ≡ withMark (q ∷ []) f
-    unfolding withMark
+    pub both_read : (w : ℕ) → k ≡ Value w → value (v * 100 + w) ≡ with_mark (q ∷ []) f
+    unfolding with_mark
     both_read w b = step_value _ _ m _ front v a (step_value _ _ k _ back w b refl)
 
 -- what was read fits a word: at most eleven digits, and two more behind them

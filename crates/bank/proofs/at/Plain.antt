@@ -13,9 +13,9 @@ use Rattle.base.specs.Seek.{all, seek}
 use Rattle.base.proofs.Cases.{by-test, pick-false}
 use Rattle.base.proofs.Seek.{never, all_cons, all_take, all_drop, seek-over}
 use Rattle.paper.specs.Read.{value, given}
-use Rattle.paper.specs.Bytes.{isDigit, space, field_of, null}
-use Rattle.paper.specs.Numerals.{digitsOn, digits}
-use Rattle.paper.specs.BankField.{ninth, readBank}
+use Rattle.paper.specs.Bytes.{is_digit, space, field_of, null}
+use Rattle.paper.specs.Numerals.{digits_on, digits}
+use Rattle.paper.specs.BankField.{ninth, read_bank}
 use Rattle.numeral.proofs.Digits.{in-range}
 use Rattle.numeral.proofs.Plain.{digit-range}
 use Rattle.numeral.proofs.Sound.{same, on-head, on-tail, read-on, digits-sound, digits-reads}
@@ -25,7 +25,7 @@ use Rattle.numeral.proofs.placed.Bytes.{fours}
 use Rattle.numeral.specs.field.At.{found, ending, field_at}
 use Rattle.numeral.proofs.field.Front.{field-ends}
 use Rattle.numeral.specs.field.Kept.{keeping}
-use Rattle.bank.specs.at.Warned.{warningsOf}
+use Rattle.bank.specs.at.Warned.{warnings_of}
 use Rattle.bank.specs.at.Plain.{PlainBank}
 
 -- ---- its bytes
@@ -54,8 +54,8 @@ pub ruleset zeros = (zeros-first, zeros-second, zeros-third, zeros-last)
 
 -- ---- a number of zeros
 
-zeros-on : (u : ℕ) (t : List ℕ) → digitsOn u t ≡ value 0 → (u ≡ 0) × (all is_zero t ≡ true)
-unfolding digitsOn all
+zeros-on : (u : ℕ) (t : List ℕ) → digits_on u t ≡ value 0 → (u ≡ 0) × (all is_zero t ≡ true)
+unfolding digits_on all
 zeros-on u [] h = (same u 0 h, refl)
 zeros-on u (x ∷ t) h =
     let r = zeros-on (u * 10 + (x - 48)) t (on-tail u x t 0 h) in
@@ -66,13 +66,13 @@ zeros-on u (x ∷ t) h =
 -- ---- what it says
 
 -- a ninth digit that is missing counts as 0, and gives no warning
-no-warning : (ranked : Bool) (b c e : ℕ) → found 0 e ≡ keeping warningsOf (ending e (ninth ranked 0 b c))
+no_warning : (ranked : Bool) (b c e : ℕ) → found 0 e ≡ keeping warnings_of (ending e (ninth ranked 0 b c))
 unfolding ninth keeping ending pick
-no-warning true b c e = refl
-no-warning false b c e = refl
+no_warning true b c e = refl
+no_warning false b c e = refl
 
 -- eight digits f, the first four not all 0
-module _ (f : List ℕ) (n : length f ≡ 8) (h : all isDigit f ≡ true) (z : all is_zero (take 4 f) ≡ false) where
+module _ (f : List ℕ) (n : length f ≡ 8) (h : all is_digit f ≡ true) (z : all is_zero (take 4 f) ≡ false) where
   -- the number of the first four, which is the bank, and that of the last four
   module _ (p q : ℕ) (a : digits 4 4 (take 4 f) ≡ value p) (b : digits 4 4 (drop 4 f) ≡ value q) where
     is_some : p ≡ 0 → ⊥
@@ -83,8 +83,8 @@ module _ (f : List ℕ) (n : length f ≡ 8) (h : all isDigit f ≡ true) (z : a
         let j = rw (take-append-drop 4 f) at (digits-split 4 4 (take 4 f) (drop 4 f) p q a b) in
         in-range 8 10 f (omega arith) (omega arith) ∙ read-on 8 8 f (p * 10000 + q) j
 
-    reads : (ranked : Bool) → readBank ranked f ≡ ninth ranked 0 p q
-    unfolding readBank given
+    reads : (ranked : Bool) → read_bank ranked f ≡ ninth ranked 0 p q
+    unfolding read_bank given
     reads ranked =
         let i = digits-sound 4 4 (take 4 f) p a in
         let k = digits-sound 4 4 (drop 4 f) q b in
@@ -93,18 +93,18 @@ module _ (f : List ℕ) (n : length f ≡ 8) (h : all isDigit f ≡ true) (z : a
         let ec : (p * 10000 + q) % 10000 ≡ q = omega arith in
         rw (eight, eb, ed, ec) (pick-false _ _ (ne_eqb p 0 is_some) ∙ pick-false _ _ (le-ltb 999999999 (p * 10000 + q) (omega arith)))
 
-  plain-reads : (ranked : Bool) (e : ℕ) → found 0 e ≡ keeping warningsOf (ending e (readBank ranked f))
+  plain-reads : (ranked : Bool) (e : ℕ) → found 0 e ≡ keeping warnings_of (ending e (read_bank ranked f))
   plain-reads ranked e =
-      let a = digits-reads 4 4 (take 4 f) (all_take isDigit 4 f h) (omega (arith, length-take 4 f)) (omega (arith, length-take 4 f)) in
-      let b = digits-reads 4 4 (drop 4 f) (all_drop isDigit 4 f h) (omega (arith, length-drop 4 f)) (omega (arith, length-drop 4 f)) in
-      rw (reads a.0 b.0 a.1 b.1 ranked) (no-warning ranked a.0 b.0 e)
+      let a = digits-reads 4 4 (take 4 f) (all_take is_digit 4 f h) (omega (arith, length-take 4 f)) (omega (arith, length-take 4 f)) in
+      let b = digits-reads 4 4 (drop 4 f) (all_drop is_digit 4 f h) (omega (arith, length-drop 4 f)) (omega (arith, length-drop 4 f)) in
+      rw (reads a.0 b.0 a.1 b.1 ranked) (no_warning ranked a.0 b.0 e)
 
-plain-field : (s : List ℕ) (at : ℕ) → PlainBank s at → (ranked : Bool) → found 0 (at + 8) ≡ keeping warningsOf (field_at (readBank ranked) s at)
-unfolding field_at isDigit pick
+plain-field : (s : List ℕ) (at : ℕ) → PlainBank s at → (ranked : Bool) → found 0 (at + 8) ≡ keeping warnings_of (field_at (read_bank ranked) s at)
+unfolding field_at is_digit pick
 plain-field s at b ranked =
     let l = b.long in
     let f : List ℕ = take 8 (drop at s) in
-    let o = seek-over isDigit 32 refl 8 (drop at s) (omega (arith, length-drop at s)) b.plain in
+    let o = seek-over is_digit 32 refl 8 (drop at s) (omega (arith, length-drop at s)) b.plain in
     let d : seek space (drop 8 (drop at s)) ≡ 0 = rw (drop-drop 8 at s) (field-ends (drop (at + 8) s) b.ends) in
     let e : seek space (drop at s) ≡ 8 = omega arith in
     let z : all is_zero (take 4 (take 8 (drop at s))) ≡ false = rw (take-take 4 8 (drop at s) (omega arith)) b.some in
@@ -117,14 +117,14 @@ not_plain s at e = never (sym e)
 
 -- z, t and u are what was asked of the first four bytes, of the field's end and of all eight bytes
 module _ (s : List ℕ) (at : ℕ) (l : at ≤ length s) (m : 8 ≤ length s - at) (z t u : Bool) where
-  pub is-plain : z ≡ all is_zero (take 4 (drop at s)) → z ≡ false → t ≡ null (field_of (drop (at + 8) s)) → t ≡ true → u ≡ all isDigit (take 8 (drop at s)) → u ≡ true → PlainBank s at
+  pub is-plain : z ≡ all is_zero (take 4 (drop at s)) → z ≡ false → t ≡ null (field_of (drop (at + 8) s)) → t ≡ true → u ≡ all is_digit (take 8 (drop at s)) → u ≡ true → PlainBank s at
   is-plain a b c d f e = record { long = omega arith; plain = sym f ∙ e; some = sym a ∙ b; ends = sym c ∙ d }
 
 module _ (s : List ℕ) (at : ℕ) (t : Bool) (h : t ≡ true → PlainBank s at) (y : t ≡ true) where
   pub plain-room : at + 8 ≤ length s
   plain-room = (h y).long
 
-  pub plain-bank : (ranked : Bool) → found 0 (at + 8) ≡ keeping warningsOf (field_at (readBank ranked) s at)
+  pub plain-bank : (ranked : Bool) → found 0 (at + 8) ≡ keeping warnings_of (field_at (read_bank ranked) s at)
   plain-bank ranked = plain-field s at (h y) ranked
 
 pub ruleset plains = (plain-room, plain-bank)

@@ -15,7 +15,7 @@ use Rattle.base.proofs.Seek.{seek-le}
 use Rattle.paper.specs.Read.{value, fault}
 use Rattle.paper.specs.Bytes.{space, field_of}
 use Rattle.paper.specs.Numerals.{digits}
-use Rattle.paper.specs.BankField.{Bank, ninth, readBank}
+use Rattle.paper.specs.BankField.{Bank, ninth, read_bank}
 use Rattle.paper.specs.ItemLine.{is_value}
 use Rattle.numeral.proofs.Sound.{digits-least, digits-most, digits-sound, digits-below}
 use Rattle.numeral.proofs.given.Given.{value-fault, value_same, given-value}
@@ -63,8 +63,8 @@ module _ (s : List ℕ) (at : ℕ) (l : at ≤ length s) (k : is_value (digits 8
       let e : i ≡ seek space (drop at s) = omega arith in
       absurd (omega (arith, rw (← e) at (behind (omega arith)))))
 
-  pub from_end : length s ≤ at + 8 → at + 8 ≡ at + seek space (drop at s)
-  from_end h = omega (arith, least, inside)
+  pub from-end : length s ≤ at + 8 → at + 8 ≡ at + seek space (drop at s)
+  from-end h = omega (arith, least, inside)
 
   pub from-space : get_or s (at + 8) 0 ≤ 32 → at + 8 ≡ at + seek space (drop at s)
   from-space low = ends 8 least low
@@ -97,18 +97,18 @@ module _ (s : List ℕ) (at : ℕ) (l : at ≤ length s) (k : is_value (digits 8
         let z : length (field_of (drop at s)) ≡ 8 = omega (arith, field-long (drop at s), least) in
         omega (arith, rw z at (digits-below 8 10 (field_of (drop at s)) m e))
 
-pub ruleset froms = (from_end, from-space, nine-end, nine-space, ten-digits)
+pub ruleset froms = (from-end, from-space, nine-end, nine-space, ten-digits)
 
 pub ruleset ninths = (ninth-place, ninth-there, ninth-none)
 
 -- ---- what the field says, by its ninth digit from the right, its bank and its constant symbol
 
-unfoldable pub bankBy : ℕ → ℕ → ℕ → Bank
-bankBy d b c = record { bank = b; constant = c; priority = pick (ltb d 3) 5 d; warnings = pick (ltb d 1) 0 (pick (ltb d 3) 1 0) }
+unfoldable pub bank_by : ℕ → ℕ → ℕ → Bank
+bank_by d b c = record { bank = b; constant = c; priority = pick (ltb d 3) 5 d; warnings = pick (ltb d 1) 0 (pick (ltb d 3) 1 0) }
 
 module _ (n : ℕ) (x : Bank) where
-  by-ninth : (ranked : Bool) → ninth ranked (n / 100000000) (n / 10000 % 10000) (n % 10000) ≡ value x → x ≡ bankBy (n / 100000000) (n / 10000 % 10000) (n % 10000)
-  unfolding ninth bankBy pick
+  by-ninth : (ranked : Bool) → ninth ranked (n / 100000000) (n / 10000 % 10000) (n % 10000) ≡ value x → x ≡ bank_by (n / 100000000) (n / 10000 % 10000) (n % 10000)
+  unfolding ninth bank_by pick
   by-ninth true e = sym (value_same _ _ e)
   by-ninth false e =
       by-test (eqb (n / 100000000) 0)
@@ -119,7 +119,7 @@ module _ (n : ℕ) (x : Bank) where
 
   behind-digits : (ranked : Bool)
       → pick (eqb (n / 10000 % 10000) 0) (fault 12) (pick (ltb 999999999 n) (fault 13) (ninth ranked (n / 100000000) (n / 10000 % 10000) (n % 10000))) ≡ value x
-      → (n ≤ 999999999) × (x ≡ bankBy (n / 100000000) (n / 10000 % 10000) (n % 10000))
+      → (n ≤ 999999999) × (x ≡ bank_by (n / 100000000) (n / 10000 % 10000) (n % 10000))
   unfolding pick
   behind-digits ranked e =
       by-test (eqb (n / 10000 % 10000) 0)
@@ -128,11 +128,11 @@ module _ (n : ℕ) (x : Bank) where
 
 -- ---- at its place in the line
 
-module _ (ranked : Bool) (s : List ℕ) (at : ℕ) (k : is_value (readBank ranked (field_of (drop at s))) ≡ true) where
+module _ (ranked : Bool) (s : List ℕ) (at : ℕ) (k : is_value (read_bank ranked (field_of (drop at s))) ≡ true) where
   pub bank-digits : is_value (digits 8 10 (field_of (drop at s))) ≡ true
-  unfolding readBank is_value
+  unfolding read_bank is_value
   bank-digits =
-      let x = some-value (readBank ranked (field_of (drop at s))) k in
+      let x = some-value (read_bank ranked (field_of (drop at s))) k in
       let m = given-value _ (digits 8 10 (field_of (drop at s))) x.0 x.1 in
       rw m.1
 
@@ -170,32 +170,32 @@ module _ (ranked : Bool) (s : List ℕ) (at : ℕ) (k : is_value (readBank ranke
         ninth-taken : n ≤ 999999999 → d ≡ n / 100000000
         ninth-taken g = omega (arith, fd n e)
 
-      bank-at : (x : Bank) → readBank ranked (field_of (drop at s)) ≡ value x → found (bankBy d b c) (from + 8) ≡ field_at (readBank ranked) s at
-      unfolding readBank
+      bank-at : (x : Bank) → read_bank ranked (field_of (drop at s)) ≡ value x → found (bank_by d b c) (from + 8) ≡ field_at (read_bank ranked) s at
+      unfolding read_bank
       bank-at x f =
           let v = given-value _ (digits 8 10 (field_of (drop at s))) x f in
           let w = behind-digits v.0 x ranked v.2 in
-          at_value (readBank ranked) s at x (bankBy d b c) (from + 8) f
+          at_value (read_bank ranked) s at x (bank_by d b c) (from + 8) f
           (rw (ninth-taken v.0 v.1 w.0, bank-taken v.0 v.1, constant-taken v.0 v.1) (sym w.1))
           h
 
-      bank-is : found (bankBy d b c) (from + 8) ≡ field_at (readBank ranked) s at
-      bank-is = let x = some-value (readBank ranked (field_of (drop at s))) k in bank-at x.0 x.1
+      bank-is : found (bank_by d b c) (from + 8) ≡ field_at (read_bank ranked) s at
+      bank-is = let x = some-value (read_bank ranked (field_of (drop at s))) k in bank-at x.0 x.1
 
       -- the three answers
-      abbrev bankOf : ℕ → ℕ → Bank
-      bankOf p w = record { bank = b; constant = c; priority = p; warnings = w }
+      abbrev bank_of : ℕ → ℕ → Bank
+      bank_of p w = record { bank = b; constant = c; priority = p; warnings = w }
 
-      pub bank-none : d < 1 → found (bankOf 5 0) (from + 8) ≡ field_at (readBank ranked) s at
-      unfolding bankBy pick
+      pub bank-none : d < 1 → found (bank_of 5 0) (from + 8) ≡ field_at (read_bank ranked) s at
+      unfolding bank_by pick
       bank-none g = simp (lt-ltb d 1 g, lt-ltb d 3 (omega arith)) at bank-is
 
-      pub bank-low : 1 ≤ d → d < 3 → found (bankOf 5 1) (from + 8) ≡ field_at (readBank ranked) s at
-      unfolding bankBy pick
-      bank-low u g = simp (le-ltb d 1 u, lt-ltb d 3 g) at bank-is
+      pub bank_low : 1 ≤ d → d < 3 → found (bank_of 5 1) (from + 8) ≡ field_at (read_bank ranked) s at
+      unfolding bank_by pick
+      bank_low u g = simp (le-ltb d 1 u, lt-ltb d 3 g) at bank-is
 
-      pub bank-high : 3 ≤ d → found (bankOf d 0) (from + 8) ≡ field_at (readBank ranked) s at
-      unfolding bankBy pick
+      pub bank-high : 3 ≤ d → found (bank_of d 0) (from + 8) ≡ field_at (read_bank ranked) s at
+      unfolding bank_by pick
       bank-high u = simp (le-ltb d 1 (omega arith), le-ltb d 3 u) at bank-is
 
-pub ruleset banks = (bank-digits, bank-place, constant-place, bank-none, bank-low, bank-high)
+pub ruleset banks = (bank-digits, bank-place, constant-place, bank-none, bank_low, bank-high)

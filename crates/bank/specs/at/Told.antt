@@ -4,5 +4,5 @@ use Rattle.numeral.specs.field.At.{At, found}
 use Rattle.bank.specs.declared.at.Bank.{Bank}
 
 -- it has its values, and its end
-abbrev pub toldBank : Bank → At paper.Bank
-toldBank r = found (record { bank = r.bank; constant = r.constant; priority = r.priority; warnings = r.warnings }) r.end
+abbrev pub told_bank : Bank → At paper.Bank
+told_bank r = found (record { bank = r.bank; constant = r.constant; priority = r.priority; warnings = r.warnings }) r.end

@@ -5,9 +5,9 @@ use Rattle.paper.specs.Read.{Field, value, fault}
 use Rattle.paper.specs.BankField.{Bank}
 
 -- how many warnings the field gives
-abbrev pub warningsOf : Bank → ℕ
-warningsOf b = b.warnings
+abbrev pub warnings_of : Bank → ℕ
+warnings_of b = b.warnings
 
 -- how many the ninth digit from the right gives, or 13
-unfoldable pub warnedBy : Bool → ℕ → Field ℕ
-warnedBy ranked d = pick (ltb d 1) (value 0) (pick ranked (pick (ltb d 3) (value 1) (value 0)) (fault 13))
+unfoldable pub warned_by : Bool → ℕ → Field ℕ
+warned_by ranked d = pick (ltb d 1) (value 0) (pick ranked (pick (ltb d 3) (value 1) (value 0)) (fault 13))

@@ -12,9 +12,9 @@ use Rattle.base.specs.Seek.{all, seek}
 use Rattle.base.proofs.Cases.{by-test}
 use Rattle.base.proofs.Seek.{seek-over}
 use Rattle.paper.specs.Read.{Field, value, fault, given}
-use Rattle.paper.specs.Bytes.{isDigit, space, field_of}
-use Rattle.paper.specs.Numerals.{digitsOn, digits}
-use Rattle.paper.specs.Days.{realDay, real, shortDay, readDay, dueAllowed, readDue}
+use Rattle.paper.specs.Bytes.{is_digit, space, field_of}
+use Rattle.paper.specs.Numerals.{digits_on, digits}
+use Rattle.paper.specs.Days.{real_day, real, short_day, read_day, due_allowed, read_due}
 use Rattle.numeral.proofs.Plain.{range-digit}
 use Rattle.numeral.specs.declared.Num.{Num}
 use Rattle.numeral.specs.declared.Num.TheVariants as num
@@ -46,13 +46,13 @@ pair s i l =
     let z : i + 1 + 1 ≡ i + 2 = omega arith in
     one s i (omega arith) ∙ ap (λ t. get_or s i 0 ∷ t) (rw z at (one s (i + 1) l))
 
-module _ (a b c d e f : ℕ) (ha : isDigit a ≡ true) (hb : isDigit b ≡ true) (hc : isDigit c ≡ true) (hd : isDigit d ≡ true) (he : isDigit e ≡ true) (hf : isDigit f ≡ true) where
-  six-all : all isDigit (a ∷ b ∷ c ∷ d ∷ e ∷ f ∷ []) ≡ true
+module _ (a b c d e f : ℕ) (ha : is_digit a ≡ true) (hb : is_digit b ≡ true) (hc : is_digit c ≡ true) (hd : is_digit d ≡ true) (he : is_digit e ≡ true) (hf : is_digit f ≡ true) where
+  six-all : all is_digit (a ∷ b ∷ c ∷ d ∷ e ∷ f ∷ []) ≡ true
   unfolding all pick
   six-all = simp (ha, hb, hc, hd, he, hf)
 
   six-read : digits 6 6 (a ∷ b ∷ c ∷ d ∷ e ∷ f ∷ []) ≡ value ((((((0 * 10 + (a - 48)) * 10 + (b - 48)) * 10 + (c - 48)) * 10 + (d - 48)) * 10 + (e - 48)) * 10 + (f - 48))
-  unfolding digits digitsOn pick
+  unfolding digits digits_on pick
   six-read = simp (ha, hb, hc, hd, he, hf)
 
 -- the number DDMMRR as a day
@@ -80,7 +80,7 @@ module _ (s : List ℕ) (at : ℕ) (l : length s ≡ at + 6) where
       rw (p, q, r, n)
 
   module _ (k m y : ℕ) (a : Two (get_or s at 0) (get_or s (at + 1) 0) k) (hk : k ≤ 99) (b : Two (get_or s (at + 2) 0) (get_or s (at + 2 + 1) 0) m) (hm : m ≤ 99) (c : Two (get_or s (at + 4) 0) (get_or s (at + 4 + 1) 0) y) (hy : y ≤ 99) where
-    spell-all : all isDigit (drop at s) ≡ true
+    spell-all : all is_digit (drop at s) ≡ true
     spell-all =
         let p = a.number hk in
         let q = b.number hm in
@@ -96,8 +96,8 @@ module _ (s : List ℕ) (at : ℕ) (l : length s ≡ at + 6) where
         (six-read _ _ _ _ _ _ (range-digit _ p.0 p.1) (range-digit _ p.2 p.3) (range-digit _ q.0 q.1) (range-digit _ q.2 q.3) (range-digit _ r.0 r.1) (range-digit _ r.2 r.3)
         ∙ ap value (omega (arith, p.4, q.4, r.4)))
 
-    spell-day : shortDay (drop at s) ≡ real (20000000 + y * 10000 + m * 100 + k)
-    unfolding shortDay given
+    spell-day : short_day (drop at s) ≡ real (20000000 + y * 10000 + m * 100 + k)
+    unfolding short_day given
     spell-day = rw spell-read (ap real (turned k m y hk hm hy))
 
     pub spell-six : Spelled (drop at s) (20000000 + y * 10000 + m * 100 + k)
@@ -105,51 +105,51 @@ module _ (s : List ℕ) (at : ℕ) (l : length s ≡ at + 6) where
 
 -- ---- `if_due` and `due_at`
 
-pub is_real : (d : ℕ) (t : Bool) → t ≡ realDay d → t ≡ true → realDay d ≡ true
-is_real d t g h = sym g ∙ h
+pub is-real : (d : ℕ) (t : Bool) → t ≡ real_day d → t ≡ true → real_day d ≡ true
+is-real d t g h = sym g ∙ h
 
 -- digits alone are one field
-digits-field : (f : List ℕ) → all isDigit f ≡ true → seek space f ≡ length f
-unfolding isDigit seek pick
+digits-field : (f : List ℕ) → all is_digit f ≡ true → seek space f ≡ length f
+unfolding is_digit seek pick
 digits-field f h =
-    let a : all isDigit (take (length f) f) ≡ true = rw take-length h in
-    seek-over isDigit 32 refl (length f) f (omega arith) a ∙ rw drop-length (omega arith)
+    let a : all is_digit (take (length f) f) ≡ true = rw take-length h in
+    seek-over is_digit 32 refl (length f) f (omega arith) a ∙ rw drop-length (omega arith)
 
 module _ (long here early : Bool) (ahead today : ℕ) where
   -- a real day is judged as a due date
-  judged : (d : ℕ) → given (real d) (λ day. pick (dueAllowed here early ahead today day) (value day) (fault 11)) ≡ pick (realDay d) (pick (dueAllowed here early ahead today d) (value d) (fault 11)) (fault 11)
+  judged : (d : ℕ) → given (real d) (λ day. pick (due_allowed here early ahead today day) (value day) (fault 11)) ≡ pick (real_day d) (pick (due_allowed here early ahead today d) (value d) (fault 11)) (fault 11)
   unfolding real given pick
-  judged d = by-test (realDay d) (λ y. simp y) (λ n. simp n)
+  judged d = by-test (real_day d) (λ y. simp y) (λ n. simp n)
 
   pub spelled-due : (r : At ℕ) (s : List ℕ) (at : ℕ) → length s - at ≡ 6 → (d : ℕ) → Spelled (drop at s) d → 0 < d
-      → r ≡ ending (length s) (pick (realDay d) (pick (dueAllowed here early ahead today d) (value d) (fault 11)) (fault 11)) → r ≡ field_at (readDue long here early ahead today) s at
-  unfolding field_at readDue
+      → r ≡ ending (length s) (pick (real_day d) (pick (due_allowed here early ahead today d) (value d) (fault 11)) (fault 11)) → r ≡ field_at (read_due long here early ahead today) s at
+  unfolding field_at read_due
   spelled-due r s at l d w h q =
       let n : length (drop at s) ≡ 6 = omega (arith, length-drop at s) in
       let k : seek space (drop at s) ≡ length (drop at s) = digits-field (drop at s) (w.day h).0 in
       let e : at + seek space (drop at s) ≡ length s = omega arith in
       let o : field_of (drop at s) ≡ drop at s = rw k (take-length (drop at s)) in
-      let g : readDay long (drop at s) ≡ real d = sym (other_length (shortDay (drop at s)) (drop at s) long (λ z. omega arith) refl) ∙ (w.day h).1 in
+      let g : read_day long (drop at s) ≡ real d = sym (other_length (short_day (drop at s)) (drop at s) long (λ z. omega arith) refl) ∙ (w.day h).1 in
       q ∙ rw (e, o, g, judged d)
 
 -- the field by its bytes, up to its end e: m is what the reader of days answered
-module _ (s : List ℕ) (at e : ℕ) (h : e ≡ at + seek space (drop at s)) (long : Bool) (m : Num) (g : number.told m ≡ readDay long (take (e - at) (drop at s))) where
-  pub whole-real : (d : ℕ) → m ≡ num.Value d → realDay d ≡ true
+module _ (s : List ℕ) (at e : ℕ) (h : e ≡ at + seek space (drop at s)) (long : Bool) (m : Num) (g : number.told m ≡ read_day long (take (e - at) (drop at s))) where
+  pub whole-real : (d : ℕ) → m ≡ num.Value d → real_day d ≡ true
   whole-real d f = day-told long (take (e - at) (drop at s)) m d g f
 
   module _ (here early : Bool) (ahead today : ℕ) where
-    whole-day : (x : Field ℕ) → number.told m ≡ x → ending e (given x (λ d. pick (dueAllowed here early ahead today d) (value d) (fault 11))) ≡ field_at (readDue long here early ahead today) s at
-    unfolding field_at readDue
+    whole-day : (x : Field ℕ) → number.told m ≡ x → ending e (given x (λ d. pick (due_allowed here early ahead today d) (value d) (fault 11))) ≡ field_at (read_due long here early ahead today) s at
+    unfolding field_at read_due
     whole-day x q =
         let d : e - at ≡ seek space (drop at s) = omega arith in
-        let z : x ≡ readDay long (field_of (drop at s)) = sym q ∙ (g ∙ rw d) in
+        let z : x ≡ read_day long (field_of (drop at s)) = sym q ∙ (g ∙ rw d) in
         rw (← h, z)
 
-    pub whole-due : (r : At ℕ) (d : ℕ) → m ≡ num.Value d → r ≡ ending e (pick (dueAllowed here early ahead today d) (value d) (fault 11)) → r ≡ field_at (readDue long here early ahead today) s at
+    pub whole-due : (r : At ℕ) (d : ℕ) → m ≡ num.Value d → r ≡ ending e (pick (due_allowed here early ahead today d) (value d) (fault 11)) → r ≡ field_at (read_due long here early ahead today) s at
     unfolding given
     whole-due r d f q = q ∙ whole-day (value d) (rw f)
 
-    pub whole-no-due : (n : ℕ) → m ≡ num.Refused n → missed n ≡ field_at (readDue long here early ahead today) s at
+    pub whole-no-due : (n : ℕ) → m ≡ num.Refused n → missed n ≡ field_at (read_due long here early ahead today) s at
     unfolding given ending
     whole-no-due n f = whole-day (fault n) (rw f)
 

@@ -11,7 +11,7 @@ use lib.Seq.{take_all}
 use Rattle.base.specs.Seek.{all}
 use Rattle.paper.specs.Read.{value}
 use Rattle.paper.specs.Numerals.{digits}
-use Rattle.paper.specs.Days.{realDay, real, shortDay, longDay}
+use Rattle.paper.specs.Days.{real_day, real, short_day, long_day}
 use Rattle.paper.specs.ItemLine.{is_value}
 use Rattle.numeral.proofs.Sound.{same, digits-plain, digits-least, digits-most, digits-sound}
 use Rattle.numeral.proofs.given.Given.{given-value}
@@ -38,14 +38,14 @@ module _ (n : ℕ) (s : List ℕ) (at v : ℕ) (h : digits n n (drop at s) ≡ v
 -- a real day is left as it is
 real_same : (d v : ℕ) → real d ≡ value v → v ≡ d
 unfolding real
-real_same d v h = kept (realDay d) 11 d v h
+real_same d v h = kept (real_day d) 11 d v h
 
 -- ---- DDMMRR
 
-abbrev pub dayOf : ℕ → ℕ
-dayOf n = (2000 + n % 100) * 10000 + n / 100 % 100 * 100 + n / 10000
+abbrev pub day_of : ℕ → ℕ
+day_of n = (2000 + n % 100) * 10000 + n / 100 % 100 * 100 + n / 10000
 
-of_three : (d m y : ℕ) → m < 100 → y < 100 → dayOf ((d * 100 + m) * 100 + y) ≡ (2000 + y) * 10000 + m * 100 + d
+of_three : (d m y : ℕ) → m < 100 → y < 100 → day_of ((d * 100 + m) * 100 + y) ≡ (2000 + y) * 10000 + m * 100 + d
 of_three d m y h k =
     let a : ((d * 100 + m) * 100 + y) % 100 ≡ y = omega arith in
     let q : ((d * 100 + m) * 100 + y) / 100 ≡ d * 100 + m = omega arith in
@@ -54,13 +54,13 @@ of_three d m y h k =
     let c : ((d * 100 + m) * 100 + y) / 10000 ≡ d = omega arith in
     rw (a, b, c)
 
-module _ (s : List ℕ) (at : ℕ) (h : is_value (shortDay (drop at s)) ≡ true) where
-  short-some : (d : ℕ) × (shortDay (drop at s) ≡ value d)
-  short-some = some-value (shortDay (drop at s)) h
+module _ (s : List ℕ) (at : ℕ) (h : is_value (short_day (drop at s)) ≡ true) where
+  short-some : (d : ℕ) × (short_day (drop at s) ≡ value d)
+  short-some = some-value (short_day (drop at s)) h
 
-  short-digits : (n : ℕ) × (digits 6 6 (drop at s) ≡ value n) × (real (dayOf n) ≡ value short-some.0)
-  unfolding shortDay
-  short-digits = given-value (λ n. real (dayOf n)) (digits 6 6 (drop at s)) short-some.0 short-some.1
+  short-digits : (n : ℕ) × (digits 6 6 (drop at s) ≡ value n) × (real (day_of n) ≡ value short-some.0)
+  unfolding short_day
+  short-digits = given-value (λ n. real (day_of n)) (digits 6 6 (drop at s)) short-some.0 short-some.1
 
   six-placed : Placed 6 s at
   six-placed = tail-placed 6 s at short-digits.0 short-digits.1 (omega arith)
@@ -81,12 +81,12 @@ module _ (s : List ℕ) (at : ℕ) (h : is_value (shortDay (drop at s)) ≡ true
   year-room l = omega (arith, six-placed.inside)
 
   pub short-is : (d m y : ℕ) → digits 2 2 (take 2 (drop at s)) ≡ value d → digits 2 2 (take 2 (drop (at + 2) s)) ≡ value m → digits 2 2 (take 2 (drop (at + 4) s)) ≡ value y
-      → value ((2000 + y) * 10000 + m * 100 + d) ≡ shortDay (drop at s)
+      → value ((2000 + y) * 10000 + m * 100 + d) ≡ short_day (drop at s)
   short-is d m y f g k =
       let all = placed-join 4 2 s at (d * 100 + m) y (placed-join 2 2 s at d m f g) k in
       let n : short-digits.0 ≡ (d * 100 + m) * 100 + y = same _ _ (sym (tail-digits 6 s at short-digits.0 short-digits.1) ∙ all) in
       let e = of_three d m y (digits-sound 2 2 _ m g) (digits-sound 2 2 _ y k) in
-      ap (λ (x : ℕ). value x) (sym e ∙ (sym (ap dayOf n) ∙ sym (real_same (dayOf short-digits.0) short-some.0 short-digits.2))) ∙ sym short-some.1
+      ap (λ (x : ℕ). value x) (sym e ∙ (sym (ap day_of n) ∙ sym (real_same (day_of short-digits.0) short-some.0 short-digits.2))) ∙ sym short-some.1
 
 module _ (u : List ℕ) (y : ℕ) (k : digits 2 2 u ≡ value y) where
   pub year-fits : Fits w64 (2000 + y)
@@ -109,12 +109,12 @@ pub ruleset shorts = (day-placed, month-placed, year-placed, month-room, year-ro
 
 -- ---- RRRRMMDD
 
-module _ (s : List ℕ) (at : ℕ) (h : is_value (longDay (drop at s)) ≡ true) where
-  long-some : (d : ℕ) × (longDay (drop at s) ≡ value d)
-  long-some = some-value (longDay (drop at s)) h
+module _ (s : List ℕ) (at : ℕ) (h : is_value (long_day (drop at s)) ≡ true) where
+  long-some : (d : ℕ) × (long_day (drop at s) ≡ value d)
+  long-some = some-value (long_day (drop at s)) h
 
   long-digits : (n : ℕ) × (digits 8 8 (drop at s) ≡ value n) × (real n ≡ value long-some.0)
-  unfolding longDay
+  unfolding long_day
   long-digits = given-value real (digits 8 8 (drop at s)) long-some.0 long-some.1
 
   eight-placed : Placed 8 s at
@@ -129,7 +129,7 @@ module _ (s : List ℕ) (at : ℕ) (h : is_value (longDay (drop at s)) ≡ true)
   pub eight-room : length s < 18446744073709551616 → Fits w64 (at + 4)
   eight-room l = omega (arith, eight-placed.inside)
 
-  pub long-is : (a b : ℕ) → digits 4 4 (take 4 (drop at s)) ≡ value a → digits 4 4 (take 4 (drop (at + 4) s)) ≡ value b → value (a * 10000 + b) ≡ longDay (drop at s)
+  pub long-is : (a b : ℕ) → digits 4 4 (take 4 (drop at s)) ≡ value a → digits 4 4 (take 4 (drop (at + 4) s)) ≡ value b → value (a * 10000 + b) ≡ long_day (drop at s)
   long-is a b f g =
       let n : long-digits.0 ≡ a * 10000 + b = same _ _ (sym (tail-digits 8 s at long-digits.0 long-digits.1) ∙ placed-join 4 4 s at a b f g) in
       ap (λ (x : ℕ). value x) (sym n ∙ sym (real_same long-digits.0 long-some.0 long-digits.2)) ∙ sym long-some.1
@@ -146,13 +146,13 @@ pub ruleset longs = (eight-first, eight-second, eight-room, long-is, eight-high,
 -- ---- how long they are
 
 module _ (s : List ℕ) (at d : ℕ) where
-  pub short-long : at ≤ length s → shortDay (drop at s) ≡ value d → length s ≡ at + 6
-  unfolding shortDay
-  short-long l h = let x = given-value (λ n. real (dayOf n)) (digits 6 6 (drop at s)) d h in tail-long 6 s at x.0 x.1 l
+  pub short-long : at ≤ length s → short_day (drop at s) ≡ value d → length s ≡ at + 6
+  unfolding short_day
+  short-long l h = let x = given-value (λ n. real (day_of n)) (digits 6 6 (drop at s)) d h in tail-long 6 s at x.0 x.1 l
 
-  module _ (h : longDay (drop at s) ≡ value d) where
+  module _ (h : long_day (drop at s) ≡ value d) where
     eight : (n : ℕ) × (digits 8 8 (drop at s) ≡ value n) × (real n ≡ value d)
-    unfolding longDay
+    unfolding long_day
     eight = given-value real (digits 8 8 (drop at s)) d h
 
     pub long-long : at ≤ length s → length s ≡ at + 8

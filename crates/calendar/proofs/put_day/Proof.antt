@@ -1,6 +1,6 @@
 -- `put_day` writes a day as it is spelled.
 use borrow.Author.Rules.{rules}
-use Rattle.paper.specs.Days.{spellDay}
+use Rattle.paper.specs.Days.{spell_day}
 use Rattle.calendar.proofs.put_day.Statement.{statement}
 use Rattle.calendar.proofs.put_day.Tie as tie
 
@@ -23,7 +23,7 @@ same_length : tie.Need-same-length
 same_length c = search rules
 
 returns : tie.Need-returns
-unfolding spellDay
+unfolding spell_day
 returns c = search rules
 
 pub put-day-spec : {M : Type 1} → statement M

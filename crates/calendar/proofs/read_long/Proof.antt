@@ -1,6 +1,6 @@
 -- `read_long` reads RRRRMMDD.
 use borrow.Author.Rules.{rules}
-use Rattle.paper.specs.Days.{longDay}
+use Rattle.paper.specs.Days.{long_day}
 use Rattle.calendar.proofs.Reading.{reading}
 use Rattle.calendar.proofs.read_long.Statement.{statement}
 use Rattle.calendar.proofs.read_long.Tie as tie
@@ -18,11 +18,11 @@ enum-known-e : tie.Need-enum-known-e
 enum-known-e c = search rules
 
 returns : tie.Need-returns
-unfolding longDay
+unfolding long_day
 returns c = search reading
 
 returns-2 : tie.Need-returns-2
-unfolding longDay
+unfolding long_day
 returns-2 c = search reading
 
 pub read-long-spec : {M : Type 1} → statement M

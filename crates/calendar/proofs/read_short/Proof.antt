@@ -1,6 +1,6 @@
 -- `read_short` reads DDMMRR.
 use borrow.Author.Rules.{rules}
-use Rattle.paper.specs.Days.{shortDay}
+use Rattle.paper.specs.Days.{short_day}
 use Rattle.calendar.proofs.Reading.{reading}
 use Rattle.calendar.proofs.read_short.Statement.{statement}
 use Rattle.calendar.proofs.read_short.Tie as tie
@@ -33,11 +33,11 @@ enum-known-e : tie.Need-enum-known-e
 enum-known-e c = search rules
 
 returns : tie.Need-returns
-unfolding shortDay
+unfolding short_day
 returns c = search reading
 
 returns-2 : tie.Need-returns-2
-unfolding shortDay
+unfolding short_day
 returns-2 c = search reading
 
 pub read-short-spec : {M : Type 1} → statement M

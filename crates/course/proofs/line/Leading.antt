@@ -12,12 +12,12 @@ use Rattle.sheet.specs.declared.Sheet.{Sheet}
 use Rattle.sheet.proofs.Laws.{Sane}
 use Rattle.paper.specs.Batch.{Header, no_header}
 use Rattle.paper.specs.Lines.{Line}
-use Rattle.paper.specs.Entries.{Entry, counted, headLine, fileLine, fileEnd, kind_of, onHead, onFile, onGroup, on_entry}
+use Rattle.paper.specs.Entries.{Entry, counted, head_line, file_line, file_end, kind_of, on_head, on_file, on_group, on_entry}
 use Rattle.paper.specs.FirstLine.{read_first}
-use Rattle.paper.specs.FileLine.{series, readFile}
-use Rattle.paper.specs.ClosingLine.{readClose}
-use Rattle.paper.specs.Spells.{readAs, differs}
-use Rattle.paper.specs.Judge.{totalBroken}
+use Rattle.paper.specs.FileLine.{series, read_file}
+use Rattle.paper.specs.ClosingLine.{read_close}
+use Rattle.paper.specs.Spells.{read_as, differs}
+use Rattle.paper.specs.Judge.{total_broken}
 use Rattle.fileline.specs.seen.Bits.{Holds}
 use Rattle.scan.specs.declared.line.Cut.{Cut}
 use Rattle.scan.specs.line.Cutting.{Cuts}
@@ -25,16 +25,16 @@ use Rattle.scan.specs.declared.kind.LineKind.{LineKind}
 use Rattle.scan.specs.kind.Told as kinds
 use Rattle.firstline.specs.declared.FirstRead.{FirstRead}
 use Rattle.firstline.specs.declared.FirstRead.TheVariants as firstread
-use Rattle.firstline.specs.Stages.{nameIn}
+use Rattle.firstline.specs.Stages.{name_in}
 use Rattle.firstline.specs.Told as firsts
 use Rattle.fileline.specs.declared.FileRead.{FileRead}
 use Rattle.fileline.specs.declared.FileRead.TheVariants as fileread
-use Rattle.fileline.specs.Fault.{faultIn}
+use Rattle.fileline.specs.Fault.{fault_in}
 use Rattle.fileline.specs.Told as files
 use Rattle.closing.specs.declared.CloseRead.{CloseRead}
 use Rattle.closing.specs.declared.CloseRead.TheVariants as closeread
 use Rattle.closing.specs.Told as closes
-use Rattle.tally.specs.Tally.{No, Tally, tFirst, tFile, tStop, isDue, isFull, meet, onSaid, step, closed}
+use Rattle.tally.specs.Tally.{No, Tally, t_first, t_file, t_stop, is_due, is_full, meet, on_said, step, closed}
 use Rattle.tally.specs.Small.{Small}
 use Rattle.tally.proofs.Small.{small-step, file-limits}
 use Rattle.judge.specs.declared.group.Counts.{Counts}
@@ -46,8 +46,8 @@ use Rattle.judge.specs.declared.group.GroupEnd.{GroupEnd}
 use Rattle.judge.specs.declared.group.GroupEnd.TheVariants as end
 use Rattle.judge.specs.declared.accountfile.Opening.{Opening}
 use Rattle.judge.specs.declared.accountfile.Opening.TheVariants as opening
-use Rattle.judge.specs.group.Stands.{bookOf, shelfOf, openOf, inFile, inGroup, LowItem, LowGroup, lineIn, heldMore, Turns, closedAs}
-use Rattle.judge.specs.accountfile.Resume.{LowFile, fileMore, newShelf, Opens}
+use Rattle.judge.specs.group.Stands.{book_of, shelf_of, open_of, in_file, in_group, LowItem, LowGroup, line_in, held_more, Turns, closed_as}
+use Rattle.judge.specs.accountfile.Resume.{LowFile, file_more, new_shelf, Opens}
 use Rattle.judge.proofs.group.Steps.{not-due, no_room, by-fields}
 use Rattle.judge.proofs.group.Turns.{cut as cut_of, is-kind}
 use Rattle.judge.proofs.accountfile.Files.{says}
@@ -57,48 +57,48 @@ use Rattle.course.specs.declared.Stage.{Stage}
 use Rattle.course.specs.declared.Stage.TheVariants as stage
 use Rattle.course.specs.declared.Move.{Move}
 use Rattle.course.specs.declared.Move.TheVariants as move
-use Rattle.course.specs.Stands.{numbersOf, Low, Leads, atFirst, atFile, atGroup, atItem}
+use Rattle.course.specs.Stands.{numbers_of, Low, Leads, at_first, at_file, at_group, at_item}
 use Rattle.course.proofs.line.Lifts.{leads-halt, leads-on}
 
 -- ---- a line that is not due, in any stage: r is the kind that was found, v its name
 
 pub other-line : (sh : Sheet) (today k : ℕ) (f : List ℕ) (at stop from to : ℕ) (s : Stage) (words : List ℕ) (r : LineKind) → kinds.told r ≡ kind_of (cut_of f at stop)
-    → (v : LineKind) → r ≡ v → ((h : Header) (l : List ℕ) → isDue (numbersOf h l s) (kinds.told v) ≡ false)
-    → Leads sh today k (lineIn f at stop) (record { from = from; to = to; stage = s }) words words move.Halt
+    → (v : LineKind) → r ≡ v → ((h : Header) (l : List ℕ) → is_due (numbers_of h l s) (kinds.told v) ≡ false)
+    → Leads sh today k (line_in f at stop) (record { from = from; to = to; stage = s }) words words move.Halt
 unfolding step
 other-line sh today k f at stop from to stage.First words r t v e d =
-    leads-halt sh today k _ _ words _ λ h l _. not-due sh today k (lineIn f at stop) _ refl (kinds.told v) (is-kind (cut_of f at stop) r t v e _ refl) (d h l)
+    leads-halt sh today k _ _ words _ λ h l _. not-due sh today k (line_in f at stop) _ refl (kinds.told v) (is-kind (cut_of f at stop) r t v e _ refl) (d h l)
 other-line sh today k f at stop from to (stage.File c) words r t v e d =
-    leads-halt sh today k _ _ words _ λ h l _. not-due sh today k (lineIn f at stop) _ refl (kinds.told v) (is-kind (cut_of f at stop) r t v e _ refl) (d h l)
+    leads-halt sh today k _ _ words _ λ h l _. not-due sh today k (line_in f at stop) _ refl (kinds.told v) (is-kind (cut_of f at stop) r t v e _ refl) (d h l)
 other-line sh today k f at stop from to (stage.Group c s) words r t v e d =
-    leads-halt sh today k _ _ words _ λ h l _. not-due sh today k (lineIn f at stop) _ refl (kinds.told v) (is-kind (cut_of f at stop) r t v e _ refl) (d h l)
+    leads-halt sh today k _ _ words _ λ h l _. not-due sh today k (line_in f at stop) _ refl (kinds.told v) (is-kind (cut_of f at stop) r t v e _ refl) (d h l)
 other-line sh today k f at stop from to (stage.Item y) words r t v e d =
-    leads-halt sh today k _ _ words _ λ h l _. not-due sh today k (lineIn f at stop) _ refl (kinds.told v) (is-kind (cut_of f at stop) r t v e _ refl) (d h l)
+    leads-halt sh today k _ _ words _ λ h l _. not-due sh today k (line_in f at stop) _ refl (kinds.told v) (is-kind (cut_of f at stop) r t v e _ refl) (d h l)
 
 -- ---- the first line: r is what was read, v the variant that this was found to be
 
-module _ (sh : Sheet) (f : List ℕ) (at stop : ℕ) (e : kind_of (cut_of f at stop) ≡ headLine) (r : FirstRead) (t : firsts.told (cut_of f at stop) r ≡ read_first sh (cut_of f at stop)) where
-  said : (v : FirstRead) → r ≡ v → (today k : ℕ) → onSaid sh k at (counted (firsts.told (cut_of f at stop) v)) tFirst ≡ step sh today k (lineIn f at stop) tFirst
-  unfolding step isDue isFull readAs
-  said v q today k = by-fields sh today k (lineIn f at stop) tFirst refl headLine e refl refl _ (ap counted (rw q at t))
+module _ (sh : Sheet) (f : List ℕ) (at stop : ℕ) (e : kind_of (cut_of f at stop) ≡ head_line) (r : FirstRead) (t : firsts.told (cut_of f at stop) r ≡ read_first sh (cut_of f at stop)) where
+  said : (v : FirstRead) → r ≡ v → (today k : ℕ) → on_said sh k at (counted (firsts.told (cut_of f at stop) v)) t_first ≡ step sh today k (line_in f at stop) t_first
+  unfolding step is_due is_full read_as
+  said v q today k = by-fields sh today k (line_in f at stop) t_first refl head_line e refl refl _ (ap counted (rw q at t))
 
-  pub first-refused : (n off : ℕ) → r ≡ firstread.Refused n off → (today k from to : ℕ) (words : List ℕ) → Leads sh today k (lineIn f at stop) (atFirst from to) words words move.Halt
-  unfolding onSaid counted
+  pub first-refused : (n off : ℕ) → r ≡ firstread.Refused n off → (today k from to : ℕ) (words : List ℕ) → Leads sh today k (line_in f at stop) (at_first from to) words words move.Halt
+  unfolding on_said counted
   first-refused n off q today k from to words = leads-halt sh today k _ _ words _ λ h l _. said (firstread.Refused n off) q today k
 
   pub first_plain : r ≡ firstread.Plain → (today k from to : ℕ) (words : List ℕ)
-      → Leads sh today k (lineIn f at stop) (atFirst from to) words words (move.On (atFile 0 0 (record { files = 0; items = 0; rows = 0; warnings = 0 })))
-  unfolding onSaid meet on_entry onHead counted
+      → Leads sh today k (line_in f at stop) (at_first from to) words words (move.On (at_file 0 0 (record { files = 0; items = 0; rows = 0; warnings = 0 })))
+  unfolding on_said meet on_entry on_head counted
   first_plain q today k from to words =
       leads-on sh today k _ _ words words _ λ h l known.
       (no_header, [], record { first = refl; last = refl; holds = subst (Holds words) known.fresh known.holds; fresh = tt }, said firstread.Plain q today k)
 
   pub first-fields : (date client from' to' : ℕ) → r ≡ firstread.Header date client from' to' → (today k from to : ℕ) (words : List ℕ)
-      → Leads sh today k (lineIn f at stop) (atFirst from to) words words (move.On (atFile from' to' (record { files = 0; items = 0; rows = 0; warnings = 0 })))
-  unfolding onSaid meet on_entry onHead counted
+      → Leads sh today k (line_in f at stop) (at_first from to) words words (move.On (at_file from' to' (record { files = 0; items = 0; rows = 0; warnings = 0 })))
+  unfolding on_said meet on_entry on_head counted
   first-fields date client from' to' q today k from to words =
       leads-on sh today k _ _ words words _ λ h l known. (
-        record { date = date; name = nameIn (cut_of f at stop); client = client; from = from'; to = to' },
+        record { date = date; name = name_in (cut_of f at stop); client = client; from = from'; to = to' },
         [],
         record { first = refl; last = refl; holds = subst (Holds words) known.fresh known.holds; fresh = tt },
         said (firstread.Header date client from' to') q today k,
@@ -111,28 +111,28 @@ pub ruleset firsts-lead = (first-refused, first_plain, first-fields, nothing-low
 
 -- ---- an account file
 
-module _ (sh : Sheet) (f : List ℕ) (at : ℕ) (c : Counts) (cut : Cut) (cuts : Cuts f at cut) (from to : ℕ) (words : List ℕ) (e : kind_of (cut_of f at cut.stop) ≡ fileLine) where
-  pub file-full : 1000 ≤ c.files → (today k : ℕ) → Leads sh today k (lineIn f at cut.stop) (atFile from to c) words words move.Halt
-  unfolding step isDue isFull
+module _ (sh : Sheet) (f : List ℕ) (at : ℕ) (c : Counts) (cut : Cut) (cuts : Cuts f at cut) (from to : ℕ) (words : List ℕ) (e : kind_of (cut_of f at cut.stop) ≡ file_line) where
+  pub file-full : 1000 ≤ c.files → (today k : ℕ) → Leads sh today k (line_in f at cut.stop) (at_file from to c) words words move.Halt
+  unfolding step is_due is_full
   file-full full today k =
       leads-halt sh today k _ _ words _ λ h l _.
-      no_room sh today k (lineIn f at cut.stop) (tFile (bookOf h l c)) refl fileLine e refl (le-leb _ _ full)
+      no_room sh today k (line_in f at cut.stop) (t_file (book_of h l c)) refl file_line e refl (le-leb _ _ full)
 
-  module _ (room : c.files < 1000) (r : FileRead) (t : files.told r ≡ readFile sh (faultIn sh.interval from to words) (cut_of f at cut.stop)) where
-    pub file-refused : (n off : ℕ) → r ≡ fileread.Refused n off → (today k : ℕ) → Leads sh today k (lineIn f at cut.stop) (atFile from to c) words words move.Halt
-    unfolding onSaid counted
+  module _ (room : c.files < 1000) (r : FileRead) (t : files.told r ≡ read_file sh (fault_in sh.interval from to words) (cut_of f at cut.stop)) where
+    pub file-refused : (n off : ℕ) → r ≡ fileread.Refused n off → (today k : ℕ) → Leads sh today k (line_in f at cut.stop) (at_file from to c) words words move.Halt
+    unfolding on_said counted
     file-refused n off q today k =
         leads-halt sh today k _ _ words _ λ h l known.
         says sh f at k c cut cuts from to words e room r t (fileread.Refused n off) q today h known.first known.last l known.holds
 
     pub file-opened : (kind number : ℕ) → r ≡ fileread.File kind number → (after : List ℕ) → ((l : List ℕ) → Holds words l → Holds after (series number ∷ l))
-        → (more : Counts) → more ≡ fileMore c → (new : Shelf) → new ≡ newShelf kind
-        → (today k : ℕ) → Leads sh today k (lineIn f at cut.stop) (atFile from to c) words after (move.On (atGroup from to more new))
-    unfolding onSaid meet on_entry onFile counted
+        → (more : Counts) → more ≡ file_more c → (new : Shelf) → new ≡ new_shelf kind
+        → (today k : ℕ) → Leads sh today k (line_in f at cut.stop) (at_file from to c) words after (move.On (at_group from to more new))
+    unfolding on_said meet on_entry on_file counted
     file-opened kind number q after marks more y new z today k =
         let w : c.warnings + 0 ≡ c.warnings = omega arith in
         rw (y, z)
-        (leads-on sh today k _ _ words after (atGroup from to (fileMore c) (newShelf kind)) λ h l known. (
+        (leads-on sh today k _ _ words after (at_group from to (file_more c) (new_shelf kind)) λ h l known. (
           h,
           series number ∷ l,
           record { first = known.first; last = known.last; holds = marks l known.holds; fresh = tt },
@@ -140,7 +140,7 @@ module _ (sh : Sheet) (f : List ℕ) (at : ℕ) (c : Counts) (cut : Cut) (cuts :
         ))
 
 -- a new account file's numbers are small
-pub opened-low : (c : Counts) → LowFile c → c.files < 1000 → (kind : ℕ) (more : Counts) → more ≡ fileMore c → (new : Shelf) → new ≡ newShelf kind → LowGroup more new
+pub opened-low : (c : Counts) → LowFile c → c.files < 1000 → (kind : ℕ) (more : Counts) → more ≡ file_more c → (new : Shelf) → new ≡ new_shelf kind → LowGroup more new
 opened-low c low room kind more y new z =
     rw (y, z)
     (record {
@@ -159,40 +159,40 @@ pub ruleset files-lead = (file-full, file-refused, file-opened, opened-low, file
 
 -- ---- a group: r is what its line leads to
 
-module _ (sh : Sheet) (today : ℕ) (f : List ℕ) (at stop k : ℕ) (c : Counts) (s : Shelf) (r : Opening) (opens : Opens sh today (lineIn f at stop) k c s r) (from to : ℕ) where
-  pub group-opened : (x : Held) → r ≡ opening.Group x → (words : List ℕ) → Leads sh today k (lineIn f at stop) (atGroup from to c s) words words (move.On (atItem from to x))
+module _ (sh : Sheet) (today : ℕ) (f : List ℕ) (at stop k : ℕ) (c : Counts) (s : Shelf) (r : Opening) (opens : Opens sh today (line_in f at stop) k c s r) (from to : ℕ) where
+  pub group-opened : (x : Held) → r ≡ opening.Group x → (words : List ℕ) → Leads sh today k (line_in f at stop) (at_group from to c s) words words (move.On (at_item from to x))
   group-opened x q words =
-      let o : Opens sh today (lineIn f at stop) k c s (opening.Group x) = rw q at opens in
+      let o : Opens sh today (line_in f at stop) k c s (opening.Group x) = rw q at opens in
       leads-on sh today k _ _ words words _ λ h l known.
       (h, l, record { first = known.first; last = known.last; holds = known.holds; fresh = tt }, o.same h l)
 
   pub group-low : (x : Held) → r ≡ opening.Group x → LowItem x
-  group-low x q = let o : Opens sh today (lineIn f at stop) k c s (opening.Group x) = rw q at opens in o.low
+  group-low x q = let o : Opens sh today (line_in f at stop) k c s (opening.Group x) = rw q at opens in o.low
 
-  pub group-refused : (n byte : ℕ) → r ≡ opening.Refused n byte → (words : List ℕ) → Leads sh today k (lineIn f at stop) (atGroup from to c s) words words move.Halt
+  pub group-refused : (n byte : ℕ) → r ≡ opening.Refused n byte → (words : List ℕ) → Leads sh today k (line_in f at stop) (at_group from to c s) words words move.Halt
   group-refused n byte q words =
-      let o : Opens sh today (lineIn f at stop) k c s (opening.Refused n byte) = rw q at opens in
+      let o : Opens sh today (line_in f at stop) k c s (opening.Refused n byte) = rw q at opens in
       leads-halt sh today k _ _ words _ λ h l _. o.same h l
 
 pub ruleset groups-lead = (group-opened, group-low, group-refused)
 
 -- ---- the account file's end
 
-module _ (sh : Sheet) (f : List ℕ) (at : ℕ) (c : Counts) (s : Shelf) (cut : Cut) (cuts : Cuts f at cut) (e : kind_of (cut_of f at cut.stop) ≡ fileEnd) (from to : ℕ) where
-  pub end-early : s.groups ≡ 0 → (today k : ℕ) (words : List ℕ) → Leads sh today k (lineIn f at cut.stop) (atGroup from to c s) words words move.Halt
-  unfolding step isDue pick
+module _ (sh : Sheet) (f : List ℕ) (at : ℕ) (c : Counts) (s : Shelf) (cut : Cut) (cuts : Cuts f at cut) (e : kind_of (cut_of f at cut.stop) ≡ file_end) (from to : ℕ) where
+  pub end-early : s.groups ≡ 0 → (today k : ℕ) (words : List ℕ) → Leads sh today k (line_in f at cut.stop) (at_group from to c s) words words move.Halt
+  unfolding step is_due pick
   end-early z today k words =
       leads-halt sh today k _ _ words _ λ h l _.
-      not-due sh today k (lineIn f at cut.stop) (inFile h l c s) refl fileEnd e (simp (eq-eqb _ _ z))
+      not-due sh today k (line_in f at cut.stop) (in_file h l c s) refl file_end e (simp (eq-eqb _ _ z))
 
-  module _ (z : s.groups ≡ 0 → ⊥) (r : CloseRead) (t : (x : Entry) → closes.told x r ≡ readClose sh.near x (cut_of f at cut.stop)) where
-    pub end_refused : (n off : ℕ) → r ≡ closeread.Refused n off → (today k : ℕ) (words : List ℕ) → Leads sh today k (lineIn f at cut.stop) (atGroup from to c s) words words move.Halt
-    unfolding onSaid counted
+  module _ (z : s.groups ≡ 0 → ⊥) (r : CloseRead) (t : (x : Entry) → closes.told x r ≡ read_close sh.near x (cut_of f at cut.stop)) where
+    pub end_refused : (n off : ℕ) → r ≡ closeread.Refused n off → (today k : ℕ) (words : List ℕ) → Leads sh today k (line_in f at cut.stop) (at_group from to c s) words words move.Halt
+    unfolding on_said counted
     end_refused n off q today k words =
         leads-halt sh today k _ _ words _ λ h l _. closed-as sh f at k c s cut cuts e z r t (closeread.Refused n off) q today h l
 
-    pub file-ended : r ≡ closeread.Closed → (today k : ℕ) (words : List ℕ) → Leads sh today k (lineIn f at cut.stop) (atGroup from to c s) words words (move.On (atFile from to c))
-    unfolding onSaid meet on_entry onGroup counted
+    pub file-ended : r ≡ closeread.Closed → (today k : ℕ) (words : List ℕ) → Leads sh today k (line_in f at cut.stop) (at_group from to c s) words words (move.On (at_file from to c))
+    unfolding on_said meet on_entry on_group counted
     file-ended q today k words =
         let w : c.warnings + 0 ≡ c.warnings = omega arith in
         leads-on sh today k _ _ words words _ λ h l known. (
@@ -210,42 +210,42 @@ pub ruleset ends-lead = (end-early, end_refused, file-ended, ended-low)
 -- ---- a group's end: g is what it comes to
 
 -- as the judge's numbers
-abbrev closedTo : Header → List ℕ → GroupEnd → Tally
-closedTo h l (end.Closed at k c s) = inFile h l c s
-closedTo h l (end.Stop n k byte) = tStop (No n k byte)
+abbrev closed_to : Header → List ℕ → GroupEnd → Tally
+closed_to h l (end.Closed at k c s) = in_file h l c s
+closed_to h l (end.Stop n k byte) = t_stop (No n k byte)
 
 closed_is : (sh : Sheet) (h : Header) (l : List ℕ) (at k : ℕ) (x : Held)
-    → closedTo h l (closedAs sh.strict at k x) ≡ closed sh (bookOf h l x.counts) (shelfOf x.shelf) (openOf x.opened) 0
-unfolding closedAs closed pick
+    → closed_to h l (closed_as sh.strict at k x) ≡ closed sh (book_of h l x.counts) (shelf_of x.shelf) (open_of x.opened) 0
+unfolding closed_as closed pick
 closed_is sh h l at k x =
     let o = x.opened in
     let d : x.counts.warnings + (0 + differs o.total o.sum) ≡ x.counts.warnings + differs o.total o.sum = omega arith in
-    by-test (totalBroken sh.strict o.total o.sum) (λ e. simp e refl) (λ e. simp (e, d))
+    by-test (total_broken sh.strict o.total o.sum) (λ e. simp e refl) (λ e. simp (e, d))
 
 -- ---- a line of a group: r is what it says
 
-module _ (sh : Sheet) (today : ℕ) (f : List ℕ) (at stop : ℕ) (x : Held) (r : Turn) (turns : Turns sh today (lineIn f at stop) x r) where
-  says-turn : (v : Turn) → r ≡ v → Turns sh today (lineIn f at stop) x v
+module _ (sh : Sheet) (today : ℕ) (f : List ℕ) (at stop : ℕ) (x : Held) (r : Turn) (turns : Turns sh today (line_in f at stop) x r) where
+  says-turn : (v : Turn) → r ≡ v → Turns sh today (line_in f at stop) x v
   says-turn v q = rw q at turns
 
   module _ (from to : ℕ) where
-    pub item-more : (amount warnings : ℕ) → r ≡ turn.Item amount warnings → (more : Held) → more ≡ heldMore x amount warnings
-        → (k : ℕ) (words : List ℕ) → Leads sh today k (lineIn f at stop) (atItem from to x) words words (move.On (atItem from to more))
+    pub item-more : (amount warnings : ℕ) → r ≡ turn.Item amount warnings → (more : Held) → more ≡ held_more x amount warnings
+        → (k : ℕ) (words : List ℕ) → Leads sh today k (line_in f at stop) (at_item from to x) words words (move.On (at_item from to more))
     item-more amount warnings q more y k words =
         rw y
         (leads-on sh today k _ _ words words _ λ h l known.
         (h, l, record { first = known.first; last = known.last; holds = known.holds; fresh = tt }, (says-turn (turn.Item amount warnings) q).same k h l))
 
-    pub item-stops : (n byte : ℕ) → r ≡ turn.Stop n byte → (k : ℕ) (words : List ℕ) → Leads sh today k (lineIn f at stop) (atItem from to x) words words move.Halt
+    pub item-stops : (n byte : ℕ) → r ≡ turn.Stop n byte → (k : ℕ) (words : List ℕ) → Leads sh today k (line_in f at stop) (at_item from to x) words words move.Halt
     item-stops n byte q k words = leads-halt sh today k _ _ words _ λ h l _. (says-turn (turn.Stop n byte) q).same k h l
 
   -- .. its end, which comes to g, found to be v
-  module _ (q : r ≡ turn.Close) (a b : ℕ) (g : GroupEnd) (y : g ≡ closedAs sh.strict a b x) where
-    comes : (v : GroupEnd) → g ≡ v → (k : ℕ) (h : Header) (l : List ℕ) → closedTo h l v ≡ step sh today k (lineIn f at stop) (inGroup h l x)
-    comes v z k h l = ap (closedTo h l) (sym z ∙ y) ∙ (closed_is sh h l a b x ∙ (says-turn turn.Close q).same k h l)
+  module _ (q : r ≡ turn.Close) (a b : ℕ) (g : GroupEnd) (y : g ≡ closed_as sh.strict a b x) where
+    comes : (v : GroupEnd) → g ≡ v → (k : ℕ) (h : Header) (l : List ℕ) → closed_to h l v ≡ step sh today k (line_in f at stop) (in_group h l x)
+    comes v z k h l = ap (closed_to h l) (sym z ∙ y) ∙ (closed_is sh h l a b x ∙ (says-turn turn.Close q).same k h l)
 
     pub item-closes : (at' k' : ℕ) (c : Counts) (s : Shelf) → g ≡ end.Closed at' k' c s → (from to k : ℕ) (words : List ℕ)
-        → Leads sh today k (lineIn f at stop) (atItem from to x) words words (move.On (atGroup from to c s))
+        → Leads sh today k (line_in f at stop) (at_item from to x) words words (move.On (at_group from to c s))
     item-closes at' k' c s z from to k words =
         leads-on sh today k _ _ words words _ λ h l known.
         (h, l, record { first = known.first; last = known.last; holds = known.holds; fresh = tt }, comes (end.Closed at' k' c s) z k h l)
@@ -253,10 +253,10 @@ module _ (sh : Sheet) (today : ℕ) (f : List ℕ) (at stop : ℕ) (x : Held) (r
     pub closes-low : Sane sh → LowItem x → (at' k' : ℕ) (c : Counts) (s : Shelf) → g ≡ end.Closed at' k' c s → LowGroup c s
     unfolding Small
     closes-low sane low at' k' c s z =
-        subst Small (sym (comes (end.Closed at' k' c s) z 0 no_header [])) (small-step sh sane today 0 (lineIn f at stop) (inGroup no_header [] x) low)
+        subst Small (sym (comes (end.Closed at' k' c s) z 0 no_header [])) (small-step sh sane today 0 (line_in f at stop) (in_group no_header [] x) low)
 
     pub item-broken : (n k' byte : ℕ) → g ≡ end.Stop n k' byte → (from to k : ℕ) (words : List ℕ)
-        → Leads sh today k (lineIn f at stop) (atItem from to x) words words move.Halt
+        → Leads sh today k (line_in f at stop) (at_item from to x) words words move.Halt
     item-broken n k' byte z from to k words = leads-halt sh today k _ _ words _ λ h l _. comes (end.Stop n k' byte) z k h l
 
 -- ---- any line: the stage was found to be what it is
@@ -280,15 +280,15 @@ module _ (x : Course) where
   by-stage sh today k t before after r s e p = rw (← e) at p
 
   module _ (sh : Sheet) (t : Line) (r : Move) where
-    pub in_group : (c : Counts) (s : Shelf) → x.stage ≡ stage.Group c s → (today k : ℕ) → ((words : List ℕ) → Leads sh today k t (atGroup x.from x.to c s) words words r)
+    pub in-group : (c : Counts) (s : Shelf) → x.stage ≡ stage.Group c s → (today k : ℕ) → ((words : List ℕ) → Leads sh today k t (at_group x.from x.to c s) words words r)
         → (words : List ℕ) → Leads sh today k t x words words r
-    in_group c s e today k h words = by-stage sh today k t words words r (stage.Group c s) e (h words)
+    in-group c s e today k h words = by-stage sh today k t words words r (stage.Group c s) e (h words)
 
-    pub in-file : (c : Counts) → x.stage ≡ stage.File c → (before after : List ℕ) → ((today k : ℕ) → Leads sh today k t (atFile x.from x.to c) before after r)
+    pub in-file : (c : Counts) → x.stage ≡ stage.File c → (before after : List ℕ) → ((today k : ℕ) → Leads sh today k t (at_file x.from x.to c) before after r)
         → (today k : ℕ) → Leads sh today k t x before after r
     in-file c e before after h today k = by-stage sh today k t before after r (stage.File c) e (h today k)
 
-    pub in-first : x.stage ≡ stage.First → ((today k from to : ℕ) (words : List ℕ) → Leads sh today k t (atFirst from to) words words r)
+    pub in-first : x.stage ≡ stage.First → ((today k from to : ℕ) (words : List ℕ) → Leads sh today k t (at_first from to) words words r)
         → (today k : ℕ) (words : List ℕ) → Leads sh today k t x words words r
     in-first e h today k words = by-stage sh today k t words words r stage.First e (h today k x.from x.to words)
 
@@ -299,6 +299,6 @@ module _ (x : Course) where
     pub stage-file : (c : Counts) → x.stage ≡ stage.File c → LowFile c
     stage-file c e = let z : Low (stage.File c) = rw e at low in z
 
-pub ruleset stages = (cut-from, cut-to, in_group, in-file, in-first, stage-group, stage-file)
+pub ruleset stages = (cut-from, cut-to, in-group, in-file, in-first, stage-group, stage-file)
 
 pub ruleset others-halt = (other-line, is-kind, cut-from, cut-to, whenever)

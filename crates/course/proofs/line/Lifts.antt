@@ -6,10 +6,10 @@ use Prim.Native.Nat.{ℕ}
 use Rattle.sheet.specs.declared.Sheet.{Sheet}
 use Rattle.paper.specs.Batch.{Header}
 use Rattle.paper.specs.Lines.{Line}
-use Rattle.paper.specs.Judge.{State, atFirst, atFile, atGroup, atItem, stop}
+use Rattle.paper.specs.Judge.{State, at_first, at_file, at_group, at_item, stop}
 use Rattle.paper.specs.Judge as judge
 use Rattle.fileline.specs.seen.Bits.{Holds}
-use Rattle.tally.specs.Tally.{Brief, Tally, tFirst, tFile, tGroup, tItem, tStop, step}
+use Rattle.tally.specs.Tally.{Brief, Tally, t_first, t_file, t_group, t_item, t_stop, step}
 use Rattle.tally.specs.Abs.{abs}
 use Rattle.tally.proofs.Same.{steps}
 use Rattle.why.specs.Finding.{halted}
@@ -17,26 +17,26 @@ use Rattle.course.specs.declared.Stage.{Stage}
 use Rattle.course.specs.declared.Stage.TheVariants as stage
 use Rattle.course.specs.declared.Course.{Course}
 use Rattle.course.specs.declared.Move.TheVariants as move
-use Rattle.course.specs.Stands.{numbersOf, Fresh, Stands, Leads}
+use Rattle.course.specs.Stands.{numbers_of, Fresh, Stands, Leads}
 
 -- have the numbers come to an answer?
 abbrev ended : Tally → Bool
-ended tFirst = false
-ended (tFile b) = false
-ended (tGroup b s) = false
-ended (tItem b s o) = false
-ended (tStop a) = true
+ended t_first = false
+ended (t_file b) = false
+ended (t_group b s) = false
+ended (t_item b s o) = false
+ended (t_stop a) = true
 
 halted-is : (st : State) → halted st ≡ ended (abs st)
 unfolding halted abs
-halted-is atFirst = refl
-halted-is (atFile x) = refl
-halted-is (atGroup x) = refl
-halted-is (atItem x) = refl
+halted-is at_first = refl
+halted-is (at_file x) = refl
+halted-is (at_group x) = refl
+halted-is (at_item x) = refl
 halted-is (stop a) = refl
 
 -- where a pass stands judging goes on
-stage-going : (h : Header) (l : List ℕ) (s : Stage) → ended (numbersOf h l s) ≡ false
+stage-going : (h : Header) (l : List ℕ) (s : Stage) → ended (numbers_of h l s) ≡ false
 stage-going h l stage.First = refl
 stage-going h l (stage.File c) = refl
 stage-going h l (stage.Group c s) = refl
@@ -57,7 +57,7 @@ known_of s = record { first = s.first; last = s.last; holds = s.holds; fresh = s
 
 module _ (sh : Sheet) (today k : ℕ) (t : Line) (x : Course) (before : List ℕ) where
   -- the line stops the judge
-  pub leads-halt : (b : Brief) → ((h : Header) (l : List ℕ) → Known x before h l → tStop b ≡ step sh today k t (numbersOf h l x.stage))
+  pub leads-halt : (b : Brief) → ((h : Header) (l : List ℕ) → Known x before h l → t_stop b ≡ step sh today k t (numbers_of h l x.stage))
       → Leads sh today k t x before before move.Halt
   leads-halt b e = (
     refl,
@@ -69,7 +69,7 @@ module _ (sh : Sheet) (today k : ℕ) (t : Line) (x : Course) (before : List ℕ
   -- the line leads to y
   pub leads-on : (after : List ℕ) (y : Course)
       → ((h : Header) (l : List ℕ) → Known x before h l
-      → (g : Header) × (m : List ℕ) × Known y after g m × (numbersOf g m y.stage ≡ step sh today k t (numbersOf h l x.stage)))
+      → (g : Header) × (m : List ℕ) × Known y after g m × (numbers_of g m y.stage ≡ step sh today k t (numbers_of h l x.stage)))
       → Leads sh today k t x before after (move.On y)
   leads-on after y e st s =
       let (g, m, kept, q) = e s.header s.earlier (known_of s) in

@@ -8,7 +8,7 @@ use Rattle.sheet.specs.declared.Sheet.{Sheet}
 use Rattle.paper.specs.Batch.{Batch, Header}
 use Rattle.paper.specs.Lines.{lines_of}
 use Rattle.paper.specs.Spells.{Spells}
-use Rattle.paper.specs.Judge.{Answer, Refused, Accepted, atFirst, judge}
+use Rattle.paper.specs.Judge.{Answer, Refused, Accepted, at_first, judge}
 use Rattle.paper.specs.FirstFault.{nothing, FirstFault}
 use Rattle.exact.proofs.Completes.{refused as not-both}
 use Rattle.exact.proofs.Main.{exact}
@@ -21,7 +21,7 @@ module _ (sh : Sheet) (today : ℕ) (f : List ℕ) where
   pub refused : (n l p : ℕ) → judge sh today f ≡ Refused n l p ↔ FirstFault sh today f (Refused n l p)
   unfolding judge
   refused n l p = (
-    λ e. let o = found sh today (length f) n l p (lines_of 0 f) [] atFirst nothing e in
+    λ e. let o = found sh today (length f) n l p (lines_of 0 f) [] at_first nothing e in
         record { before = o.before; after = o.after; split = o.split; so_far = o.so_far; lawful = o.lawful; broken = o.broken },
     λ o. rw o.split (reached sh today (length f) o.lawful o.after ∙ halts sh today (length f) _ o.lawful o.broken),
   )

@@ -7,9 +7,9 @@ use lib.ListN.{length}
 use Rattle.sheet.specs.declared.Sheet.{Sheet}
 use Rattle.paper.specs.Entries.{no}
 use Rattle.paper.specs.Lines.{Line, lines_of}
-use Rattle.paper.specs.Spells.{Context, readLine}
+use Rattle.paper.specs.Spells.{Context, read_line}
 use Rattle.paper.specs.Judge.{Answer, Refused, Accepted, State, context_of, judge}
-use Rattle.paper.specs.FirstFault.{Broken, ends-first, ends-none, ends-file, ends-group, not-due, full, in-line, total}
+use Rattle.paper.specs.FirstFault.{Broken, ends_first, ends_none, ends_file, ends_group, not-due, full, in_line, total}
 use Rattle.paper.proofs.Lists.{length-rev}
 use Rattle.exact.proofs.faults.Main.{refused}
 use Rattle.exact.specs.named.Numbers.{Own, Judged}
@@ -19,7 +19,7 @@ use Rattle.exact.proofs.named.Places.{Within, split-within, lines-within, Kept, 
 
 -- ---- one line: its own refusal is one of 4 to 9 and 11 to 14, and its offset lies in the line
 
-module _ (sh : Sheet) (today : ℕ) (c : Context) (s : List ℕ) (n off : ℕ) (e : readLine sh today c s ≡ no n off) where
+module _ (sh : Sheet) (today : ℕ) (c : Context) (s : List ℕ) (n off : ℕ) (e : read_line sh today c s ≡ no n off) where
   pub line-named : Own n
   line-named = (named-no (rw e at (any-named sh today c s))).0
 
@@ -36,13 +36,13 @@ module _ (sh : Sheet) (today size : ℕ) where
   -- a fault in the lines ts, behind m others
   broken-placed : {m : ℕ} {st : State} {ts : List Line} {a : Answer} → Kept size m st → Within size ts → Broken sh today size (suc m) st ts a
       → Placed size (m + length ts) a
-  broken-placed k w ends-first = ((omega arith, omega arith), omega arith, omega arith, omega arith)
-  broken-placed k w (ends-none _) = ((omega arith, omega arith), omega arith, omega arith, omega arith)
-  broken-placed k w ends-file = ((omega arith, omega arith), omega arith, omega arith, omega arith)
-  broken-placed k w ends-group = ((omega arith, omega arith), omega arith, omega arith, omega arith)
+  broken-placed k w ends_first = ((omega arith, omega arith), omega arith, omega arith, omega arith)
+  broken-placed k w (ends_none _) = ((omega arith, omega arith), omega arith, omega arith, omega arith)
+  broken-placed k w ends_file = ((omega arith, omega arith), omega arith, omega arith, omega arith)
+  broken-placed k w ends_group = ((omega arith, omega arith), omega arith, omega arith, omega arith)
   broken-placed k (h, w) (not-due d) = ((omega arith, omega arith), omega arith, omega arith, omega (arith, h))
   broken-placed k (h, w) (full d f) = ((omega arith, omega arith), omega arith, omega arith, omega (arith, h))
-  broken-placed k (h, w) (in-line {st = st} {t = t} {n = n} {off = off} d f q) =
+  broken-placed k (h, w) (in_line {st = st} {t = t} {n = n} {off = off} d f q) =
       let o = line-named sh today (context_of st) t.bytes n off q in
       let i = line-inside sh today (context_of st) t.bytes n off q in
       ((omega (arith, o.0), omega (arith, o.1)), omega arith, omega arith, omega (arith, h, i))

@@ -1,7 +1,7 @@
 -- What is known of a reading: a refusal has a line's own number and points into the line, and so does the place of a group's total.
 -- Assumes nothing.
 use Prim.Native.Nat.{ℕ, ◌≤◌}
-use Rattle.paper.specs.Entries.{Entry, head, file, group, item, closeGroup, closeFile, Places, Counted, said, no}
+use Rattle.paper.specs.Entries.{Entry, head, file, group, item, close_group, close_file, Places, Counted, said, no}
 use Rattle.exact.specs.named.Numbers.{Own}
 
 -- a group's total begins in a line of that size
@@ -10,8 +10,8 @@ Spotted size (head h) p = Unit {0}
 Spotted size (file k n) p = Unit {0}
 Spotted size (group a t d) p = p.total ≤ size
 Spotted size (item x) p = Unit {0}
-Spotted size closeGroup p = Unit {0}
-Spotted size closeFile p = Unit {0}
+Spotted size close_group p = Unit {0}
+Spotted size close_file p = Unit {0}
 
 pub data Named (size : ℕ) : Counted → Type 0 where
   says : {e : Entry} {w : ℕ} {p : Places} → Spotted size e p → Named size (said e w p)

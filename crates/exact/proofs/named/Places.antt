@@ -7,7 +7,7 @@ use lib.ListN.{length}
 use Rattle.base.proofs.Cases.{either}
 use Rattle.sheet.specs.declared.Sheet.{Sheet}
 use Rattle.paper.specs.Lines.{Line, first, ended, behind, lines_of}
-use Rattle.paper.specs.Judge.{revOn, State, atFirst, atFile, atGroup, atItem, stop, context_of}
+use Rattle.paper.specs.Judge.{rev_on, State, at_first, at_file, at_group, at_item, stop, context_of}
 use Rattle.paper.specs.FirstFault.{Lawful, nothing, header, opens, begins, more, closes, finishes}
 use Rattle.exact.proofs.named.Named.{named-got}
 use Rattle.exact.proofs.named.Lines.{any-named}
@@ -64,7 +64,7 @@ module _ (size : ℕ) where
       (λ _. laid-first i (omega arith) b rest g))
 
   -- of lines before and behind a place
-  pub split-within : (before after : List Line) → Within size (revOn before after) → Within size before × Within size after
+  pub split-within : (before after : List Line) → Within size (rev_on before after) → Within size before × Within size after
   split-within [] after w = (tt, w)
   split-within (t ∷ before) after w = let (b, (h, a)) = split-within before (t ∷ after) w in ((h, b), a)
 
@@ -77,10 +77,10 @@ lines-within f = row_within (length f) 0 (lines_of 0 f) (lines-row f)
 
 -- an open group's total stands in a line that was read, n being their number
 abbrev pub Kept : ℕ → ℕ → State → Type 0
-Kept size n atFirst = Unit {0}
-Kept size n (atFile x) = Unit {0}
-Kept size n (atGroup x) = Unit {0}
-Kept size n (atItem x) = (1 ≤ x.head.line) × (x.head.line ≤ n) × (x.head.byte ≤ size)
+Kept size n at_first = Unit {0}
+Kept size n (at_file x) = Unit {0}
+Kept size n (at_group x) = Unit {0}
+Kept size n (at_item x) = (1 ≤ x.head.line) × (x.head.line ≤ n) × (x.head.byte ≤ size)
 Kept size n (stop a) = Unit {0}
 
 module _ (sh : Sheet) (today size : ℕ) where
@@ -89,7 +89,7 @@ module _ (sh : Sheet) (today size : ℕ) where
   lawful-kept (header l q) w = tt
   lawful-kept (opens l few q) w = tt
   lawful-kept (begins {t = t} {x = x} l q) (here, w) =
-      (omega arith, omega arith, omega (arith, here, named-got (rw q at (any-named sh today (context_of (atGroup x)) t.bytes))))
+      (omega arith, omega arith, omega (arith, here, named-got (rw q at (any-named sh today (context_of (at_group x)) t.bytes))))
   lawful-kept (more l free q) (here, w) = let k = lawful-kept l w in (k.0, omega (arith, k.1), k.2)
   lawful-kept (closes l some q good) w = tt
   lawful-kept (finishes l some q) w = tt

@@ -17,9 +17,9 @@ use Rattle.numeral.specs.declared.Num.{Num}
 use Rattle.numeral.specs.declared.Num.TheVariants.{Value, Refused}
 use Rattle.numeral.proofs.Sound.{digits-sound}
 use Rattle.fileline.specs.seen.Bits.{bit, Holds}
-use Rattle.why.specs.Rule.{Rule, within, firstBroken}
+use Rattle.why.specs.Rule.{Rule, within, first_broken}
 use Rattle.why.specs.Forms.{spelled}
-use Rattle.why.specs.Fields.{isInside, isUnused, numberRules}
+use Rattle.why.specs.Fields.{is_inside, is_unused, number_rules}
 use Rattle.fault.specs.declared.field.Ruling.{Ruling}
 use Rattle.fault.specs.declared.field.Ruling.TheVariants.{Kept, Broke}
 use Rattle.fault.specs.field.Ruled.{ruling}
@@ -29,31 +29,31 @@ use Rattle.fault.proofs.field.Rulings.{first-kept, first-broke, all-kept, digits
 
 module _ (x : Ruling) (first from to : ℕ) (words l s : List ℕ) (h : Holds words l) (q : series (spelled s) ≡ first) where
   abbrev Judged : List Rule
-  Judged = within 9 91 from to (isInside true from to) ∷ within 9 92 from to (isUnused true l) ∷ []
+  Judged = within 9 91 from to (is_inside true from to) ∷ within 9 92 from to (is_unused true l) ∷ []
 
-  inside_is : isInside true from to s ≡ pick (leb from first) (leb first to) false
-  unfolding isInside pick
+  inside_is : is_inside true from to s ≡ pick (leb from first) (leb first to) false
+  unfolding is_inside pick
   inside_is = rw q
 
-  pub series-below : first < from → x ≡ Broke 9 91 from to → x ≡ ruling (firstBroken Judged s)
-  series-below l h = first-broke x s (within 9 91 from to (isInside true from to)) _ (inside_is ∙ pick-false _ _ (lt-leb from first l)) h
+  pub series-below : first < from → x ≡ Broke 9 91 from to → x ≡ ruling (first_broken Judged s)
+  series-below l h = first-broke x s (within 9 91 from to (is_inside true from to)) _ (inside_is ∙ pick-false _ _ (lt-leb from first l)) h
 
   module _ (a : from ≤ first) where
-    pub series-above : to < first → x ≡ Broke 9 91 from to → x ≡ ruling (firstBroken Judged s)
-    series-above l h = first-broke x s (within 9 91 from to (isInside true from to)) _ (inside_is ∙ (pick_true _ _ (le-leb from first a) ∙ lt-leb first to l)) h
+    pub series-above : to < first → x ≡ Broke 9 91 from to → x ≡ ruling (first_broken Judged s)
+    series-above l h = first-broke x s (within 9 91 from to (is_inside true from to)) _ (inside_is ∙ (pick_true _ _ (le-leb from first a) ∙ lt-leb first to l)) h
 
     module _ (b : first ≤ to) (k : Bool) (t : k ≡ bit words first) where
-      inside : isInside true from to s ≡ true
+      inside : is_inside true from to s ≡ true
       inside = inside_is ∙ (pick_true _ _ (le-leb from first a) ∙ le-leb first to b)
 
-      unused-is : isUnused true l s ≡ not k
-      unfolding isUnused pick
+      unused-is : is_unused true l s ≡ not k
+      unfolding is_unused pick
       unused-is = ap not (ap (λ (n : ℕ). member n l) q ∙ sym (t ∙ h first))
 
-      pub series-used : k ≡ true → x ≡ Broke 9 92 from to → x ≡ ruling (firstBroken Judged s)
-      series-used y i = first-kept x s _ _ inside (first-broke x s (within 9 92 from to (isUnused true l)) _ (unused-is ∙ ap not y) i)
+      pub series-used : k ≡ true → x ≡ Broke 9 92 from to → x ≡ ruling (first_broken Judged s)
+      series-used y i = first-kept x s _ _ inside (first-broke x s (within 9 92 from to (is_unused true l)) _ (unused-is ∙ ap not y) i)
 
-      pub series-free : k ≡ false → x ≡ Kept → x ≡ ruling (firstBroken Judged s)
+      pub series-free : k ≡ false → x ≡ Kept → x ≡ ruling (first_broken Judged s)
       series-free y i = first-kept x s _ _ inside (first-kept x s _ _ (unused-is ∙ ap not y) (all-kept x s i))
 
 pub ruleset judged = (series-below, series-above, series-used, series-free)
@@ -65,17 +65,17 @@ module _ (n : Num) (s : List ℕ) (t : told n ≡ digits 6 6 s) where
   small-series v e = let b : v < 10 ^ 6 = digits-sound 6 6 s v (sym t ∙ ap told e) in omega (arith, b)
 
   module _ (x : Ruling) (interval : Bool) (from to : ℕ) (h : Header) (l : List ℕ) (f : h.from ≡ from) (g : h.to ≡ to) where
-    pub number-broke : (m : ℕ) → n ≡ Refused m → x ≡ Broke 4 40 0 0 → x ≡ ruling (firstBroken (numberRules interval (after h l)) s)
+    pub number-broke : (m : ℕ) → n ≡ Refused m → x ≡ Broke 4 40 0 0 → x ≡ ruling (first_broken (number_rules interval (after h l)) s)
     number-broke m e i = digits-broke n s 6 6 t x _ m e i
 
-    pub number-free : (v : ℕ) → n ≡ Value v → interval ≡ false → x ≡ Kept → x ≡ ruling (firstBroken (numberRules interval (after h l)) s)
-    unfolding isInside isUnused
+    pub number-free : (v : ℕ) → n ≡ Value v → interval ≡ false → x ≡ Kept → x ≡ ruling (first_broken (number_rules interval (after h l)) s)
+    unfolding is_inside is_unused
     number-free v e o i =
         digits-then n s 6 6 t x _ v e (first-kept x s _ _ (pick-false _ _ o) (first-kept x s _ _ (pick-false _ _ o) (all-kept x s i)))
 
     pub number-judged : (words : List ℕ) → Holds words l → (v : ℕ) → n ≡ Value v → interval ≡ true
-        → ((m z : List ℕ) → Holds words m → series (spelled z) ≡ v / 1000 → x ≡ ruling (firstBroken (within 9 91 from to (isInside true from to) ∷ within 9 92 from to (isUnused true m) ∷ []) z))
-        → x ≡ ruling (firstBroken (numberRules interval (after h l)) s)
+        → ((m z : List ℕ) → Holds words m → series (spelled z) ≡ v / 1000 → x ≡ ruling (first_broken (within 9 91 from to (is_inside true from to) ∷ within 9 92 from to (is_unused true m) ∷ []) z))
+        → x ≡ ruling (first_broken (number_rules interval (after h l)) s)
     number-judged words k v e o i =
         digits-then n s 6 6 t x _ v e (rw (f, g, o) (i l s k (ap series (spelled_is n s 6 6 t v e))))
 

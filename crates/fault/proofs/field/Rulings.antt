@@ -12,20 +12,20 @@ use Rattle.base.specs.Seek.{all}
 use Rattle.base.proofs.Lists.{drop-none}
 use Rattle.base.proofs.Cases.{by-test, pick_true, pick-false}
 use Rattle.sheet.specs.declared.Sheet.{Sheet}
-use Rattle.sheet.specs.Sheets.{kindAllowed, bankAllowed}
+use Rattle.sheet.specs.Sheets.{kind_allowed, bank_allowed}
 use Rattle.paper.specs.Read.{value, fault}
-use Rattle.paper.specs.Bytes.{isText}
+use Rattle.paper.specs.Bytes.{is_text}
 use Rattle.paper.specs.Numerals.{digits}
-use Rattle.paper.specs.Days.{realDay}
-use Rattle.paper.specs.Amounts.{readAmount}
-use Rattle.paper.specs.FirstLine.{restLength}
+use Rattle.paper.specs.Days.{real_day}
+use Rattle.paper.specs.Amounts.{read_amount}
+use Rattle.paper.specs.FirstLine.{rest_length}
 use Rattle.paper.proofs.Lists.{empty-null}
 use Rattle.numeral.specs.Told.{told}
 use Rattle.numeral.specs.declared.Num.{Num}
 use Rattle.numeral.specs.declared.Num.TheVariants.{Value, Refused}
-use Rattle.why.specs.Rule.{Rule, rule, within, firstBroken}
-use Rattle.why.specs.Forms.{areDigits, spelled, areText, isLong, isDay, shortly, daySpelled, isAmount, amountSpelled}
-use Rattle.why.specs.Fields.{digitRules, is_some, isLow, isReal, dayRules, name_rules, isAfter, is_rest, restRules, isKind, is_code, isSymbol, symbolRules}
+use Rattle.why.specs.Rule.{Rule, rule, within, first_broken}
+use Rattle.why.specs.Forms.{are_digits, spelled, are_text, is_long, is_day, shortly, day_spelled, is_amount, amount_spelled}
+use Rattle.why.specs.Fields.{digit_rules, is_some, is_low, is_real, day_rules, name_rules, is_after, is_rest, rest_rules, is_kind, is_code, is_symbol, symbol_rules}
 use Rattle.why.proofs.Agrees.{digits_are}
 use Rattle.why.proofs.Fields.{amount-is}
 use Rattle.fault.specs.declared.field.Ruling.{Ruling}
@@ -35,21 +35,21 @@ use Rattle.fault.specs.field.Ruled.{ruling}
 -- ---- one rule, and those behind it
 
 module _ (x : Ruling) (s : List ℕ) (r : Rule) (rs : List Rule) where
-  pub first-kept : r.keeps s ≡ true → x ≡ ruling (firstBroken rs s) → x ≡ ruling (firstBroken (r ∷ rs) s)
-  unfolding firstBroken
+  pub first-kept : r.keeps s ≡ true → x ≡ ruling (first_broken rs s) → x ≡ ruling (first_broken (r ∷ rs) s)
+  unfolding first_broken
   first-kept e h = h ∙ ap ruling (sym (pick_true _ _ e))
 
-  pub first-broke : r.keeps s ≡ false → x ≡ Broke r.number r.cause r.least r.most → x ≡ ruling (firstBroken (r ∷ rs) s)
-  unfolding firstBroken ruling
+  pub first-broke : r.keeps s ≡ false → x ≡ Broke r.number r.cause r.least r.most → x ≡ ruling (first_broken (r ∷ rs) s)
+  unfolding first_broken ruling
   first-broke e h = h ∙ ap ruling (sym (pick-false _ _ e))
 
-pub all-kept : (x : Ruling) (s : List ℕ) → x ≡ Kept → x ≡ ruling (firstBroken [] s)
-unfolding firstBroken ruling
+pub all-kept : (x : Ruling) (s : List ℕ) → x ≡ Kept → x ≡ ruling (first_broken [] s)
+unfolding first_broken ruling
 all-kept x s h = h
 
 -- a test that is another one for these bytes
-pub same_test : (s : List ℕ) (n why : ℕ) (p q : List ℕ → Bool) → p s ≡ q s → ruling (firstBroken (rule n why p ∷ []) s) ≡ ruling (firstBroken (rule n why q ∷ []) s)
-unfolding firstBroken ruling pick
+pub same_test : (s : List ℕ) (n why : ℕ) (p q : List ℕ → Bool) → p s ≡ q s → ruling (first_broken (rule n why p ∷ []) s) ≡ ruling (first_broken (rule n why q ∷ []) s)
+unfolding first_broken ruling pick
 same_test s n why p q e = by-test (q s) (λ f. rw (e, f)) (λ f. rw (e, f))
 
 -- ---- a form, and the number that it has: what was read had it, and what was not had not
@@ -72,60 +72,60 @@ worth false w e = absurd (let z : ◌≡◌ {A = ℕ} 0 1 = cc in omega arith)
 -- ---- digits
 
 module _ (n : Num) (s : List ℕ) (a b : ℕ) (t : told n ≡ digits a b s) where
-  pub are-digits : (v : ℕ) → n ≡ Value v → areDigits a b s ≡ true
-  are-digits v e = formed (areDigits a b s) _ (sym (ap told e) ∙ (t ∙ digits_are a b s))
+  pub are-digits : (v : ℕ) → n ≡ Value v → are_digits a b s ≡ true
+  are-digits v e = formed (are_digits a b s) _ (sym (ap told e) ∙ (t ∙ digits_are a b s))
 
-  pub no-digits : (m : ℕ) → n ≡ Refused m → areDigits a b s ≡ false
-  no-digits m e = unformed (areDigits a b s) _ (sym (ap told e) ∙ (t ∙ digits_are a b s))
+  pub no-digits : (m : ℕ) → n ≡ Refused m → are_digits a b s ≡ false
+  no-digits m e = unformed (are_digits a b s) _ (sym (ap told e) ∙ (t ∙ digits_are a b s))
 
   pub spelled_is : (v : ℕ) → n ≡ Value v → spelled s ≡ v
-  spelled_is v e = worth (areDigits a b s) _ (sym (ap told e) ∙ (t ∙ digits_are a b s))
+  spelled_is v e = worth (are_digits a b s) _ (sym (ap told e) ∙ (t ∙ digits_are a b s))
 
   module _ (x : Ruling) (rs : List Rule) where
-    pub digits-then : (v : ℕ) → n ≡ Value v → x ≡ ruling (firstBroken rs s) → x ≡ ruling (firstBroken (rule 4 40 (areDigits a b) ∷ rs) s)
-    digits-then v e h = first-kept x s (rule 4 40 (areDigits a b)) rs (are-digits v e) h
+    pub digits-then : (v : ℕ) → n ≡ Value v → x ≡ ruling (first_broken rs s) → x ≡ ruling (first_broken (rule 4 40 (are_digits a b) ∷ rs) s)
+    digits-then v e h = first-kept x s (rule 4 40 (are_digits a b)) rs (are-digits v e) h
 
-    pub digits-broke : (m : ℕ) → n ≡ Refused m → x ≡ Broke 4 40 0 0 → x ≡ ruling (firstBroken (rule 4 40 (areDigits a b) ∷ rs) s)
-    digits-broke m e h = first-broke x s (rule 4 40 (areDigits a b)) rs (no-digits m e) h
+    pub digits-broke : (m : ℕ) → n ≡ Refused m → x ≡ Broke 4 40 0 0 → x ≡ ruling (first_broken (rule 4 40 (are_digits a b) ∷ rs) s)
+    digits-broke m e h = first-broke x s (rule 4 40 (are_digits a b)) rs (no-digits m e) h
 
   -- the kind, the bank: a test of the number that they spell
   module _ (x : Ruling) (sh : Sheet) (v : ℕ) (e : n ≡ Value v) (k : Bool) where
-    kind-is : k ≡ kindAllowed sh v → isKind sh s ≡ k
-    unfolding isKind
-    kind-is q = ap (kindAllowed sh) (spelled_is v e) ∙ sym q
+    kind-is : k ≡ kind_allowed sh v → is_kind sh s ≡ k
+    unfolding is_kind
+    kind-is q = ap (kind_allowed sh) (spelled_is v e) ∙ sym q
 
-    code_is : k ≡ bankAllowed sh v → is_code sh s ≡ k
+    code_is : k ≡ bank_allowed sh v → is_code sh s ≡ k
     unfolding is_code
-    code_is q = ap (bankAllowed sh) (spelled_is v e) ∙ sym q
+    code_is q = ap (bank_allowed sh) (spelled_is v e) ∙ sym q
 
-    pub kind-kept : k ≡ kindAllowed sh v → k ≡ true → x ≡ Kept → x ≡ ruling (firstBroken (within 7 70 1501 sh.lastkind (isKind sh) ∷ []) s)
+    pub kind-kept : k ≡ kind_allowed sh v → k ≡ true → x ≡ Kept → x ≡ ruling (first_broken (within 7 70 1501 sh.lastkind (is_kind sh) ∷ []) s)
     kind-kept q y h = first-kept x s _ [] (kind-is q ∙ y) (all-kept x s h)
 
-    pub kind-broke : k ≡ kindAllowed sh v → k ≡ false → x ≡ Broke 7 70 1501 sh.lastkind → x ≡ ruling (firstBroken (within 7 70 1501 sh.lastkind (isKind sh) ∷ []) s)
-    kind-broke q y h = first-broke x s (within 7 70 1501 sh.lastkind (isKind sh)) [] (kind-is q ∙ y) h
+    pub kind-broke : k ≡ kind_allowed sh v → k ≡ false → x ≡ Broke 7 70 1501 sh.lastkind → x ≡ ruling (first_broken (within 7 70 1501 sh.lastkind (is_kind sh) ∷ []) s)
+    kind-broke q y h = first-broke x s (within 7 70 1501 sh.lastkind (is_kind sh)) [] (kind-is q ∙ y) h
 
-    pub code-kept : k ≡ bankAllowed sh v → k ≡ true → x ≡ Kept → x ≡ ruling (firstBroken (within 8 80 sh.bank sh.bank (is_code sh) ∷ []) s)
+    pub code-kept : k ≡ bank_allowed sh v → k ≡ true → x ≡ Kept → x ≡ ruling (first_broken (within 8 80 sh.bank sh.bank (is_code sh) ∷ []) s)
     code-kept q y h = first-kept x s _ [] (code_is q ∙ y) (all-kept x s h)
 
-    pub code-broke : k ≡ bankAllowed sh v → k ≡ false → x ≡ Broke 8 80 sh.bank sh.bank → x ≡ ruling (firstBroken (within 8 80 sh.bank sh.bank (is_code sh) ∷ []) s)
+    pub code-broke : k ≡ bank_allowed sh v → k ≡ false → x ≡ Broke 8 80 sh.bank sh.bank → x ≡ ruling (first_broken (within 8 80 sh.bank sh.bank (is_code sh) ∷ []) s)
     code-broke q y h = first-broke x s (within 8 80 sh.bank sh.bank (is_code sh)) [] (code_is q ∙ y) h
 
   -- the interval's end
   module _ (x : Ruling) (ordered : Bool) (start v : ℕ) (e : n ≡ Value v) where
-    end-tested : ordered ≡ true → isAfter ordered start s ≡ leb start v
-    unfolding isAfter
+    end-tested : ordered ≡ true → is_after ordered start s ≡ leb start v
+    unfolding is_after
     end-tested o = pick_true _ _ o ∙ ap (leb start) (spelled_is v e)
 
-    pub end-free : ordered ≡ false → x ≡ Kept → x ≡ ruling (firstBroken (within 9 90 start 999 (isAfter ordered start) ∷ []) s)
-    unfolding isAfter
+    pub end-free : ordered ≡ false → x ≡ Kept → x ≡ ruling (first_broken (within 9 90 start 999 (is_after ordered start) ∷ []) s)
+    unfolding is_after
     end-free o h = first-kept x s _ [] (pick-false _ _ o) (all-kept x s h)
 
-    pub end_kept : ordered ≡ true → start ≤ v → x ≡ Kept → x ≡ ruling (firstBroken (within 9 90 start 999 (isAfter ordered start) ∷ []) s)
+    pub end_kept : ordered ≡ true → start ≤ v → x ≡ Kept → x ≡ ruling (first_broken (within 9 90 start 999 (is_after ordered start) ∷ []) s)
     end_kept o l h = first-kept x s _ [] (end-tested o ∙ le-leb start v l) (all-kept x s h)
 
     pub end-broke : ordered ≡ true → v < start → x ≡ Broke 9 90 start 999
-        → x ≡ ruling (firstBroken (within 9 90 start 999 (isAfter ordered start) ∷ []) s)
-    end-broke o l h = first-broke x s (within 9 90 start 999 (isAfter ordered start)) [] (end-tested o ∙ lt-leb start v l) h
+        → x ≡ ruling (first_broken (within 9 90 start 999 (is_after ordered start) ∷ []) s)
+    end-broke o l h = first-broke x s (within 9 90 start 999 (is_after ordered start)) [] (end-tested o ∙ lt-leb start v l) h
 
 pub ruleset rulings = (all-kept, digits-then, digits-broke)
 
@@ -138,26 +138,26 @@ pub ruleset intervals = (end-free, end_kept, end-broke, digits-then, digits-brok
 -- ---- the creation date
 
 module _ (n : Num) (s : List ℕ) (t : told n ≡ digits 6 6 s) (x : Ruling) where
-  pub date-broke : (m : ℕ) → n ≡ Refused m → x ≡ Broke 4 40 0 0 → x ≡ ruling (firstBroken dayRules s)
-  unfolding isDay isLong pick
-  date-broke m e h = first-broke x s (rule 4 40 (isDay false)) _ (no-digits n s 6 6 t m e) h
+  pub date-broke : (m : ℕ) → n ≡ Refused m → x ≡ Broke 4 40 0 0 → x ≡ ruling (first_broken day_rules s)
+  unfolding is_day is_long pick
+  date-broke m e h = first-broke x s (rule 4 40 (is_day false)) _ (no-digits n s 6 6 t m e) h
 
-  module _ (v d : ℕ) (e : n ≡ Value v) (f : d ≡ shortly v) (k : Bool) (q : k ≡ realDay d) where
-    day-is : daySpelled false s ≡ d
-    unfolding daySpelled isLong pick
+  module _ (v d : ℕ) (e : n ≡ Value v) (f : d ≡ shortly v) (k : Bool) (q : k ≡ real_day d) where
+    day-is : day_spelled false s ≡ d
+    unfolding day_spelled is_long pick
     day-is = ap shortly (spelled_is n s 6 6 t v e) ∙ sym f
 
-    pub date-kept : k ≡ true → x ≡ Kept → x ≡ ruling (firstBroken dayRules s)
-    unfolding isDay isLong isReal pick
+    pub date-kept : k ≡ true → x ≡ Kept → x ≡ ruling (first_broken day_rules s)
+    unfolding is_day is_long is_real pick
     date-kept y h =
-        first-kept x s (rule 4 40 (isDay false)) _ (are-digits n s 6 6 t v e)
-        (first-kept x s (within 11 110 20000101 20991231 (isReal false)) [] (ap realDay day-is ∙ (sym q ∙ y)) (all-kept x s h))
+        first-kept x s (rule 4 40 (is_day false)) _ (are-digits n s 6 6 t v e)
+        (first-kept x s (within 11 110 20000101 20991231 (is_real false)) [] (ap real_day day-is ∙ (sym q ∙ y)) (all-kept x s h))
 
-    pub date-unreal : k ≡ false → x ≡ Broke 11 110 20000101 20991231 → x ≡ ruling (firstBroken dayRules s)
-    unfolding isDay isLong isReal pick
+    pub date-unreal : k ≡ false → x ≡ Broke 11 110 20000101 20991231 → x ≡ ruling (first_broken day_rules s)
+    unfolding is_day is_long is_real pick
     date-unreal y h =
-        first-kept x s (rule 4 40 (isDay false)) _ (are-digits n s 6 6 t v e)
-        (first-broke x s (within 11 110 20000101 20991231 (isReal false)) [] (ap realDay day-is ∙ (sym q ∙ y)) h)
+        first-kept x s (rule 4 40 (is_day false)) _ (are-digits n s 6 6 t v e)
+        (first-broke x s (within 11 110 20000101 20991231 (is_real false)) [] (ap real_day day-is ∙ (sym q ∙ y)) h)
 
 pub ruleset dates = (date-broke, date-kept, date-unreal)
 
@@ -165,30 +165,30 @@ pub ruleset dates = (date-broke, date-kept, date-unreal)
 
 module _ (x : Ruling) (s : List ℕ) where
   module _ (n : ℕ) where
-    pub name-size : (length s ≡ n → ⊥) → x ≡ Broke 4 40 0 0 → x ≡ ruling (firstBroken (name_rules n) s)
-    unfolding areText
-    name-size l h = first-broke x s (rule 4 40 (areText n)) [] (pick-false _ _ (ne_eqb (length s) n l)) h
+    pub name-size : (length s ≡ n → ⊥) → x ≡ Broke 4 40 0 0 → x ≡ ruling (first_broken (name_rules n) s)
+    unfolding are_text
+    name-size l h = first-broke x s (rule 4 40 (are_text n)) [] (pick-false _ _ (ne_eqb (length s) n l)) h
 
-    pub name-kept : length s ≡ n → (k : Bool) → k ≡ all isText (drop 0 s) → k ≡ true → x ≡ Kept → x ≡ ruling (firstBroken (name_rules n) s)
-    unfolding areText
-    name-kept l k q y h = first-kept x s (rule 4 40 (areText n)) [] (pick_true _ _ (eq-eqb (length s) n l) ∙ (ap (all isText) (sym (drop-none s)) ∙ (sym q ∙ y))) (all-kept x s h)
+    pub name-kept : length s ≡ n → (k : Bool) → k ≡ all is_text (drop 0 s) → k ≡ true → x ≡ Kept → x ≡ ruling (first_broken (name_rules n) s)
+    unfolding are_text
+    name-kept l k q y h = first-kept x s (rule 4 40 (are_text n)) [] (pick_true _ _ (eq-eqb (length s) n l) ∙ (ap (all is_text) (sym (drop-none s)) ∙ (sym q ∙ y))) (all-kept x s h)
 
-    pub name-broke : length s ≡ n → (k : Bool) → k ≡ all isText (drop 0 s) → k ≡ false → x ≡ Broke 4 40 0 0 → x ≡ ruling (firstBroken (name_rules n) s)
-    unfolding areText
-    name-broke l k q y h = first-broke x s (rule 4 40 (areText n)) [] (pick_true _ _ (eq-eqb (length s) n l) ∙ (ap (all isText) (sym (drop-none s)) ∙ (sym q ∙ y))) h
+    pub name-broke : length s ≡ n → (k : Bool) → k ≡ all is_text (drop 0 s) → k ≡ false → x ≡ Broke 4 40 0 0 → x ≡ ruling (first_broken (name_rules n) s)
+    unfolding are_text
+    name-broke l k q y h = first-broke x s (rule 4 40 (are_text n)) [] (pick_true _ _ (eq-eqb (length s) n l) ∙ (ap (all is_text) (sym (drop-none s)) ∙ (sym q ∙ y))) h
 
-  module _ (short : Bool) (j : Bool) (p : j ≡ restLength short (length s)) where
-    pub rest-size : j ≡ false → x ≡ Broke 4 40 0 0 → x ≡ ruling (firstBroken (restRules short) s)
+  module _ (short : Bool) (j : Bool) (p : j ≡ rest_length short (length s)) where
+    pub rest-size : j ≡ false → x ≡ Broke 4 40 0 0 → x ≡ ruling (first_broken (rest_rules short) s)
     unfolding is_rest
     rest-size l h = first-broke x s (rule 4 40 (is_rest short)) [] (pick-false _ _ (sym p ∙ l)) h
 
-    pub rest-kept : j ≡ true → (k : Bool) → k ≡ all isText (drop 0 s) → k ≡ true → x ≡ Kept → x ≡ ruling (firstBroken (restRules short) s)
+    pub rest-kept : j ≡ true → (k : Bool) → k ≡ all is_text (drop 0 s) → k ≡ true → x ≡ Kept → x ≡ ruling (first_broken (rest_rules short) s)
     unfolding is_rest
-    rest-kept l k q y h = first-kept x s _ [] (pick_true _ _ (sym p ∙ l) ∙ (ap (all isText) (sym (drop-none s)) ∙ (sym q ∙ y))) (all-kept x s h)
+    rest-kept l k q y h = first-kept x s _ [] (pick_true _ _ (sym p ∙ l) ∙ (ap (all is_text) (sym (drop-none s)) ∙ (sym q ∙ y))) (all-kept x s h)
 
-    pub rest-broke : j ≡ true → (k : Bool) → k ≡ all isText (drop 0 s) → k ≡ false → x ≡ Broke 4 40 0 0 → x ≡ ruling (firstBroken (restRules short) s)
+    pub rest-broke : j ≡ true → (k : Bool) → k ≡ all is_text (drop 0 s) → k ≡ false → x ≡ Broke 4 40 0 0 → x ≡ ruling (first_broken (rest_rules short) s)
     unfolding is_rest
-    rest-broke l k q y h = first-broke x s (rule 4 40 (is_rest short)) [] (pick_true _ _ (sym p ∙ l) ∙ (ap (all isText) (sym (drop-none s)) ∙ (sym q ∙ y))) h
+    rest-broke l k q y h = first-broke x s (rule 4 40 (is_rest short)) [] (pick_true _ _ (sym p ∙ l) ∙ (ap (all is_text) (sym (drop-none s)) ∙ (sym q ∙ y))) h
 
 pub ruleset names = (name-size, name-kept, name-broke)
 
@@ -197,58 +197,58 @@ pub ruleset rests = (rest-size, rest-kept, rest-broke)
 -- ---- symbols
 
 module _ (x : Ruling) (s : List ℕ) (none : Bool) where
-  pub symbol-none : none ≡ true → length s ≡ 0 → x ≡ Kept → x ≡ ruling (firstBroken (symbolRules none) s)
-  unfolding isSymbol
+  pub symbol-none : none ≡ true → length s ≡ 0 → x ≡ Kept → x ≡ ruling (first_broken (symbol_rules none) s)
+  unfolding is_symbol
   symbol-none o l h = first-kept x s _ [] (pick_true _ _ (pick_true _ _ o ∙ (sym (empty-null s) ∙ eq-eqb (length s) 0 l))) (all-kept x s h)
 
   -- where it stands, or may not be missing, by its digits
-  module _ (h : x ≡ ruling (firstBroken (digitRules 1 10) s)) where
-    pub symbol-stands : none ≡ true → (length s ≡ 0 → ⊥) → x ≡ ruling (firstBroken (symbolRules none) s)
-    unfolding isSymbol pick
-    symbol-stands o f = h ∙ sym (same_test s 4 40 (isSymbol none) (areDigits 1 10) (rw (o, sym (empty-null s) ∙ ne_eqb (length s) 0 f)))
+  module _ (h : x ≡ ruling (first_broken (digit_rules 1 10) s)) where
+    pub symbol-stands : none ≡ true → (length s ≡ 0 → ⊥) → x ≡ ruling (first_broken (symbol_rules none) s)
+    unfolding is_symbol pick
+    symbol-stands o f = h ∙ sym (same_test s 4 40 (is_symbol none) (are_digits 1 10) (rw (o, sym (empty-null s) ∙ ne_eqb (length s) 0 f)))
 
-    pub symbol-must : none ≡ false → x ≡ ruling (firstBroken (symbolRules none) s)
-    unfolding isSymbol pick
-    symbol-must o = h ∙ sym (same_test s 4 40 (isSymbol none) (areDigits 1 10) (rw o))
+    pub symbol-must : none ≡ false → x ≡ ruling (first_broken (symbol_rules none) s)
+    unfolding is_symbol pick
+    symbol-must o = h ∙ sym (same_test s 4 40 (is_symbol none) (are_digits 1 10) (rw o))
 
 pub ruleset symbols = (symbol-none, symbol-stands, symbol-must)
 
 -- ---- amounts
 
-module _ (n : Num) (s : List ℕ) (may : Bool) (most : ℕ) (t : told n ≡ readAmount may most s) where
-  is-amount : (v : ℕ) → n ≡ Value v → isAmount may most s ≡ true
-  is-amount v e = formed (isAmount may most s) _ (sym (ap told e) ∙ (t ∙ amount-is may most s))
+module _ (n : Num) (s : List ℕ) (may : Bool) (most : ℕ) (t : told n ≡ read_amount may most s) where
+  is-amount : (v : ℕ) → n ≡ Value v → is_amount may most s ≡ true
+  is-amount v e = formed (is_amount may most s) _ (sym (ap told e) ∙ (t ∙ amount-is may most s))
 
-  no-amount : (m : ℕ) → n ≡ Refused m → isAmount may most s ≡ false
-  no-amount m e = unformed (isAmount may most s) _ (sym (ap told e) ∙ (t ∙ amount-is may most s))
+  no-amount : (m : ℕ) → n ≡ Refused m → is_amount may most s ≡ false
+  no-amount m e = unformed (is_amount may most s) _ (sym (ap told e) ∙ (t ∙ amount-is may most s))
 
-  amount-spelled : (v : ℕ) → n ≡ Value v → amountSpelled may s ≡ v
-  amount-spelled v e = worth (isAmount may most s) _ (sym (ap told e) ∙ (t ∙ amount-is may most s))
+  amount-spelled : (v : ℕ) → n ≡ Value v → amount_spelled may s ≡ v
+  amount-spelled v e = worth (is_amount may most s) _ (sym (ap told e) ∙ (t ∙ amount-is may most s))
 
   module _ (x : Ruling) (rs : List Rule) where
-    pub amount-then : (v : ℕ) → n ≡ Value v → x ≡ ruling (firstBroken rs s) → x ≡ ruling (firstBroken (rule 4 40 (isAmount may most) ∷ rs) s)
-    amount-then v e h = first-kept x s (rule 4 40 (isAmount may most)) rs (is-amount v e) h
+    pub amount-then : (v : ℕ) → n ≡ Value v → x ≡ ruling (first_broken rs s) → x ≡ ruling (first_broken (rule 4 40 (is_amount may most) ∷ rs) s)
+    amount-then v e h = first-kept x s (rule 4 40 (is_amount may most)) rs (is-amount v e) h
 
-    pub amount-broke : (m : ℕ) → n ≡ Refused m → x ≡ Broke 4 40 0 0 → x ≡ ruling (firstBroken (rule 4 40 (isAmount may most) ∷ rs) s)
-    amount-broke m e h = first-broke x s (rule 4 40 (isAmount may most)) rs (no-amount m e) h
+    pub amount-broke : (m : ℕ) → n ≡ Refused m → x ≡ Broke 4 40 0 0 → x ≡ ruling (first_broken (rule 4 40 (is_amount may most) ∷ rs) s)
+    amount-broke m e h = first-broke x s (rule 4 40 (is_amount may most)) rs (no-amount m e) h
 
   module _ (x : Ruling) (max v : ℕ) (e : n ≡ Value v) where
     some_is : is_some may s ≡ leb 1 v
     unfolding is_some
     some_is = ap (leb 1) (amount-spelled v e)
 
-    low-is : isLow may max s ≡ leb v max
-    unfolding isLow
+    low-is : is_low may max s ≡ leb v max
+    unfolding is_low
     low-is = ap (λ (a : ℕ). leb a max) (amount-spelled v e)
 
-    pub amount-zero : v < 1 → x ≡ Broke 6 60 1 max → x ≡ ruling (firstBroken (within 6 60 1 max (is_some may) ∷ within 6 61 1 max (isLow may max) ∷ []) s)
+    pub amount-zero : v < 1 → x ≡ Broke 6 60 1 max → x ≡ ruling (first_broken (within 6 60 1 max (is_some may) ∷ within 6 61 1 max (is_low may max) ∷ []) s)
     amount-zero l h = first-broke x s (within 6 60 1 max (is_some may)) _ (some_is ∙ lt-leb 1 v l) h
 
-    pub amount-over : 1 ≤ v → max < v → x ≡ Broke 6 61 1 max → x ≡ ruling (firstBroken (within 6 60 1 max (is_some may) ∷ within 6 61 1 max (isLow may max) ∷ []) s)
-    amount-over l m h = first-kept x s (within 6 60 1 max (is_some may)) _ (some_is ∙ le-leb 1 v l) (first-broke x s (within 6 61 1 max (isLow may max)) [] (low-is ∙ lt-leb v max m) h)
+    pub amount-over : 1 ≤ v → max < v → x ≡ Broke 6 61 1 max → x ≡ ruling (first_broken (within 6 60 1 max (is_some may) ∷ within 6 61 1 max (is_low may max) ∷ []) s)
+    amount-over l m h = first-kept x s (within 6 60 1 max (is_some may)) _ (some_is ∙ le-leb 1 v l) (first-broke x s (within 6 61 1 max (is_low may max)) [] (low-is ∙ lt-leb v max m) h)
 
-    pub amount-kept : 1 ≤ v → v ≤ max → x ≡ Kept → x ≡ ruling (firstBroken (within 6 60 1 max (is_some may) ∷ within 6 61 1 max (isLow may max) ∷ []) s)
-    amount-kept l m h = first-kept x s (within 6 60 1 max (is_some may)) _ (some_is ∙ le-leb 1 v l) (first-kept x s (within 6 61 1 max (isLow may max)) [] (low-is ∙ le-leb v max m) (all-kept x s h))
+    pub amount-kept : 1 ≤ v → v ≤ max → x ≡ Kept → x ≡ ruling (first_broken (within 6 60 1 max (is_some may) ∷ within 6 61 1 max (is_low may max) ∷ []) s)
+    amount-kept l m h = first-kept x s (within 6 60 1 max (is_some may)) _ (some_is ∙ le-leb 1 v l) (first-kept x s (within 6 61 1 max (is_low may max)) [] (low-is ∙ le-leb v max m) (all-kept x s h))
 
 pub ruleset totals = (amount-then, amount-broke, all-kept)
 

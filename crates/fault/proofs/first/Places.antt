@@ -13,11 +13,11 @@ use Rattle.paper.specs.Spells.{Context}
 use Rattle.numeral.specs.Told.{told}
 use Rattle.numeral.specs.declared.Num.{Num}
 use Rattle.numeral.specs.declared.Num.TheVariants.{Value, Refused}
-use Rattle.why.specs.Rule.{Rule, rule, firstBroken}
-use Rattle.why.specs.Forms.{areDigits, spelled}
-use Rattle.why.specs.Names.{Name, fieldNumber, intervalStart}
-use Rattle.why.specs.Fields.{dayRules, name_rules, endRules, rulesOf}
-use Rattle.why.specs.Walk.{Walked, spot, whyFirst}
+use Rattle.why.specs.Rule.{Rule, rule, first_broken}
+use Rattle.why.specs.Forms.{are_digits, spelled}
+use Rattle.why.specs.Names.{Name, field_number, interval_start}
+use Rattle.why.specs.Fields.{day_rules, name_rules, end_rules, rules_of}
+use Rattle.why.specs.Walk.{Walked, spot, why_first}
 use Rattle.why.proofs.Few.{few-digits, few-day, few-name}
 use Rattle.fault.specs.declared.field.Ruling.{Ruling}
 use Rattle.fault.specs.declared.field.Ruling.TheVariants.{Kept, Broke}
@@ -25,96 +25,96 @@ use Rattle.fault.specs.declared.line.Walk.{Walk}
 use Rattle.fault.specs.declared.line.Walk.TheVariants.{Passed, Stopped}
 use Rattle.fault.specs.field.Ruled.{ruling}
 use Rattle.fault.specs.line.Walks.{walk}
-use Rattle.fault.specs.line.Stages.{fromRest, fromEnd, fromStart, fromClient, fromName, fromDate}
+use Rattle.fault.specs.line.Stages.{from_rest, from_end, from_start, from_client, from_name, from_date}
 use Rattle.fault.proofs.field.Rulings.{all-kept, digits-then, digits-broke, spelled_is}
 use Rattle.fault.proofs.line.Steps.{on-kept, on-broke}
 
 -- ---- too few bytes: 4 by the field's form
 
-pub short-digits : (n : ℕ) (rs : List Rule) (t : List ℕ) → length t < n → ruling (firstBroken (rule 4 40 (areDigits n n) ∷ rs) t) ≡ Broke 4 40 0 0
+pub short-digits : (n : ℕ) (rs : List Rule) (t : List ℕ) → length t < n → ruling (first_broken (rule 4 40 (are_digits n n) ∷ rs) t) ≡ Broke 4 40 0 0
 unfolding ruling
 short-digits n rs t l = ap ruling (few-digits n rs t l)
 
-pub short-day : (t : List ℕ) → length t < 6 → ruling (firstBroken dayRules t) ≡ Broke 4 40 0 0
+pub short-day : (t : List ℕ) → length t < 6 → ruling (first_broken day_rules t) ≡ Broke 4 40 0 0
 unfolding ruling
 short-day t l = ap ruling (few-day t l)
 
-pub short-name : (n : ℕ) (t : List ℕ) → length t < n → ruling (firstBroken (name_rules n) t) ≡ Broke 4 40 0 0
+pub short-name : (n : ℕ) (t : List ℕ) → length t < n → ruling (first_broken (name_rules n) t) ≡ Broke 4 40 0 0
 unfolding ruling
 short-name n t l = ap ruling (few-name n t l)
 
 -- ---- a field by place
 
 module _ (sh : Sheet) (today : ℕ) (c : Context) (w : List ℕ) (x : Walk) (name : Name) (at n : ℕ) (j : ℕ → List ℕ → Walked) where
-  module _ (l : at + n ≤ length w) (r : Ruling) (q : r ≡ ruling (firstBroken (rulesOf sh today c w name) (take n (drop at w)))) where
+  module _ (l : at + n ≤ length w) (r : Ruling) (q : r ≡ ruling (first_broken (rules_of sh today c w name) (take n (drop at w)))) where
     whole : length (take n (drop at w)) ≡ n
     whole = length-take-le n (drop at w) (omega (arith, length-drop at w))
 
     pub spot-kept : r ≡ Kept → x ≡ walk (j (at + n) (drop (at + n) w)) → x ≡ walk (spot sh today c w n name at (drop at w) j)
     unfolding spot
     spot-kept y h =
-        h ∙ sym (ap walk (on-kept name at (length (take n (drop at w))) (j (at + n) (drop n (drop at w))) (firstBroken (rulesOf sh today c w name) (take n (drop at w))) (sym q ∙ y) ∙ ap (j (at + n)) (drop-drop n at w)))
+        h ∙ sym (ap walk (on-kept name at (length (take n (drop at w))) (j (at + n) (drop n (drop at w))) (first_broken (rules_of sh today c w name) (take n (drop at w))) (sym q ∙ y) ∙ ap (j (at + n)) (drop-drop n at w)))
 
-    pub spot-broke : (m why a b : ℕ) → r ≡ Broke m why a b → x ≡ Stopped m why at n (fieldNumber name) a b → x ≡ walk (spot sh today c w n name at (drop at w) j)
+    pub spot-broke : (m why a b : ℕ) → r ≡ Broke m why a b → x ≡ Stopped m why at n (field_number name) a b → x ≡ walk (spot sh today c w n name at (drop at w) j)
     unfolding spot
     spot-broke m why a b y h =
-        h ∙ (ap (λ (k : ℕ). Stopped m why at k (fieldNumber name) a b) (sym whole) ∙ sym (on-broke name at (length (take n (drop at w))) (j (at + n) (drop n (drop at w))) (firstBroken (rulesOf sh today c w name) (take n (drop at w))) m why a b (sym q ∙ y)))
+        h ∙ (ap (λ (k : ℕ). Stopped m why at k (field_number name) a b) (sym whole) ∙ sym (on-broke name at (length (take n (drop at w))) (j (at + n) (drop n (drop at w))) (first_broken (rules_of sh today c w name) (take n (drop at w))) m why a b (sym q ∙ y)))
 
   -- .. that the line is too short for
   module _ (g : at ≤ length w) (l : length w < at + n) where
     fewer : length (take n (drop at w)) ≡ length w - at
     fewer = omega (arith, length-take n (drop at w), length-drop at w)
 
-    pub spot-short : ((t : List ℕ) → length t < n → ruling (firstBroken (rulesOf sh today c w name) t) ≡ Broke 4 40 0 0)
-        → x ≡ Stopped 4 40 at (length w - at) (fieldNumber name) 0 0 → x ≡ walk (spot sh today c w n name at (drop at w) j)
+    pub spot-short : ((t : List ℕ) → length t < n → ruling (first_broken (rules_of sh today c w name) t) ≡ Broke 4 40 0 0)
+        → x ≡ Stopped 4 40 at (length w - at) (field_number name) 0 0 → x ≡ walk (spot sh today c w n name at (drop at w) j)
     unfolding spot
     spot-short few h =
         let k : length (take n (drop at w)) < n = omega (arith, length-take n (drop at w), length-drop at w) in
-        h ∙ (ap (λ (k : ℕ). Stopped 4 40 at k (fieldNumber name) 0 0) (sym fewer) ∙ sym (on-broke name at (length (take n (drop at w))) (j (at + n) (drop n (drop at w))) (firstBroken (rulesOf sh today c w name) (take n (drop at w))) 4 40 0 0 (few (take n (drop at w)) k)))
+        h ∙ (ap (λ (k : ℕ). Stopped 4 40 at k (field_number name) 0 0) (sym fewer) ∙ sym (on-broke name at (length (take n (drop at w))) (j (at + n) (drop n (drop at w))) (first_broken (rules_of sh today c w name) (take n (drop at w))) 4 40 0 0 (few (take n (drop at w)) k)))
 
 -- ---- the walk from a field on, in any context
 
 module _ (sh : Sheet) (today : ℕ) (c : Context) (w : List ℕ) (x : Walk) where
-  pub on-rest : ((t : ℕ) (d : Context) → x ≡ walk (fromRest sh t d w 46 (drop 46 w))) → x ≡ walk (fromRest sh today c w 46 (drop 46 w))
+  pub on-rest : ((t : ℕ) (d : Context) → x ≡ walk (from_rest sh t d w 46 (drop 46 w))) → x ≡ walk (from_rest sh today c w 46 (drop 46 w))
   on-rest f = f today c
 
-  pub on-client : ((t : ℕ) (d : Context) → x ≡ walk (fromClient sh t d w 30 (drop 30 w))) → x ≡ walk (fromClient sh today c w 30 (drop 30 w))
+  pub on-client : ((t : ℕ) (d : Context) → x ≡ walk (from_client sh t d w 30 (drop 30 w))) → x ≡ walk (from_client sh today c w 30 (drop 30 w))
   on-client f = f today c
 
-  pub on-start : ((t : ℕ) (d : Context) → x ≡ walk (fromStart sh t d w 40 (drop 40 w))) → x ≡ walk (fromStart sh today c w 40 (drop 40 w))
+  pub on-start : ((t : ℕ) (d : Context) → x ≡ walk (from_start sh t d w 40 (drop 40 w))) → x ≡ walk (from_start sh today c w 40 (drop 40 w))
   on-start f = f today c
 
-  pub on-name : ((t : ℕ) (d : Context) → x ≡ walk (fromName sh t d w 10 (drop 10 w))) → x ≡ walk (fromName sh today c w 10 (drop 10 w))
+  pub on-name : ((t : ℕ) (d : Context) → x ≡ walk (from_name sh t d w 10 (drop 10 w))) → x ≡ walk (from_name sh today c w 10 (drop 10 w))
   on-name f = f today c
 
   -- the interval's start, read as a number
   module _ (l : 43 ≤ length w) (n : Num) (t : told n ≡ digits 3 3 (take 3 (drop 40 w))) where
-    pub start-there : (v : ℕ) → n ≡ Value v → ((t : ℕ) (d : Context) → spelled (take 3 (drop 40 w)) ≡ v → x ≡ walk (fromEnd sh t d w 43 (drop 43 w)))
-        → x ≡ walk (fromStart sh today c w 40 (drop 40 w))
-    unfolding rulesOf
+    pub start-there : (v : ℕ) → n ≡ Value v → ((t : ℕ) (d : Context) → spelled (take 3 (drop 40 w)) ≡ v → x ≡ walk (from_end sh t d w 43 (drop 43 w)))
+        → x ≡ walk (from_start sh today c w 40 (drop 40 w))
+    unfolding rules_of
     start-there v e f =
-        spot-kept sh today c w x intervalStart 40 3 (fromEnd sh today c w) l Kept
+        spot-kept sh today c w x interval_start 40 3 (from_end sh today c w) l Kept
         (digits-then n (take 3 (drop 40 w)) 3 3 t Kept _ v e (all-kept Kept (take 3 (drop 40 w)) refl)) refl
         (f today c (spelled_is n (take 3 (drop 40 w)) 3 3 t v e))
 
-    pub start-broke : (m : ℕ) → n ≡ Refused m → x ≡ Stopped 4 40 40 3 4 0 0 → x ≡ walk (fromStart sh today c w 40 (drop 40 w))
-    unfolding rulesOf fieldNumber
+    pub start-broke : (m : ℕ) → n ≡ Refused m → x ≡ Stopped 4 40 40 3 4 0 0 → x ≡ walk (from_start sh today c w 40 (drop 40 w))
+    unfolding rules_of field_number
     start-broke m e h =
-        spot-broke sh today c w x intervalStart 40 3 (fromEnd sh today c w) l (Broke 4 40 0 0)
+        spot-broke sh today c w x interval_start 40 3 (from_end sh today c w) l (Broke 4 40 0 0)
         (digits-broke n (take 3 (drop 40 w)) 3 3 t (Broke 4 40 0 0) _ m e refl) 4 40 0 0 refl h
 
   -- where the sheet reads the line, and where it does not
-  pub first_read : sh.header ≡ true → ((t : ℕ) (d : Context) → x ≡ walk (fromDate sh t d w 4 (drop 4 w))) → x ≡ walk (whyFirst sh today c w)
-  unfolding whyFirst
+  pub first_read : sh.header ≡ true → ((t : ℕ) (d : Context) → x ≡ walk (from_date sh t d w 4 (drop 4 w))) → x ≡ walk (why_first sh today c w)
+  unfolding why_first
   first_read o f = f today c ∙ sym (ap walk (pick_true _ _ o))
 
-  pub first-unread : sh.header ≡ false → x ≡ Passed → x ≡ walk (whyFirst sh today c w)
-  unfolding whyFirst walk
+  pub first-unread : sh.header ≡ false → x ≡ Passed → x ≡ walk (why_first sh today c w)
+  unfolding why_first walk
   first-unread o h = h ∙ sym (ap walk (pick-false _ _ o))
 
 -- the interval's end, behind its start
-pub end_known : (sh : Sheet) (w z : List ℕ) (start : ℕ) (r : Ruling) → spelled (take 3 (drop 40 w)) ≡ start → r ≡ ruling (firstBroken (endRules sh.interval start) z)
-    → r ≡ ruling (firstBroken (endRules sh.interval (spelled (take 3 (drop 40 w)))) z)
+pub end_known : (sh : Sheet) (w z : List ℕ) (start : ℕ) (r : Ruling) → spelled (take 3 (drop 40 w)) ≡ start → r ≡ ruling (first_broken (end_rules sh.interval start) z)
+    → r ≡ ruling (first_broken (end_rules sh.interval (spelled (take 3 (drop 40 w)))) z)
 end_known sh w z start r e h = rw e h
 
 pub ruleset places = (spot-kept, spot-broke, spot-short)

@@ -14,142 +14,142 @@ use Rattle.sheet.specs.declared.Sheet.{Sheet}
 use Rattle.paper.specs.Bytes.{space, field_of}
 use Rattle.paper.specs.Terms.{collection}
 use Rattle.paper.specs.Spells.{Context}
-use Rattle.why.specs.Rule.{firstBroken}
-use Rattle.why.specs.Forms.{areDigits}
-use Rattle.why.specs.Names.{specificSymbol, fieldNumber}
-use Rattle.why.specs.Fields.{digitRules, bankRules}
-use Rattle.why.specs.Walk.{whyFixed, whyBehind, whyOpen, whyPayee, whyItem}
+use Rattle.why.specs.Rule.{first_broken}
+use Rattle.why.specs.Forms.{are_digits}
+use Rattle.why.specs.Names.{specific_symbol, field_number}
+use Rattle.why.specs.Fields.{digit_rules, bank_rules}
+use Rattle.why.specs.Walk.{why_fixed, why_behind, why_open, why_payee, why_item}
 use Rattle.fault.specs.declared.field.Ruling.{Ruling}
 use Rattle.fault.specs.declared.field.Ruling.TheVariants.{Kept, Broke}
 use Rattle.fault.specs.declared.line.Walk.{Walk}
 use Rattle.fault.specs.declared.line.Walk.TheVariants.{Passed, Stopped}
 use Rattle.fault.specs.field.Ruled.{ruling}
 use Rattle.fault.specs.line.Walks.{walk}
-use Rattle.fault.specs.item.Stages.{fromText, fromSymbol, fromFixed, fromTail, fromBank, fromVariable, fromAmount, fromSingle}
+use Rattle.fault.specs.item.Stages.{from_text, from_symbol, from_fixed, from_tail, from_bank, from_variable, from_amount, from_single}
 use Rattle.fault.proofs.line.Steps.{gap-there, gap-missing}
 
 module _ (sh : Sheet) (today : ℕ) (c : Context) (w : List ℕ) (x : Walk) where
   module _ (at : ℕ) where
     -- ---- whatever the context
 
-    pub on-text : ((t : ℕ) (d : Context) → x ≡ walk (fromText sh t d w at (drop at w))) → x ≡ walk (fromText sh today c w at (drop at w))
+    pub on-text : ((t : ℕ) (d : Context) → x ≡ walk (from_text sh t d w at (drop at w))) → x ≡ walk (from_text sh today c w at (drop at w))
     on-text f = f today c
 
-    pub on-behind : ((t : ℕ) (d : Context) → x ≡ walk (whyBehind sh t d w at (drop at w))) → x ≡ walk (whyBehind sh today c w at (drop at w))
+    pub on-behind : ((t : ℕ) (d : Context) → x ≡ walk (why_behind sh t d w at (drop at w))) → x ≡ walk (why_behind sh today c w at (drop at w))
     on-behind f = f today c
 
-    pub on-symbol : ((t : ℕ) (d : Context) → x ≡ walk (fromSymbol sh t d w at (drop at w))) → x ≡ walk (fromSymbol sh today c w at (drop at w))
+    pub on-symbol : ((t : ℕ) (d : Context) → x ≡ walk (from_symbol sh t d w at (drop at w))) → x ≡ walk (from_symbol sh today c w at (drop at w))
     on-symbol f = f today c
 
-    pub on-fixed : ((t : ℕ) (d : Context) → x ≡ walk (fromFixed sh t d w at (drop at w))) → x ≡ walk (fromFixed sh today c w at (drop at w))
+    pub on-fixed : ((t : ℕ) (d : Context) → x ≡ walk (from_fixed sh t d w at (drop at w))) → x ≡ walk (from_fixed sh today c w at (drop at w))
     on-fixed f = f today c
 
-    pub on-open : ((t : ℕ) (d : Context) → x ≡ walk (whyOpen sh t d w at (drop at w))) → x ≡ walk (whyOpen sh today c w at (drop at w))
+    pub on-open : ((t : ℕ) (d : Context) → x ≡ walk (why_open sh t d w at (drop at w))) → x ≡ walk (why_open sh today c w at (drop at w))
     on-open f = f today c
 
-    pub on-tail : ((t : ℕ) (d : Context) → x ≡ walk (fromTail sh t d w at (drop at w))) → x ≡ walk (fromTail sh today c w at (drop at w))
+    pub on-tail : ((t : ℕ) (d : Context) → x ≡ walk (from_tail sh t d w at (drop at w))) → x ≡ walk (from_tail sh today c w at (drop at w))
     on-tail f = f today c
 
     -- ---- by the kind of the account file and the group's date
 
     module _ (kind date : ℕ) where
-      pub on-bank : ((d : Context) → d.kind ≡ kind → d.date ≡ date → x ≡ walk (fromBank sh today d w at (drop at w)))
-          → c.kind ≡ kind → c.date ≡ date → x ≡ walk (fromBank sh today c w at (drop at w))
+      pub on-bank : ((d : Context) → d.kind ≡ kind → d.date ≡ date → x ≡ walk (from_bank sh today d w at (drop at w)))
+          → c.kind ≡ kind → c.date ≡ date → x ≡ walk (from_bank sh today c w at (drop at w))
       on-bank f k l = f c k l
 
-      pub on-variable : ((d : Context) → d.kind ≡ kind → d.date ≡ date → x ≡ walk (fromVariable sh today d w at (drop at w)))
-          → c.kind ≡ kind → c.date ≡ date → x ≡ walk (fromVariable sh today c w at (drop at w))
+      pub on-variable : ((d : Context) → d.kind ≡ kind → d.date ≡ date → x ≡ walk (from_variable sh today d w at (drop at w)))
+          → c.kind ≡ kind → c.date ≡ date → x ≡ walk (from_variable sh today c w at (drop at w))
       on-variable f k l = f c k l
 
-      pub on-amount : ((d : Context) → d.kind ≡ kind → d.date ≡ date → x ≡ walk (fromAmount sh today d w at (drop at w)))
-          → c.kind ≡ kind → c.date ≡ date → x ≡ walk (fromAmount sh today c w at (drop at w))
+      pub on-amount : ((d : Context) → d.kind ≡ kind → d.date ≡ date → x ≡ walk (from_amount sh today d w at (drop at w)))
+          → c.kind ≡ kind → c.date ≡ date → x ≡ walk (from_amount sh today c w at (drop at w))
       on-amount f k l = f c k l
 
-      pub on-payee : ((d : Context) → d.kind ≡ kind → d.date ≡ date → x ≡ walk (whyPayee sh today d w at (drop at w)))
-          → c.kind ≡ kind → c.date ≡ date → x ≡ walk (whyPayee sh today c w at (drop at w))
+      pub on-payee : ((d : Context) → d.kind ≡ kind → d.date ≡ date → x ≡ walk (why_payee sh today d w at (drop at w)))
+          → c.kind ≡ kind → c.date ≡ date → x ≡ walk (why_payee sh today c w at (drop at w))
       on-payee f k l = f c k l
 
     -- ---- behind a symbol
 
-    pub behind-there : at < length w → x ≡ walk (fromText sh today c w (at + 1) (drop (at + 1) w)) → x ≡ walk (whyBehind sh today c w at (drop at w))
-    unfolding whyBehind
+    pub behind-there : at < length w → x ≡ walk (from_text sh today c w (at + 1) (drop (at + 1) w)) → x ≡ walk (why_behind sh today c w at (drop at w))
+    unfolding why_behind
     behind-there l h = h ∙ sym (ap walk (rw (drop-cons w at 0 l, ← (add-one at))))
 
-    pub behind-end : length w ≤ at → x ≡ Passed → x ≡ walk (whyBehind sh today c w at (drop at w))
-    unfolding whyBehind walk
+    pub behind-end : length w ≤ at → x ≡ Passed → x ≡ walk (why_behind sh today c w at (drop at w))
+    unfolding why_behind walk
     behind-end l h = h ∙ sym (rw (drop_of_length-le w l))
 
     -- ---- the tail
 
-    module _ (k : Bool) (q : k ≡ pick sh.bare (pick (areDigits 1 10 (field_of (drop (at + 1) w))) false true) false) (l : at < length w) where
-      pub open-bare : k ≡ true → x ≡ walk (fromText sh today c w (at + 1) (drop (at + 1) w)) → x ≡ walk (whyOpen sh today c w at (drop at w))
-      unfolding whyOpen
+    module _ (k : Bool) (q : k ≡ pick sh.bare (pick (are_digits 1 10 (field_of (drop (at + 1) w))) false true) false) (l : at < length w) where
+      pub open-bare : k ≡ true → x ≡ walk (from_text sh today c w (at + 1) (drop (at + 1) w)) → x ≡ walk (why_open sh today c w at (drop at w))
+      unfolding why_open
       open-bare y h = h ∙ sym (ap walk (rw (drop-cons w at 0 l, ← (add-one at)) (pick_true _ _ (sym q ∙ y))))
 
-      pub open-symbol : k ≡ false → x ≡ walk (fromSymbol sh today c w (at + 1) (drop (at + 1) w)) → x ≡ walk (whyOpen sh today c w at (drop at w))
-      unfolding whyOpen
+      pub open-symbol : k ≡ false → x ≡ walk (from_symbol sh today c w (at + 1) (drop (at + 1) w)) → x ≡ walk (why_open sh today c w at (drop at w))
+      unfolding why_open
       open-symbol y h = h ∙ sym (ap walk (rw (drop-cons w at 0 l, ← (add-one at)) (pick-false _ _ (sym q ∙ y))))
 
-    pub open-end : length w ≤ at → x ≡ Passed → x ≡ walk (whyOpen sh today c w at (drop at w))
-    unfolding whyOpen walk
+    pub open-end : length w ≤ at → x ≡ Passed → x ≡ walk (why_open sh today c w at (drop at w))
+    unfolding why_open walk
     open-end l h = h ∙ sym (rw (drop_of_length-le w l))
 
-    pub tail-fixed : sh.fixedtail ≡ true → at < length w → x ≡ walk (fromFixed sh today c w (at + 1) (drop (at + 1) w)) → x ≡ walk (fromTail sh today c w at (drop at w))
-    unfolding whyFixed
-    tail-fixed o l h = gap-there w x specificSymbol at (fromFixed sh today c w) l h ∙ sym (ap walk (pick_true _ _ o))
+    pub tail-fixed : sh.fixedtail ≡ true → at < length w → x ≡ walk (from_fixed sh today c w (at + 1) (drop (at + 1) w)) → x ≡ walk (from_tail sh today c w at (drop at w))
+    unfolding why_fixed
+    tail-fixed o l h = gap-there w x specific_symbol at (from_fixed sh today c w) l h ∙ sym (ap walk (pick_true _ _ o))
 
-    pub tail-missing : sh.fixedtail ≡ true → length w ≤ at → x ≡ Stopped 4 41 at 0 (fieldNumber specificSymbol) 0 0 → x ≡ walk (fromTail sh today c w at (drop at w))
-    unfolding whyFixed
-    tail-missing o l h = gap-missing w x specificSymbol at (fromFixed sh today c w) l h ∙ sym (ap walk (pick_true _ _ o))
+    pub tail-missing : sh.fixedtail ≡ true → length w ≤ at → x ≡ Stopped 4 41 at 0 (field_number specific_symbol) 0 0 → x ≡ walk (from_tail sh today c w at (drop at w))
+    unfolding why_fixed
+    tail-missing o l h = gap-missing w x specific_symbol at (from_fixed sh today c w) l h ∙ sym (ap walk (pick_true _ _ o))
 
-    pub tail-open : sh.fixedtail ≡ false → ((t : ℕ) (d : Context) → x ≡ walk (whyOpen sh t d w at (drop at w))) → x ≡ walk (fromTail sh today c w at (drop at w))
+    pub tail-open : sh.fixedtail ≡ false → ((t : ℕ) (d : Context) → x ≡ walk (why_open sh t d w at (drop at w))) → x ≡ walk (from_tail sh today c w at (drop at w))
     tail-open o f = f today c ∙ sym (ap walk (pick-false _ _ o))
 
   -- ---- with the payer's account first, and without
 
   module _ (kind date : ℕ) (k : Bool) where
-    pub item-single : k ≡ true → ((d : Context) → d.kind ≡ kind → d.date ≡ date → x ≡ walk (fromSingle sh today d w 0 w))
-        → c.kind ≡ kind → c.date ≡ date → c.single ≡ k → x ≡ walk (whyItem sh today c w)
-    unfolding whyItem
+    pub item-single : k ≡ true → ((d : Context) → d.kind ≡ kind → d.date ≡ date → x ≡ walk (from_single sh today d w 0 w))
+        → c.kind ≡ kind → c.date ≡ date → c.single ≡ k → x ≡ walk (why_item sh today c w)
+    unfolding why_item
     item-single y f i j e = f c i j ∙ sym (ap walk (pick_true _ _ (e ∙ y)))
 
-    pub item-other : k ≡ false → ((d : Context) → d.kind ≡ kind → d.date ≡ date → x ≡ walk (whyPayee sh today d w 0 w))
-        → c.kind ≡ kind → c.date ≡ date → c.single ≡ k → x ≡ walk (whyItem sh today c w)
-    unfolding whyItem
+    pub item-other : k ≡ false → ((d : Context) → d.kind ≡ kind → d.date ≡ date → x ≡ walk (why_payee sh today d w 0 w))
+        → c.kind ≡ kind → c.date ≡ date → c.single ≡ k → x ≡ walk (why_item sh today c w)
+    unfolding why_item
     item-other y f i j e = f c i j ∙ sym (ap walk (pick-false _ _ (e ∙ y)))
 
 -- ---- what a field asks of its context
 
 module _ (sh : Sheet) (today kind : ℕ) (r : Ruling) (z : List ℕ) (c : Context) (k : c.kind ≡ kind) where
-  pub bank-known : (date : ℕ) → c.date ≡ date → (here : Bool) → here ≡ collection sh kind → r ≡ ruling (firstBroken (bankRules sh.priority here sh.bank today date) z)
-      → r ≡ ruling (firstBroken (bankRules sh.priority (collection sh c.kind) sh.bank today c.date) z)
+  pub bank-known : (date : ℕ) → c.date ≡ date → (here : Bool) → here ≡ collection sh kind → r ≡ ruling (first_broken (bank_rules sh.priority here sh.bank today date) z)
+      → r ≡ ruling (first_broken (bank_rules sh.priority (collection sh c.kind) sh.bank today c.date) z)
   bank-known date l here e h = rw (k, l, ← e) h
 
 -- ---- no symbol
 
 module _ (x bare : Bool) (w : List ℕ) (at end : ℕ) where
-  pub not-bare : bare ≡ false → x ≡ false → x ≡ pick bare (pick (areDigits 1 10 (field_of (drop at w))) false true) false
+  pub not-bare : bare ≡ false → x ≡ false → x ≡ pick bare (pick (are_digits 1 10 (field_of (drop at w))) false true) false
   not-bare o h = h ∙ sym (pick-false _ _ o)
 
-  module _ (o : bare ≡ true) (e : end ≡ at + seek space (drop at w)) (r : Ruling) (q : r ≡ ruling (firstBroken (digitRules 1 10) (take (end - at) (drop at w)))) where
+  module _ (o : bare ≡ true) (e : end ≡ at + seek space (drop at w)) (r : Ruling) (q : r ≡ ruling (first_broken (digit_rules 1 10) (take (end - at) (drop at w)))) where
     bytes-are : take (end - at) (drop at w) ≡ field_of (drop at w)
     bytes-are = let n : end - at ≡ seek space (drop at w) = omega arith in ap (λ (m : ℕ). take m (drop at w)) n
 
-    told-by : ruling (firstBroken (digitRules 1 10) (field_of (drop at w))) ≡ r
-    told-by = sym (q ∙ ap (λ (s : List ℕ). ruling (firstBroken (digitRules 1 10) s)) bytes-are)
+    told-by : ruling (first_broken (digit_rules 1 10) (field_of (drop at w))) ≡ r
+    told-by = sym (q ∙ ap (λ (s : List ℕ). ruling (first_broken (digit_rules 1 10) s)) bytes-are)
 
-    pub a-symbol : r ≡ Kept → x ≡ false → x ≡ pick bare (pick (areDigits 1 10 (field_of (drop at w))) false true) false
-    unfolding firstBroken ruling pick
-    a-symbol y h =
-        by-test (areDigits 1 10 (field_of (drop at w)))
+    pub a_symbol : r ≡ Kept → x ≡ false → x ≡ pick bare (pick (are_digits 1 10 (field_of (drop at w))) false true) false
+    unfolding first_broken ruling pick
+    a_symbol y h =
+        by-test (are_digits 1 10 (field_of (drop at w)))
         (λ f. h ∙ rw (o, f))
-        (λ f. absurd (let g : ruling (firstBroken (digitRules 1 10) (field_of (drop at w))) ≡ Kept = told-by ∙ y in let i : Broke 4 40 0 0 ≡ Kept = rw f at g in let z : ◌≡◌ {A = ℕ} 0 1 = cc in omega arith))
+        (λ f. absurd (let g : ruling (first_broken (digit_rules 1 10) (field_of (drop at w))) ≡ Kept = told-by ∙ y in let i : Broke 4 40 0 0 ≡ Kept = rw f at g in let z : ◌≡◌ {A = ℕ} 0 1 = cc in omega arith))
 
-    pub a-text : (m why a b : ℕ) → r ≡ Broke m why a b → x ≡ true → x ≡ pick bare (pick (areDigits 1 10 (field_of (drop at w))) false true) false
-    unfolding firstBroken ruling pick
-    a-text m why a b y h =
-        by-test (areDigits 1 10 (field_of (drop at w)))
-        (λ f. absurd (let g : ruling (firstBroken (digitRules 1 10) (field_of (drop at w))) ≡ Broke m why a b = told-by ∙ y in let i : Kept ≡ Broke m why a b = rw f at g in let z : ◌≡◌ {A = ℕ} 0 1 = cc in omega arith))
+    pub a_text : (m why a b : ℕ) → r ≡ Broke m why a b → x ≡ true → x ≡ pick bare (pick (are_digits 1 10 (field_of (drop at w))) false true) false
+    unfolding first_broken ruling pick
+    a_text m why a b y h =
+        by-test (are_digits 1 10 (field_of (drop at w)))
+        (λ f. absurd (let g : ruling (first_broken (digit_rules 1 10) (field_of (drop at w))) ≡ Broke m why a b = told-by ∙ y in let i : Kept ≡ Broke m why a b = rw f at g in let z : ◌≡◌ {A = ℕ} 0 1 = cc in omega arith))
         (λ f. h ∙ rw (o, f))
 
 pub ruleset turns = (item-single, item-other)
@@ -158,4 +158,4 @@ pub ruleset tails = (on-text, on-behind, on-symbol, on-fixed, on-open, behind-th
 
 pub ruleset items = (on-tail, on-bank, on-variable, on-amount, on-payee, bank-known)
 
-pub ruleset bares = (not-bare, a-symbol, a-text)
+pub ruleset bares = (not-bare, a_symbol, a_text)

@@ -11,15 +11,15 @@ use Rattle.base.specs.Pick.{pick}
 use Rattle.base.specs.Seek.{seek, before}
 use Rattle.base.proofs.Seek.{seek-le}
 use Rattle.base.proofs.Lists.{drop-none}
-use Rattle.paper.specs.Warnings.{longPart}
+use Rattle.paper.specs.Warnings.{long_part}
 use Rattle.paper.specs.Bytes.{bar, null}
 use Rattle.paper.specs.Texts.{Piece, piece, others, divide, over, overs}
 use Rattle.text.proofs.span.Right.{others-skip, others-last}
 use Rattle.why.proofs.Texts.{null-both, null-over}
 
 -- are all parts from `from` on short?
-abbrev pub restShort : List ℕ → ℕ → Bool
-restShort m from = null (overs (divide from (drop from m)))
+abbrev pub rest_short : List ℕ → ℕ → Bool
+rest_short m from = null (overs (divide from (drop from m)))
 
 -- count parts were found in m, the last of which begins at `from` and ends at `end`; whether all before it are short
 pub record Found (m : List ℕ) (from end count : ℕ) (short : Bool) : Type 0 where
@@ -27,7 +27,7 @@ pub record Found (m : List ℕ) (from end count : ℕ) (short : Bool) : Type 0 w
   pub ends : end ≡ from + seek bar (drop from m)
   pub few : count ≤ from + 1
   pub parts : length (divide 0 m) ≡ count + length (others from (drop from m))
-  pub shorts : null (overs (divide 0 m)) ≡ pick short (restShort m from) false
+  pub shorts : null (overs (divide 0 m)) ≡ pick short (rest_short m from) false
 
 module _ (m : List ℕ) where
   pub found_first : (end : ℕ) → end ≡ 0 + seek bar m → Found m 0 end 1 true
@@ -46,9 +46,9 @@ module _ (m : List ℕ) where
     size = length-take-le (seek bar (drop from m)) (drop from m) (seek-le bar (drop from m)) ∙ omega (arith, f.ends)
 
     -- this part, and those behind it
-    one_more : restShort m from ≡ pick (not (ltb 35 (end - from))) (null (overs (others from (drop from m)))) false
+    one_more : rest_short m from ≡ pick (not (ltb 35 (end - from))) (null (overs (others from (drop from m)))) false
     unfolding overs
-    one_more = null-both (over longPart (piece from (before bar (drop from m)))) (overs (others from (drop from m))) ∙ rw (null-over longPart (piece from (before bar (drop from m))), size)
+    one_more = null-both (over long_part (piece from (before bar (drop from m)))) (overs (others from (drop from m))) ∙ rw (null-over long_part (piece from (before bar (drop from m))), size)
 
     pub end-within : end ≤ length m
     end-within = omega (arith, f.ends, f.low, seek-le bar (drop from m), length-drop from m)
@@ -85,7 +85,7 @@ module _ (m : List ℕ) where
             ends = e;
             few = omega (arith, f.few, from-within);
             parts = f.parts ∙ (ap (λ (ps : List Piece). count + length ps) behind ∙ omega arith);
-            shorts = f.shorts ∙ (ap (λ (t : Bool). pick short t false) (one_more ∙ ap (λ (ps : List Piece). pick (not (ltb 35 (end - from))) (null (overs ps)) false) behind) ∙ (next-test short (ltb 35 (end - from)) (restShort m (end + 1)) ∙ rw (← s)));
+            shorts = f.shorts ∙ (ap (λ (t : Bool). pick short t false) (one_more ∙ ap (λ (ps : List Piece). pick (not (ltb 35 (end - from))) (null (overs ps)) false) behind) ∙ (next-test short (ltb 35 (end - from)) (rest_short m (end + 1)) ∙ rw (← s)));
           }
 
     module _ (l : length m ≤ end) where

@@ -1,7 +1,7 @@
 -- Of what is known where a line is reached, what a line of each kind asks: document 01, "Testing order". Assumes nothing.
 use Rattle.std.specs.Prelude.{ℕ, ◌≡◌, List}
 use Rattle.paper.specs.Batch.{Header}
-use Rattle.paper.specs.Entries.{Kind, headLine, fileLine, groupLine, itemLine, groupEnd, fileEnd}
+use Rattle.paper.specs.Entries.{Kind, head_line, file_line, group_line, item_line, group_end, file_end}
 use Rattle.paper.specs.Spells.{Context, after}
 use Rattle.fileline.specs.seen.Bits.{Holds}
 use Rattle.fault.specs.declared.known.Bearing.{Bearing}
@@ -23,9 +23,9 @@ pub record Grouped (x : Bearing) (c : Context) : Type 0 where
 
 -- what a line of each kind asks of its context
 abbrev pub Bears : Bearing → Context → Kind → Type 0
-Bears x c headLine = Unit {0}
-Bears x c fileLine = Numbered x c
-Bears x c groupLine = c.kind ≡ x.kind
-Bears x c itemLine = Grouped x c
-Bears x c groupEnd = Unit {0}
-Bears x c fileEnd = Unit {0}
+Bears x c head_line = Unit {0}
+Bears x c file_line = Numbered x c
+Bears x c group_line = c.kind ≡ x.kind
+Bears x c item_line = Grouped x c
+Bears x c group_end = Unit {0}
+Bears x c file_end = Unit {0}

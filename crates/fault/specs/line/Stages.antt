@@ -2,39 +2,39 @@
 use Rattle.std.specs.Prelude.{ℕ, List}
 use Rattle.sheet.specs.declared.Sheet.{Sheet}
 use Rattle.paper.specs.Spells.{Context}
-use Rattle.why.specs.Names.{payerBank, fileNumber, groupTotal, groupDay, groupPayer, clientNumber, creationDay, firmName, intervalStart, intervalEnd, restOfLine}
-use Rattle.why.specs.Walk.{Walked, divider, ended, column, spot, last, whyTotal}
+use Rattle.why.specs.Names.{payer_bank, file_number, group_total, group_day, group_payer, client_number, creation_day, firm_name, interval_start, interval_end, rest_of_line}
+use Rattle.why.specs.Walk.{Walked, divider, ended, column, spot, last, why_total}
 
 module _ (sh : Sheet) (today : ℕ) (c : Context) (w : List ℕ) where
   -- the first line
-  abbrev pub fromRest : ℕ → List ℕ → Walked
-  fromRest at s = last sh today c w restOfLine at s
+  abbrev pub from_rest : ℕ → List ℕ → Walked
+  from_rest at s = last sh today c w rest_of_line at s
 
-  abbrev pub fromEnd : ℕ → List ℕ → Walked
-  fromEnd at s = spot sh today c w 3 intervalEnd at s fromRest
+  abbrev pub from_end : ℕ → List ℕ → Walked
+  from_end at s = spot sh today c w 3 interval_end at s from_rest
 
-  abbrev pub fromStart : ℕ → List ℕ → Walked
-  fromStart at s = spot sh today c w 3 intervalStart at s fromEnd
+  abbrev pub from_start : ℕ → List ℕ → Walked
+  from_start at s = spot sh today c w 3 interval_start at s from_end
 
-  abbrev pub fromClient : ℕ → List ℕ → Walked
-  fromClient at s = spot sh today c w 10 clientNumber at s fromStart
+  abbrev pub from_client : ℕ → List ℕ → Walked
+  from_client at s = spot sh today c w 10 client_number at s from_start
 
-  abbrev pub fromName : ℕ → List ℕ → Walked
-  fromName at s = spot sh today c w 20 firmName at s fromClient
+  abbrev pub from_name : ℕ → List ℕ → Walked
+  from_name at s = spot sh today c w 20 firm_name at s from_client
 
-  abbrev pub fromDate : ℕ → List ℕ → Walked
-  fromDate at s = spot sh today c w 6 creationDay at s fromName
+  abbrev pub from_date : ℕ → List ℕ → Walked
+  from_date at s = spot sh today c w 6 creation_day at s from_name
 
   -- an account file's line
-  abbrev pub fromCode : ℕ → List ℕ → Walked
-  fromCode at s = column sh today c w payerBank at s (ended 42 payerBank)
+  abbrev pub from_code : ℕ → List ℕ → Walked
+  from_code at s = column sh today c w payer_bank at s (ended 42 payer_bank)
 
-  abbrev pub fromNumber : ℕ → List ℕ → Walked
-  fromNumber at s = column sh today c w fileNumber at s λ a1 s1. divider payerBank a1 s1 fromCode
+  abbrev pub from_number : ℕ → List ℕ → Walked
+  from_number at s = column sh today c w file_number at s λ a1 s1. divider payer_bank a1 s1 from_code
 
   -- a group's line
-  abbrev pub fromDay : ℕ → List ℕ → Walked
-  fromDay at s = column sh today c w groupDay at s λ a1 s1. ended 42 groupDay a1 s1
+  abbrev pub from_day : ℕ → List ℕ → Walked
+  from_day at s = column sh today c w group_day at s λ a1 s1. ended 42 group_day a1 s1
 
-  abbrev pub fromPayer : ℕ → List ℕ → Walked
-  fromPayer at s = column sh today c w groupPayer at s λ a1 s1. divider groupTotal a1 s1 (whyTotal sh today c w)
+  abbrev pub from_payer : ℕ → List ℕ → Walked
+  from_payer at s = column sh today c w group_payer at s λ a1 s1. divider group_total a1 s1 (why_total sh today c w)

@@ -1,5 +1,5 @@
 -- What is told of a line's walk: that it passed, or the numbers of its first fault. Document 02, W-205. Assumes nothing.
-use Rattle.why.specs.Names.{fieldNumber}
+use Rattle.why.specs.Names.{field_number}
 use Rattle.why.specs.Walk.{Walked, passed, stopped}
 use Rattle.fault.specs.declared.line.Walk.{Walk}
 use Rattle.fault.specs.declared.line.Walk.TheVariants.{Passed, Stopped}
@@ -7,4 +7,4 @@ use Rattle.fault.specs.declared.line.Walk.TheVariants.{Passed, Stopped}
 -- the field by its number
 unfoldable pub walk : Walked → Walk
 walk passed = Passed
-walk (stopped x) = Stopped x.number x.cause x.offset x.length (fieldNumber x.field) x.least x.most
+walk (stopped x) = Stopped x.number x.cause x.offset x.length (field_number x.field) x.least x.most

@@ -1,7 +1,7 @@
 -- `file_line` meets its contract: each answer by the steps of the line. Assumes nothing.
 use borrow.Author.Rules.{rules}
 use Rattle.numeral.proofs.field.Steps.{steps}
-use Rattle.paper.specs.FileLine.{readFile}
+use Rattle.paper.specs.FileLine.{read_file}
 use Rattle.fileline.proofs.file_line.Statement.{statement}
 use Rattle.fileline.proofs.file_line.Tie as tie
 
@@ -15,7 +15,7 @@ enum-known-kind : tie.Need-enum-known-kind
 enum-known-kind c = search rules
 
 returns : tie.Need-returns
-unfolding readFile
+unfolding read_file
 returns c = search steps depth 12
 
 add-a2 : tie.Need-overflow-add-a2
@@ -31,7 +31,7 @@ enum-known-number : tie.Need-enum-known-number
 enum-known-number c = search rules
 
 returns-2 : tie.Need-returns-2
-unfolding readFile
+unfolding read_file
 returns-2 c = search steps depth 12
 
 add-code-and-end : tie.Need-overflow-add-code-and-end
@@ -41,15 +41,15 @@ code-and-end-requires : tie.Need-code-and-end-requires
 code-and-end-requires c κs = search rules
 
 returns-3 : tie.Need-returns-3
-unfolding readFile
+unfolding read_file
 returns-3 c = search steps depth 12
 
 returns-4 : tie.Need-returns-4
-unfolding readFile
+unfolding read_file
 returns-4 c = search steps depth 12
 
 returns-5 : tie.Need-returns-5
-unfolding readFile
+unfolding read_file
 returns-5 c = search steps depth 12
 
 pub file-line-spec : {M : Type 1} → statement M

@@ -68,17 +68,17 @@ module _ (l : List ℕ) (n : ℕ) (inside : n / 64 < length l) where
           rw (here k p, at_other (k % 64) (n % 64) q, or_zero_r (at (get_or l (k / 64) 0) (k % 64)), ne_eqb k n (λ e. q (ap (λ (x : ℕ). x % 64) e)))
       go (no p) q = rw (get_or-set_other l (n / 64) (k / 64) _ 0 p, ne_eqb k n (λ e. p (ap (λ (x : ℕ). x / 64) e)))
 
-getD-zeros : (m i : ℕ) → ◌≡◌ {A = ℕ} (get_or (replicate m 0) i 0) 0
-getD-zeros zero i = refl
-getD-zeros (suc m) zero = refl
-getD-zeros (suc m) (suc i) = getD-zeros m i
+get_d-zeros : (m i : ℕ) → ◌≡◌ {A = ℕ} (get_or (replicate m 0) i 0) 0
+get_d-zeros zero i = refl
+get_d-zeros (suc m) zero = refl
+get_d-zeros (suc m) (suc i) = get_d-zeros m i
 
 -- ---- the set as the list of the numbers that were put to it, the last one first
 
 -- words of zeros hold nothing
 pub holds-none : (m : ℕ) → Holds (replicate m 0) []
 unfolding bit member
-holds-none m k = rw (getD-zeros m (k / 64), zero-div)
+holds-none m k = rw (get_d-zeros m (k / 64), zero-div)
 
 -- what `with` leaves
 pub holds-with : (before after l : List ℕ) (n : ℕ) → Holds before l → Marked before n after → Holds after (n ∷ l)

@@ -2,5 +2,5 @@
 use Rattle.std.specs.Prelude.{ℕ}
 
 -- which they are was judged: none is refused
-abbrev pub anyNumber : ℕ → ℕ
-anyNumber n = 0
+abbrev pub any_number : ℕ → ℕ
+any_number n = 0

@@ -11,17 +11,17 @@ use Rattle.base.specs.Pick.{pick}
 use Rattle.base.specs.Put.{Wrote}
 use Rattle.paper.specs.Bytes.{null}
 use Rattle.paper.specs.ItemLine.{places}
-use Rattle.paper.specs.Words.{blanks, wordsBytes}
-use Rattle.paper.specs.Rows.{textWords, textsWords, itemRow, textSpots}
+use Rattle.paper.specs.Words.{blanks, words_bytes}
+use Rattle.paper.specs.Rows.{text_words, texts_words, item_row, text_spots}
 use Rattle.text.specs.declared.span.Spans.{Spans}
-use Rattle.text.specs.span.Held.{textsAt, Held}
+use Rattle.text.specs.span.Held.{texts_at, Held}
 use Rattle.itemline.specs.declared.Fields.{Fields}
 use Rattle.itemline.specs.Told.{item_at}
-use Rattle.fill.specs.itemrow.Place.{placeWord, Reached}
+use Rattle.fill.specs.itemrow.Place.{place_word, Reached}
 
 -- the words of an item's row, the texts' places a, b, c, d and n
-abbrev rowWords : Fields → ℕ → ℕ → ℕ → ℕ → ℕ → List ℕ
-rowWords x a b c d n =
+abbrev row_words : Fields → ℕ → ℕ → ℕ → ℕ → ℕ → List ℕ
+row_words x a b c d n =
     3 ∷ x.payerprefix ∷ x.payerbase ∷ x.payeeprefix ∷ x.payeebase ∷ x.bank ∷ x.amount ∷ x.variable ∷ x.specific ∷ x.constant ∷ x.priority
     ∷ a ∷ x.texts.part1.len ∷ b ∷ x.texts.part2.len ∷ c ∷ x.texts.part3.len ∷ d ∷ x.texts.part4.len ∷ n ∷ x.texts.name.len
     ∷ 0 ∷ 0 ∷ 0 ∷ []
@@ -33,8 +33,8 @@ some-taken n [] h = absurd (omega arith)
 some-taken n (x ∷ s) h = refl
 
 -- place and length of a text
-span-words : (start : ℕ) (s : List ℕ) (at len : ℕ) → at + len ≤ length s → textWords start at (take len (drop at s)) ≡ pick (eqb len 0) 0 (start + at) ∷ len ∷ []
-unfolding textWords null pick
+span-words : (start : ℕ) (s : List ℕ) (at len : ℕ) → at + len ≤ length s → text_words start at (take len (drop at s)) ≡ pick (eqb len 0) 0 (start + at) ∷ len ∷ []
+unfolding text_words null pick
 span-words start s at zero h = refl
 span-words start s at (suc n) h =
     let more : n < length (drop at s) = omega (arith, length-drop at s) in
@@ -42,10 +42,10 @@ span-words start s at (suc n) h =
     rw (some-taken n (drop at s) more, long, ne_eqb (suc n) 0 (λ e. absurd (omega arith)))
 
 -- words so placed are the row of the item that a line says
-module _ (start : ℕ) (x : Fields) (a b c d n : ℕ) (ea : a ≡ placeWord start x.texts.part1) (eb : b ≡ placeWord start x.texts.part2)
-    (ec : c ≡ placeWord start x.texts.part3) (ed : d ≡ placeWord start x.texts.part4) (en : n ≡ placeWord start x.texts.name) where
-  item-words : (s : List ℕ) → Held s x.texts → itemRow start (textSpots (places (textsAt s x.texts))) (item_at s x) ≡ rowWords x a b c d n
-  unfolding itemRow textsWords blanks
+module _ (start : ℕ) (x : Fields) (a b c d n : ℕ) (ea : a ≡ place_word start x.texts.part1) (eb : b ≡ place_word start x.texts.part2)
+    (ec : c ≡ place_word start x.texts.part3) (ed : d ≡ place_word start x.texts.part4) (en : n ≡ place_word start x.texts.name) where
+  item-words : (s : List ℕ) → Held s x.texts → item_row start (text_spots (places (texts_at s x.texts))) (item_at s x) ≡ row_words x a b c d n
+  unfolding item_row texts_words blanks
   item-words s h =
       let t = x.texts in
       rw (
@@ -61,12 +61,12 @@ module _ (start : ℕ) (x : Fields) (a b c d n : ℕ) (ea : a ≡ placeWord star
         en,
       )
 
-  pub item-row : (o o1 : List ℕ) (at p : ℕ) → Wrote o at (wordsBytes (rowWords x a b c d n)) o1 p
-      → (s : List ℕ) → Held s x.texts → Wrote o at (wordsBytes (itemRow start (textSpots (places (textsAt s x.texts))) (item_at s x))) o1 p
+  pub item-row : (o o1 : List ℕ) (at p : ℕ) → Wrote o at (words_bytes (row_words x a b c d n)) o1 p
+      → (s : List ℕ) → Held s x.texts → Wrote o at (words_bytes (item_row start (text_spots (places (texts_at s x.texts))) (item_at s x))) o1 p
   item-row o o1 at p w s h = rw (item-words s h) w
 
 -- they are 24
-pub item-length : (start : ℕ) (x : Fields) (s : List ℕ) → Held s x.texts → length (itemRow start (textSpots (places (textsAt s x.texts))) (item_at s x)) ≡ 24
+pub item-length : (start : ℕ) (x : Fields) (s : List ℕ) → Held s x.texts → length (item_row start (text_spots (places (texts_at s x.texts))) (item_at s x)) ≡ 24
 item-length start x s h = ap length (item-words start x _ _ _ _ _ refl refl refl refl refl s h)
 
 -- texts that lie in a line whose places a word can hold

@@ -5,8 +5,8 @@ use Rattle.text.specs.declared.span.Span.{Span}
 use Rattle.text.specs.declared.span.Spans.{Spans}
 
 -- the place in the file of a text of the line that starts at `start`; that of an empty one is 0
-abbrev pub placeWord : ℕ → Span → ℕ
-placeWord start p = pick (eqb p.len 0) 0 (start + p.at)
+abbrev pub place_word : ℕ → Span → ℕ
+place_word start p = pick (eqb p.len 0) 0 (start + p.at)
 
 -- the texts of a line that starts at `start` lie at places that a word can hold
 pub record Reached (start : ℕ) (f : Spans) : Type 0 where

@@ -8,14 +8,14 @@ use lib.ListN.{length}
 use Rattle.base.specs.Pick.{pick}
 use Rattle.sheet.specs.declared.Sheet.{Sheet}
 use Rattle.sheet.specs.declared.Known.TheVariants as known
-use Rattle.sheet.specs.Sheets.{sheetOf}
-use Rattle.paper.specs.Days.{realDay}
+use Rattle.sheet.specs.Sheets.{sheet_of}
+use Rattle.paper.specs.Days.{real_day}
 use Rattle.paper.specs.Judge.{judge}
-use Rattle.paper.specs.Reading.{readWith}
+use Rattle.paper.specs.Reading.{read_with}
 use Rattle.numeral.specs.counted.Counted.{Counted}
 use Rattle.why.specs.declared.Finding.{Finding}
 use Rattle.why.specs.Finding.{accepts}
-use Rattle.why.specs.Warned.{warnedIn}
+use Rattle.why.specs.Warned.{warned_in}
 use Rattle.why.proofs.Warned.{as_many}
 use Rattle.listing.specs.declared.Telling.{Telling}
 use Rattle.listing.specs.Listed.{spelled, listed}
@@ -24,26 +24,26 @@ use Rattle.tracing.specs.declared.file.Outcome.{Outcome}
 use Rattle.tracing.specs.declared.file.Outcome.TheVariants as outcome
 use Rattle.tracing.specs.file.Comes.{Comes}
 use Rattle.verdict.specs.declared.Verdict.{Verdict}
-use Rattle.verdict.specs.Told.{verdictOf, verdictIn}
+use Rattle.verdict.specs.Told.{verdict_of, verdict_in}
 use Rattle.verdict.proofs.Laws.{comes-verdict}
-use Rattle.findings.specs.Findings.{findingsOf, findings}
-use Rattle.findings.specs.outcome.Counts.{countIn, refusedIn}
+use Rattle.findings.specs.Findings.{findings_of, findings}
+use Rattle.findings.specs.outcome.Counts.{count_in, refused_in}
 
 module _ (sh : Sheet) (today : ℕ) (f : List ℕ) where
   -- ---- the verdict, of the sheet that the number names
 
-  pub outcome-verdict : (sheet : ℕ) → sheetOf sheet ≡ known.Sheet sh → realDay today ≡ true → (o : Outcome) → Comes sh today f o
-      → (v : Verdict) → v ≡ verdictIn o → v ≡ verdictOf (readWith (sheetOf sheet) today f (length f))
+  pub outcome-verdict : (sheet : ℕ) → sheet_of sheet ≡ known.Sheet sh → real_day today ≡ true → (o : Outcome) → Comes sh today f o
+      → (v : Verdict) → v ≡ verdict_in o → v ≡ verdict_of (read_with (sheet_of sheet) today f (length f))
   outcome-verdict sheet named real o c v e = comes-verdict sh today f real o c v e ∙ rw named
 
   -- ---- how much is found
 
-  pub outcome-count : (o : Outcome) → Comes sh today f o → countIn o ≡ length (findings sh today f)
-  unfolding findings findingsOf
+  pub outcome-count : (o : Outcome) → Comes sh today f o → count_in o ≡ length (findings sh today f)
+  unfolding findings findings_of
   outcome-count (outcome.Found x) (is, judged) = rw judged
   outcome-count (outcome.Passed rows warnings) c = rw c.judged (sym (as_many sh today f c.header c.batch warnings c.judged))
 
-  pub outcome-refused : (o : Outcome) → Comes sh today f o → refusedIn o ≡ pick (accepts (judge sh today f)) 0 1
+  pub outcome-refused : (o : Outcome) → Comes sh today f o → refused_in o ≡ pick (accepts (judge sh today f)) 0 1
   unfolding accepts pick
   outcome-refused (outcome.Found x) (is, judged) = rw judged
   outcome-refused (outcome.Passed rows warnings) c = rw c.judged
@@ -53,7 +53,7 @@ module _ (sh : Sheet) (today : ℕ) (f : List ℕ) where
 module _ (t : Telling) (f : List ℕ) (o : Outcome) (comes : Comes t.sheet t.today f o) where
   pub found-put : (x : Finding) → o ≡ outcome.Found x → (l l' : List ℕ) (to r : ℕ) → Counted l to (spelled t f x) l' r
       → Counted l to (listed t f (findings t.sheet t.today f)) l' r
-  unfolding findings findingsOf
+  unfolding findings findings_of
   found-put x e l l' to r w =
       let (is, judged) : Comes t.sheet t.today f (outcome.Found x) = rw e at comes in
       rw judged (rw (← is) (rw (listed-one t f x) w))
@@ -62,15 +62,15 @@ module _ (t : Telling) (f : List ℕ) (o : Outcome) (comes : Comes t.sheet t.tod
     passes : Comes t.sheet t.today f (outcome.Passed rows warnings)
     passes = rw e at comes
 
-    warned-is : findings t.sheet t.today f ≡ warnedIn t.sheet t.today f
-    unfolding findings findingsOf
+    warned-is : findings t.sheet t.today f ≡ warned_in t.sheet t.today f
+    unfolding findings findings_of
     warned-is = rw passes.judged
 
     pub passed-accepted : accepts (judge t.sheet t.today f) ≡ true
     unfolding accepts
     passed-accepted = rw passes.judged
 
-    pub passed-put : (l l' : List ℕ) (to r : ℕ) → Counted l to (listed t f (warnedIn t.sheet t.today f)) l' r
+    pub passed-put : (l l' : List ℕ) (to r : ℕ) → Counted l to (listed t f (warned_in t.sheet t.today f)) l' r
         → Counted l to (listed t f (findings t.sheet t.today f)) l' r
     passed-put l l' to r w = rw warned-is w
 

@@ -4,11 +4,11 @@ use Rattle.tracing.specs.declared.file.Outcome.{Outcome}
 use Rattle.tracing.specs.declared.file.Outcome.TheVariants as outcome
 
 -- how many findings there are
-abbrev pub countIn : Outcome → ℕ
-countIn (outcome.Found x) = 1
-countIn (outcome.Passed rows warnings) = warnings
+abbrev pub count_in : Outcome → ℕ
+count_in (outcome.Found x) = 1
+count_in (outcome.Passed rows warnings) = warnings
 
 -- 1 where the file is refused
-abbrev pub refusedIn : Outcome → ℕ
-refusedIn (outcome.Found x) = 1
-refusedIn (outcome.Passed rows warnings) = 0
+abbrev pub refused_in : Outcome → ℕ
+refused_in (outcome.Found x) = 1
+refused_in (outcome.Passed rows warnings) = 0

@@ -1,12 +1,12 @@
 -- `read_client` reads from the client number on. Assumes nothing.
 use borrow.Author.Rules.{rules}
-use Rattle.firstline.specs.Stages.{onClient}
+use Rattle.firstline.specs.Stages.{on_client}
 use Rattle.firstline.proofs.Steps.{fields}
 use Rattle.firstline.proofs.read_client.Statement.{statement}
 use Rattle.firstline.proofs.read_client.Tie as tie
 
 returns : tie.Need-returns
-unfolding onClient
+unfolding on_client
 returns c = search fields
 
 sub-read-digits : tie.Need-overflow-sub-read-digits
@@ -31,11 +31,11 @@ enum-known-e : tie.Need-enum-known-e
 enum-known-e c = search rules
 
 returns-2 : tie.Need-returns-2
-unfolding onClient
+unfolding on_client
 returns-2 c = search fields
 
 returns-3 : tie.Need-returns-3
-unfolding onClient
+unfolding on_client
 returns-3 c = search fields
 
 pub read-client-spec : {M : Type 1} → statement M

@@ -1,12 +1,12 @@
 -- `read_date` reads from the date on. Assumes nothing.
 use borrow.Author.Rules.{rules}
-use Rattle.firstline.specs.Stages.{onDate}
+use Rattle.firstline.specs.Stages.{on_date}
 use Rattle.firstline.proofs.Steps.{fields}
 use Rattle.firstline.proofs.read_date.Statement.{statement}
 use Rattle.firstline.proofs.read_date.Tie as tie
 
 returns : tie.Need-returns
-unfolding onDate
+unfolding on_date
 returns c = search fields
 
 sub-read-day : tie.Need-overflow-sub-read-day
@@ -31,11 +31,11 @@ enum-known-e : tie.Need-enum-known-e
 enum-known-e c = search rules
 
 returns-2 : tie.Need-returns-2
-unfolding onDate
+unfolding on_date
 returns-2 c = search fields
 
 returns-3 : tie.Need-returns-3
-unfolding onDate
+unfolding on_date
 returns-3 c = search fields
 
 pub read-date-spec : {M : Type 1} → statement M

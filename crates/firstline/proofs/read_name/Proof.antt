@@ -1,12 +1,12 @@
 -- `read_name` reads from the name on. Assumes nothing.
 use borrow.Author.Rules.{rules}
-use Rattle.firstline.specs.Stages.{onName}
+use Rattle.firstline.specs.Stages.{on_name}
 use Rattle.firstline.proofs.Steps.{fields}
 use Rattle.firstline.proofs.read_name.Statement.{statement}
 use Rattle.firstline.proofs.read_name.Tie as tie
 
 returns : tie.Need-returns
-unfolding onName
+unfolding on_name
 returns c = search fields
 
 sub-all-text : tie.Need-overflow-sub-all-text
@@ -25,11 +25,11 @@ read-client-requires : tie.Need-read-client-requires
 read-client-requires c κs = search rules
 
 returns-2 : tie.Need-returns-2
-unfolding onName
+unfolding on_name
 returns-2 c = search fields
 
 returns-3 : tie.Need-returns-3
-unfolding onName
+unfolding on_name
 returns-3 c = search fields
 
 pub read-name-spec : {M : Type 1} → statement M

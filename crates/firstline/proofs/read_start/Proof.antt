@@ -1,12 +1,12 @@
 -- `read_start` reads from the start of the interval on. Assumes nothing.
 use borrow.Author.Rules.{rules}
-use Rattle.firstline.specs.Stages.{onFrom}
+use Rattle.firstline.specs.Stages.{on_from}
 use Rattle.firstline.proofs.Steps.{fields}
 use Rattle.firstline.proofs.read_start.Statement.{statement}
 use Rattle.firstline.proofs.read_start.Tie as tie
 
 returns : tie.Need-returns
-unfolding onFrom
+unfolding on_from
 returns c = search fields
 
 sub-read-digits : tie.Need-overflow-sub-read-digits
@@ -31,11 +31,11 @@ enum-known-e : tie.Need-enum-known-e
 enum-known-e c = search rules
 
 returns-2 : tie.Need-returns-2
-unfolding onFrom
+unfolding on_from
 returns-2 c = search fields
 
 returns-3 : tie.Need-returns-3
-unfolding onFrom
+unfolding on_from
 returns-3 c = search fields
 
 pub read-start-spec : {M : Type 1} → statement M

@@ -1,12 +1,12 @@
 -- `read_stop` reads the end of the interval and the rest. Assumes nothing.
 use borrow.Author.Rules.{rules}
-use Rattle.firstline.specs.Stages.{onTo}
+use Rattle.firstline.specs.Stages.{on_to}
 use Rattle.firstline.proofs.Steps.{fields}
 use Rattle.firstline.proofs.read_stop.Statement.{statement}
 use Rattle.firstline.proofs.read_stop.Tie as tie
 
 returns : tie.Need-returns
-unfolding onTo
+unfolding on_to
 returns c = search fields
 
 sub-last-number : tie.Need-overflow-sub-last-number
@@ -28,18 +28,18 @@ rest-taken-requires : tie.Need-rest-taken-requires
 rest-taken-requires c κs = search rules
 
 returns-2 : tie.Need-returns-2
-unfolding onTo
+unfolding on_to
 returns-2 c = search fields
 
 enum-known-e : tie.Need-enum-known-e
 enum-known-e c = search rules
 
 returns-3 : tie.Need-returns-3
-unfolding onTo
+unfolding on_to
 returns-3 c = search fields
 
 returns-4 : tie.Need-returns-4
-unfolding onTo
+unfolding on_to
 returns-4 c = search fields
 
 pub read-stop-spec : {M : Type 1} → statement M

@@ -1,4 +1,4 @@
--- `too_many`: the whole line is found, with the limit that was reached. Assumes nothing.
+-- `too-many`: the whole line is found, with the limit that was reached. Assumes nothing.
 use Rattle.std.proofs.Common.{rules}
 use Rattle.found.proofs.Exits.{wholes}
 use Rattle.found.proofs.too_many.Statement.{statement}

@@ -3,13 +3,13 @@ use Prim.Native.Nat.{◌≤◌}
 use mathlib.Core.Path.{◌≡◌}
 use lib.ListN.{length, drop}
 use borrow.Author.Rules.{rules}
-use Rattle.paper.specs.GroupLine.{spaceCount}
+use Rattle.paper.specs.GroupLine.{space_count}
 use Rattle.groupline.proofs.Spaces.{inside}
 use Rattle.groupline.proofs.space_inside.Statement.{statement}
 use Rattle.groupline.proofs.space_inside.Tie as tie
 
 abbrev invariant-loop : tie.invariant-loop
-invariant-loop s stop i₀ i = (2 ≤ i) × (i ≤ length s) × (spaceCount (drop i s) ≡ spaceCount (drop stop s))
+invariant-loop s stop i₀ i = (2 ≤ i) × (i ≤ length s) × (space_count (drop i s) ≡ space_count (drop stop s))
 
 abbrev decreases-loop : tie.decreases-loop
 decreases-loop s stop i₀ i = i

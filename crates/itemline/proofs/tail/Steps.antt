@@ -5,23 +5,23 @@ use mathlib.Core.List.{List}
 use Prim.Native.Nat.{ℕ, ◌≤◌}
 use lib.ListN.{length, drop}
 use Rattle.sheet.specs.declared.Style.{Style}
-use Rattle.paper.specs.Texts.{Noted, readText}
-use Rattle.paper.specs.Entries.{Counted, no, toEnd}
-use Rattle.paper.specs.ItemLine.{noTexts}
+use Rattle.paper.specs.Texts.{Noted, read_text}
+use Rattle.paper.specs.Entries.{Counted, no, to_end}
+use Rattle.paper.specs.ItemLine.{no_texts}
 use Rattle.itemline.specs.declared.tail.TailRead.{TailRead}
 use Rattle.itemline.specs.declared.tail.TailRead.TheVariants.{Plain, Text, Refused}
-use Rattle.itemline.specs.tail.Told.{told, Inside, tailOf}
+use Rattle.itemline.specs.tail.Told.{told, Inside, tail_of}
 
-module _ (s : List ℕ) (at : ℕ) (fixed bare : Bool) (t : TailRead) (g : (y : Style) (k : ℕ → Noted → Counted) → told y s t k ≡ tailOf y fixed bare k at (drop at s)) where
+module _ (s : List ℕ) (at : ℕ) (fixed bare : Bool) (t : TailRead) (g : (y : Style) (k : ℕ → Noted → Counted) → told y s t k ≡ tail_of y fixed bare k at (drop at s)) where
   module _ (y : Style) (r : Counted) (k : ℕ → Noted → Counted) where
-    pub step-plain : (v : ℕ) → t ≡ Plain v → r ≡ k v noTexts → r ≡ tailOf y fixed bare k at (drop at s)
+    pub step-plain : (v : ℕ) → t ≡ Plain v → r ≡ k v no_texts → r ≡ tail_of y fixed bare k at (drop at s)
     step-plain v f q = q ∙ (rw f at (g y k))
 
-    pub step-text : (v from : ℕ) → t ≡ Text v from → r ≡ toEnd (readText y from) from (drop from s) (λ texts. k v texts)
-        → r ≡ tailOf y fixed bare k at (drop at s)
+    pub step-text : (v from : ℕ) → t ≡ Text v from → r ≡ to_end (read_text y from) from (drop from s) (λ texts. k v texts)
+        → r ≡ tail_of y fixed bare k at (drop at s)
     step-text v from f q = q ∙ (rw f at (g y k))
 
-    pub step-no-tail : (n e : ℕ) → t ≡ Refused n e → r ≡ no n e → r ≡ tailOf y fixed bare k at (drop at s)
+    pub step-no-tail : (n e : ℕ) → t ≡ Refused n e → r ≡ no n e → r ≡ tail_of y fixed bare k at (drop at s)
     step-no-tail n e f q = q ∙ (rw f at (g y k))
 
 -- where a text begins is in the line, or its end

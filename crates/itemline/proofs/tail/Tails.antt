@@ -13,36 +13,36 @@ use Rattle.base.proofs.Cases.{either, pick_true, pick-false, picks}
 use Rattle.sheet.specs.declared.Style.{Style}
 use Rattle.paper.specs.Read.{Field, value, fault}
 use Rattle.paper.specs.Bytes.{field_of, null}
-use Rattle.paper.specs.Numerals.{digits, digitsOn}
-use Rattle.paper.specs.Texts.{Noted, readText}
-use Rattle.paper.specs.Entries.{Counted, no, field, toEnd}
-use Rattle.paper.specs.ItemLine.{readSymbol, readSymbolOrNone, is_value, noTexts, afterSymbol, fixedTail, openTail}
+use Rattle.paper.specs.Numerals.{digits, digits_on}
+use Rattle.paper.specs.Texts.{Noted, read_text}
+use Rattle.paper.specs.Entries.{Counted, no, field, to_end}
+use Rattle.paper.specs.ItemLine.{read_symbol, read_symbol_or_none, is_value, no_texts, after_symbol, fixed_tail, open_tail}
 use Rattle.numeral.specs.field.At.{ending, field_at}
 use Rattle.numeral.specs.declared.field.NumAt.{NumAt}
 use Rattle.numeral.specs.declared.field.NumAt.TheVariants.{Value, Refused}
 use Rattle.numeral.specs.field.Told.{told}
 use Rattle.itemline.specs.declared.tail.TailRead.{TailRead}
-use Rattle.itemline.specs.tail.Told.{tailOf}
+use Rattle.itemline.specs.tail.Told.{tail_of}
 use Rattle.itemline.specs.tail.Told as tail
 use Rattle.numeral.proofs.field.Steps.{step_value, step-refused, step-gap, step-no-gap, found-value, missed-fault, number-within}
 
 -- ---- a symbol or none is a number of no digit or more
 
-no_digit : (s : List ℕ) → readSymbolOrNone s ≡ digits 0 10 s
-unfolding readSymbolOrNone digits null digitsOn pick
+no_digit : (s : List ℕ) → read_symbol_or_none s ≡ digits 0 10 s
+unfolding read_symbol_or_none digits null digits_on pick
 no_digit [] = refl
 no_digit (x ∷ s) = simp (le-ltb (suc (length s)) 1 (omega arith), le-ltb (suc (length s)) 0 (omega arith))
 
 module _ (r : Counted) (s : List ℕ) (at : ℕ) (k : ℕ → ℕ → List ℕ → Counted) (n : NumAt) (g : told n ≡ field_at (digits 0 10) s at) where
-  none-at : told n ≡ field_at readSymbolOrNone s at
+  none-at : told n ≡ field_at read_symbol_or_none s at
   unfolding field_at
   none-at = g ∙ ap (ending _) (sym (no_digit (field_of (drop at s))))
 
-  pub step-symbol : (v e : ℕ) → n ≡ Value v e → r ≡ k v e (drop e s) → r ≡ field readSymbolOrNone at (drop at s) k
-  step-symbol v e f q = step_value r readSymbolOrNone s k n at none-at v e f q
+  pub step-symbol : (v e : ℕ) → n ≡ Value v e → r ≡ k v e (drop e s) → r ≡ field read_symbol_or_none at (drop at s) k
+  step-symbol v e f q = step_value r read_symbol_or_none s k n at none-at v e f q
 
-  pub step-no-symbol : (c : ℕ) → n ≡ Refused c → r ≡ no c at → r ≡ field readSymbolOrNone at (drop at s) k
-  step-no-symbol c f q = step-refused r readSymbolOrNone s k n at none-at c f q
+  pub step-no-symbol : (c : ℕ) → n ≡ Refused c → r ≡ no c at → r ≡ field read_symbol_or_none at (drop at s) k
+  step-no-symbol c f q = step-refused r read_symbol_or_none s k n at none-at c f q
 
 -- ---- is the text without a symbol?
 
@@ -63,53 +63,53 @@ module _ (bare : Bool) (x : Field ℕ) where
 
 module _ (y : Style) (k : ℕ → Noted → Counted) (r : Counted) (s : List ℕ) where
   module _ (v e : ℕ) where
-    pub after_none : length s ≤ e → r ≡ k v noTexts → r ≡ afterSymbol y k v e (drop e s)
-    unfolding afterSymbol
+    pub after_none : length s ≤ e → r ≡ k v no_texts → r ≡ after_symbol y k v e (drop e s)
+    unfolding after_symbol
     after_none h q = q ∙ rw (drop_of_length-le s h)
 
-    pub after_text : e < length s → r ≡ toEnd (readText y (e + 1)) (e + 1) (drop (e + 1) s) (λ texts. k v texts) → r ≡ afterSymbol y k v e (drop e s)
-    unfolding afterSymbol
+    pub after_text : e < length s → r ≡ to_end (read_text y (e + 1)) (e + 1) (drop (e + 1) s) (λ texts. k v texts) → r ≡ after_symbol y k v e (drop e s)
+    unfolding after_symbol
     after_text h q = q ∙ rw (drop-cons s e 0 h, add-one)
 
   module _ (bare : Bool) (at : ℕ) where
-    pub open_none : length s ≤ at → r ≡ k 0 noTexts → r ≡ openTail y k bare at (drop at s)
-    unfolding openTail
+    pub open_none : length s ≤ at → r ≡ k 0 no_texts → r ≡ open_tail y k bare at (drop at s)
+    unfolding open_tail
     open_none h q = q ∙ rw (drop_of_length-le s h)
 
     module _ (h : at < length s) (n : NumAt) (g : told n ≡ field_at (digits 1 10) s (at + 1)) where
       -- the two ways on behind the space
-      open-cons : openTail y k bare at (drop at s)
-          ≡ pick (pick bare (pick (is_value (readSymbol (field_of (drop (at + 1) s)))) false true) false)
-          (toEnd (readText y (at + 1)) (at + 1) (drop (at + 1) s) (λ texts. k 0 texts))
-          (field readSymbol (at + 1) (drop (at + 1) s) (λ v a1 s1. afterSymbol y k v a1 s1))
-      unfolding openTail
+      open-cons : open_tail y k bare at (drop at s)
+          ≡ pick (pick bare (pick (is_value (read_symbol (field_of (drop (at + 1) s)))) false true) false)
+          (to_end (read_text y (at + 1)) (at + 1) (drop (at + 1) s) (λ texts. k 0 texts))
+          (field read_symbol (at + 1) (drop (at + 1) s) (λ v a1 s1. after_symbol y k v a1 s1))
+      unfolding open_tail
       open-cons = rw (drop-cons s at 0 h, add-one)
 
-      pub open-symbol : (v e : ℕ) → n ≡ Value v e → r ≡ afterSymbol y k v e (drop e s) → r ≡ openTail y k bare at (drop at s)
+      pub open-symbol : (v e : ℕ) → n ≡ Value v e → r ≡ after_symbol y k v e (drop e s) → r ≡ open_tail y k bare at (drop at s)
       open-symbol v e f q =
-          step_value r readSymbol s (λ v a1 s1. afterSymbol y k v a1 s1) n (at + 1) g v e f q
-          ∙ sym (open-cons ∙ pick-false _ _ (symbol-there bare _ v (found-value readSymbol s (at + 1) v e (rw f at g))))
+          step_value r read_symbol s (λ v a1 s1. after_symbol y k v a1 s1) n (at + 1) g v e f q
+          ∙ sym (open-cons ∙ pick-false _ _ (symbol-there bare _ v (found-value read_symbol s (at + 1) v e (rw f at g))))
 
       pub open-bare : (c : ℕ) → n ≡ Refused c → bare ≡ true
-          → r ≡ toEnd (readText y (at + 1)) (at + 1) (drop (at + 1) s) (λ texts. k 0 texts) → r ≡ openTail y k bare at (drop at s)
-      open-bare c f b q = q ∙ sym (open-cons ∙ pick_true _ _ (no_symbol bare _ c b (missed-fault readSymbol s (at + 1) c (rw f at g))))
+          → r ≡ to_end (read_text y (at + 1)) (at + 1) (drop (at + 1) s) (λ texts. k 0 texts) → r ≡ open_tail y k bare at (drop at s)
+      open-bare c f b q = q ∙ sym (open-cons ∙ pick_true _ _ (no_symbol bare _ c b (missed-fault read_symbol s (at + 1) c (rw f at g))))
 
-      pub open-refused : (c : ℕ) → n ≡ Refused c → bare ≡ false → r ≡ no c (at + 1) → r ≡ openTail y k bare at (drop at s)
+      pub open-refused : (c : ℕ) → n ≡ Refused c → bare ≡ false → r ≡ no c (at + 1) → r ≡ open_tail y k bare at (drop at s)
       open-refused c f b q =
-          step-refused r readSymbol s (λ v a1 s1. afterSymbol y k v a1 s1) n (at + 1) g c f q
+          step-refused r read_symbol s (λ v a1 s1. after_symbol y k v a1 s1) n (at + 1) g c f q
           ∙ sym (open-cons ∙ pick-false _ _ (not-bare bare _ b))
 
 -- ---- the two kinds of tail: r is what the reader of the kind answered
 
 module _ (fixed bare : Bool) (s : List ℕ) (at : ℕ) (r : TailRead) where
-  pub tail-fixed : fixed ≡ true → ((y : Style) (k : ℕ → Noted → Counted) → tail.told y s r k ≡ fixedTail y k at (drop at s))
-      → (y : Style) (k : ℕ → Noted → Counted) → tail.told y s r k ≡ tailOf y fixed bare k at (drop at s)
-  unfolding tailOf
+  pub tail-fixed : fixed ≡ true → ((y : Style) (k : ℕ → Noted → Counted) → tail.told y s r k ≡ fixed_tail y k at (drop at s))
+      → (y : Style) (k : ℕ → Noted → Counted) → tail.told y s r k ≡ tail_of y fixed bare k at (drop at s)
+  unfolding tail_of
   tail-fixed h q y k = q y k ∙ sym (pick_true _ _ h)
 
-  pub tail-open : fixed ≡ false → ((y : Style) (k : ℕ → Noted → Counted) → tail.told y s r k ≡ openTail y k bare at (drop at s))
-      → (y : Style) (k : ℕ → Noted → Counted) → tail.told y s r k ≡ tailOf y fixed bare k at (drop at s)
-  unfolding tailOf
+  pub tail-open : fixed ≡ false → ((y : Style) (k : ℕ → Noted → Counted) → tail.told y s r k ≡ open_tail y k bare at (drop at s))
+      → (y : Style) (k : ℕ → Noted → Counted) → tail.told y s r k ≡ tail_of y fixed bare k at (drop at s)
+  unfolding tail_of
   tail-open h q y k = q y k ∙ sym (pick-false _ _ h)
 
 pub ruleset kinds = (tail-fixed, tail-open)

@@ -12,12 +12,12 @@ use Rattle.paper.specs.Entries.{Counted}
 use Rattle.numeral.specs.field.At.{found, field_at}
 use Rattle.itemline.specs.Walk.{spaced}
 use Rattle.numeral.specs.placed.Known.{There}
-use Rattle.numeral.specs.placed.Said.{isSaid}
+use Rattle.numeral.specs.placed.Said.{is_said}
 use Rattle.numeral.proofs.placed.Goes.{said-as, next-inside, next-goes, next-there}
 
 -- v and e are the field's value and end
 
-module _ {A : Type 0} (read : List ℕ → Field A) (s : List ℕ) (at : ℕ) (k : A → ℕ → List ℕ → Counted) (h : isSaid (spaced read at (drop at s) k) ≡ true) where
+module _ {A : Type 0} (read : List ℕ → Field A) (s : List ℕ) (at : ℕ) (k : A → ℕ → List ℕ → Counted) (h : is_said (spaced read at (drop at s) k) ≡ true) where
   pub stage-there : There read s at
   unfolding spaced
   stage-there = next-there read s at k h
@@ -39,7 +39,7 @@ module _ {A : Type 0} (read : List ℕ → Field A) (s : List ℕ) (at : ℕ) (k
     stage-room l = omega (arith, inside)
 
     -- the next stage, n, says something; what it says, r, is what this one says
-    pub stage-said : (n : Counted) → n ≡ k v (e + 1) (drop (e + 1) s) → isSaid n ≡ true
+    pub stage-said : (n : Counted) → n ≡ k v (e + 1) (drop (e + 1) s) → is_said n ≡ true
     stage-said n q = said-as _ _ h (to-next ∙ sym q)
 
     pub stage_is : (r : Counted) → r ≡ k v (e + 1) (drop (e + 1) s) → r ≡ spaced read at (drop at s) k

@@ -14,13 +14,13 @@ use Rattle.base.proofs.Cases.{by-test, pick_true, pick-false}
 use Rattle.base.proofs.Seek.{never, starts-long}
 use Rattle.sheet.specs.declared.Style.{Style}
 use Rattle.paper.specs.Read.{Field, value, fault}
-use Rattle.paper.specs.Bytes.{isText, av, np, mark, null}
-use Rattle.paper.specs.Texts.{Piece, piece, Noted, divide, cut, over, cuts, pad, opens, partsTaken, fitted, finish, messageEnd, message, marked, readText}
+use Rattle.paper.specs.Bytes.{is_text, av, np, mark, null}
+use Rattle.paper.specs.Texts.{Piece, piece, Noted, divide, cut, over, cuts, pad, opens, parts_taken, fitted, finish, message_end, message, marked, read_text}
 use Rattle.paper.specs.ItemLine.{is_value}
 use Rattle.text.specs.declared.span.Spans.{Spans}
-use Rattle.text.specs.span.Held.{textsAt, Held}
-use Rattle.text.specs.span.Places.{fourFrom}
-use Rattle.text.specs.Told.{countText}
+use Rattle.text.specs.span.Held.{texts_at, Held}
+use Rattle.text.specs.span.Places.{four_from}
+use Rattle.text.specs.Told.{count_text}
 use Rattle.text.proofs.span.Right.{found_right, found-held}
 
 -- ---- a value came through a test
@@ -48,7 +48,7 @@ module _ (y : Style) (ps : List Piece) (n : Piece) (h : is_value (finish y ps n)
 
   to-fitted : finish y ps n ≡ fitted y ps n
   unfolding finish
-  to-fitted = (past-yes (partsTaken y ps) 14 (fitted y ps n) h).1
+  to-fitted = (past-yes (parts_taken y ps) 14 (fitted y ps n) h).1
 
   fits : is_value (fitted y ps n) ≡ true
   fits = value_as _ _ h to-fitted
@@ -70,27 +70,27 @@ module _ (y : Style) (small : y.most ≤ 4) (nameless : y.names ≡ false) (s : 
   no_name = piece (from + (length (drop from s) + 4)) []
 
   ends : message y from (drop from s) ≡ finish y (divide from (drop from s)) no_name
-  unfolding message messageEnd no_name
+  unfolding message message_end no_name
   ends =
       let e : pick y.names (seek mark (drop from s)) (length (drop from s)) ≡ length (drop from s) = pick-false _ _ nameless in
       let n : length (drop from s) ≤ length (drop from s) + 4 = omega arith in
       rw (e, take-length, drop_of_length-le (drop from s) n)
 
-  pub message-is : value (textsAt s (fourFrom s from 0 0)) ≡ countText (message y from (drop from s))
-  unfolding cut over null pick no_name countText
+  pub message-is : value (texts_at s (four_from s from 0 0)) ≡ count_text (message y from (drop from s))
+  unfolding cut over null pick no_name count_text
   message-is =
       let g = value_as _ _ h ends in
       let c : length (divide from (drop from s)) ≤ 4 = omega (arith, few y (divide from (drop from s)) no_name g) in
       let r = found_right s s (length s) (sym (take-length s)) from l 0 0 (omega arith) c in
-      ap value r ∙ ap countText (sym (ends ∙ finished y (divide from (drop from s)) no_name g))
+      ap value r ∙ ap count_text (sym (ends ∙ finished y (divide from (drop from s)) no_name g))
 
-pub parts_held : (s : List ℕ) (from : ℕ) (f : Spans) → from ≤ length s → f ≡ fourFrom s from 0 0 → Held s f
+pub parts_held : (s : List ℕ) (from : ℕ) (f : Spans) → from ≤ length s → f ≡ four_from s from 0 0 → Held s f
 parts_held s from f l e = rw e (found-held s s (length s) (sym (take-length s)) from l 0 0 (omega arith))
 
 -- ---- a text with no name, which begins `AV:` where the sheet has it
 
 module _ (y : Style) (s : List ℕ) (from : ℕ) (l : from ≤ length s) (plain : pick y.names true y.may ≡ false)
-    (h : is_value (readText y from (drop from s)) ≡ true) where
+    (h : is_value (read_text y from (drop from s)) ≡ true) where
   abbrev t : List ℕ
   t = drop from s
 
@@ -104,9 +104,9 @@ module _ (y : Style) (s : List ℕ) (from : ℕ) (l : from ≤ length s) (plain 
   body : Field Noted
   body = pick y.av (pick (opens t) (marked y from t) (fault 4)) (message y from t)
 
-  text-body : readText y from t ≡ body
-  unfolding readText body
-  text-body = (past-yes (all isText t) 4 body h).1
+  text-body : read_text y from t ≡ body
+  unfolding read_text body
+  text-body = (past-yes (all is_text t) 4 body h).1
 
   -- with `AV:`
   module _ (a : y.av ≡ true) where
@@ -114,7 +114,7 @@ module _ (y : Style) (s : List ℕ) (from : ℕ) (l : from ≤ length s) (plain 
     unfolding body
     opened = value_as _ _ h (text-body ∙ pick_true _ _ a)
 
-    to-marked : readText y from t ≡ marked y from t
+    to-marked : read_text y from t ≡ marked y from t
     unfolding body
     to-marked = text-body ∙ (pick_true _ _ a ∙ (past-yes (opens t) 4 (marked y from t) opened).1)
 
@@ -130,24 +130,24 @@ module _ (y : Style) (s : List ℕ) (from : ℕ) (l : from ≤ length s) (plain 
     av-within : from + 3 ≤ length s
     av-within = omega (arith, starts-long av t av-there.0, length-drop from s)
 
-    text-av : readText y from t ≡ message y (from + 3) (drop (from + 3) s)
+    text-av : read_text y from t ≡ message y (from + 3) (drop (from + 3) s)
     text-av = to-marked ∙ (to-av ∙ (av-there.1 ∙ rw drop-drop))
 
-  text-bare : y.av ≡ false → readText y from t ≡ message y from t
+  text-bare : y.av ≡ false → read_text y from t ≡ message y from t
   unfolding body
   text-bare a = text-body ∙ pick-false _ _ a
 
   -- m is where the message begins
   module _ (m : ℕ) (g : m ≡ pick y.av (from + 3) from) where
-    begins : (b : Bool) → y.av ≡ b → (m ≤ length s) × (readText y from t ≡ message y m (drop m s))
+    begins : (b : Bool) → y.av ≡ b → (m ≤ length s) × (read_text y from t ≡ message y m (drop m s))
     begins true a = let e : m ≡ from + 3 = g ∙ pick_true _ _ a in rw e (av-within a, text-av a)
     begins false a = let e : m ≡ from = g ∙ pick-false _ _ a in rw e (l, text-bare a)
 
     pub start-within : m ≤ length s
     start-within = (begins y.av refl).0
 
-    pub text_at : readText y from (drop from s) ≡ message y m (drop m s)
-    text_at = (begins y.av refl).1
+    pub text-at : read_text y from (drop from s) ≡ message y m (drop m s)
+    text-at = (begins y.av refl).1
 
 pub varied-not : (y : Style) (t : Bool) → t ≡ pick y.names true y.may → t ≡ false → pick y.names true y.may ≡ false
 varied-not y t g e = sym g ∙ e

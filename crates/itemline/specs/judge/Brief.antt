@@ -5,11 +5,11 @@ use Rattle.paper.specs.Accounts.{Account, nobody}
 use Rattle.paper.specs.BankField.{Bank}
 use Rattle.paper.specs.Batch.{Item}
 use Rattle.paper.specs.Texts.{Noted}
-use Rattle.paper.specs.Entries.{item, nowhere, Counted, got, said, no, onItem}
+use Rattle.paper.specs.Entries.{item, nowhere, Counted, got, said, no, on_item}
 
 -- an item of which only the amount is told
-abbrev pub bareItem : ℕ → Item
-bareItem amount =
+abbrev pub bare_item : ℕ → Item
+bare_item amount =
     record {
       payer = nobody;
       payee = nobody;
@@ -25,29 +25,29 @@ bareItem amount =
 
 -- an item by its amount, with how many warnings its line gives
 abbrev pub kept : ℕ → ℕ → Counted
-kept amount warnings = said (item (bareItem amount)) warnings nowhere
+kept amount warnings = said (item (bare_item amount)) warnings nowhere
 
 -- .. made of the warnings of a bank field and of the texts behind it
-unfoldable pub keptTexts : ℕ → ℕ → ℕ → Noted → Counted
-keptTexts amount warnings specific texts = kept amount (warnings + length texts.warnings)
+unfoldable pub kept_texts : ℕ → ℕ → ℕ → Noted → Counted
+kept_texts amount warnings specific texts = kept amount (warnings + length texts.warnings)
 
 -- .. made of the bank field and what follows
-unfoldable pub keptBank : ℕ → Bank → ℕ → Noted → Counted
-keptBank amount bank = keptTexts amount bank.warnings
+unfoldable pub kept_bank : ℕ → Bank → ℕ → Noted → Counted
+kept_bank amount bank = kept_texts amount bank.warnings
 
 -- .. whatever the variable symbol is
-unfoldable pub keptVariable : ℕ → ℕ → Bank → ℕ → Noted → Counted
-keptVariable amount variable = keptBank amount
+unfoldable pub kept_variable : ℕ → ℕ → Bank → ℕ → Noted → Counted
+kept_variable amount variable = kept_bank amount
 
 -- .. and whoever is paid
-unfoldable pub keptPayee : Account → ℕ → ℕ → Bank → ℕ → Noted → Counted
-keptPayee payee = keptVariable
+unfoldable pub kept_payee : Account → ℕ → ℕ → Bank → ℕ → Noted → Counted
+kept_payee payee = kept_variable
 
 -- the walk goes on (k) whoever pays
-unfoldable pub anyPayer : (ℕ → List ℕ → Counted) → Account → ℕ → List ℕ → Counted
-anyPayer k payer = k
+unfoldable pub any_payer : (ℕ → List ℕ → Counted) → Account → ℕ → List ℕ → Counted
+any_payer k payer = k
 
 -- what a line says, an item by its amount alone
 unfoldable pub brief : Counted → Counted
-brief (got t) = said (onItem t.entry (λ x. item (bareItem x.amount)) t.entry t.entry) t.warnings nowhere
+brief (got t) = said (on_item t.entry (λ x. item (bare_item x.amount)) t.entry t.entry) t.warnings nowhere
 brief (no n at) = no n at

@@ -13,9 +13,9 @@ told (answer.Item amount warnings) = kept amount warnings
 told (answer.Refused n at) = no n at
 
 -- the reading goes on (k) with the line from the payee on; or it is refused
-abbrev pub toldFrom : List ℕ → PayeeFrom → (ℕ → List ℕ → Counted) → Counted
-toldFrom s (before.At at) k = k at (drop at s)
-toldFrom s (before.Refused n at) k = no n at
+abbrev pub told_from : List ℕ → PayeeFrom → (ℕ → List ℕ → Counted) → Counted
+told_from s (before.At at) k = k at (drop at s)
+told_from s (before.Refused n at) k = no n at
 
 -- the payee begins in the line, or with its end
 abbrev pub InsideFrom : List ℕ → PayeeFrom → Type 0

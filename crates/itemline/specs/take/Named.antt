@@ -2,7 +2,7 @@
 use Rattle.std.specs.Prelude.{ℕ, List, length}
 use Rattle.text.specs.declared.span.Span.{Span}
 use Rattle.text.specs.declared.span.Spans.{Spans}
-use Rattle.text.specs.span.Places.{fourFrom}
+use Rattle.text.specs.span.Places.{four_from}
 use Rattle.text.specs.Finish.{name_at}
 use Rattle.text.specs.division.Unnamed.{unnamed}
 
@@ -11,5 +11,5 @@ abbrev pub name_of : List ℕ → ℕ → Span
 name_of s from = name_at (length (unnamed s from)) (length s)
 
 -- the parts of that message, and its name
-unfoldable pub withName : List ℕ → ℕ → Spans
-withName s from = fourFrom (unnamed s from) from (name_of s from).at (name_of s from).len
+unfoldable pub with_name : List ℕ → ℕ → Spans
+with_name s from = four_from (unnamed s from) from (name_of s from).at (name_of s from).len

@@ -9,11 +9,11 @@ use borrow.Author.Tests.{le-leb, lt-leb, eq-eqb, ne_eqb}
 use Rattle.base.specs.Pick.{pick}
 use Rattle.sheet.specs.declared.Sheet.{Sheet}
 use Rattle.paper.specs.Batch.{Header}
-use Rattle.paper.specs.Entries.{file, Places, plain, said, no, counted, Kind, fileLine, kind_of, onFile, on_entry}
+use Rattle.paper.specs.Entries.{file, Places, plain, said, no, counted, Kind, file_line, kind_of, on_file, on_entry}
 use Rattle.paper.specs.Warnings.{Notice}
-use Rattle.paper.specs.Spells.{numberTest, readAs}
-use Rattle.paper.specs.FileLine.{series, numberFault, readFile}
-use Rattle.paper.proofs.LineSays.{Asked, askingNumber, LineSays, a-file, file-says, refusal-in}
+use Rattle.paper.specs.Spells.{number_test, read_as}
+use Rattle.paper.specs.FileLine.{series, number_fault, read_file}
+use Rattle.paper.proofs.LineSays.{Asked, asking_number, LineSays, a-file, file-says, refusal-in}
 use Rattle.paper.proofs.Starts.{kind-long}
 use Rattle.numeral.proofs.given.Sound.{number-tested}
 use Rattle.scan.specs.declared.line.Cut.{Cut}
@@ -24,20 +24,20 @@ use Rattle.scan.specs.kind.Told as kinds
 use Rattle.fileline.specs.seen.Bits.{Holds}
 use Rattle.fileline.specs.declared.FileRead.{FileRead}
 use Rattle.fileline.specs.declared.FileRead.TheVariants as reads
-use Rattle.fileline.specs.Fault.{faultIn}
+use Rattle.fileline.specs.Fault.{fault_in}
 use Rattle.fileline.specs.Told as files
 use Rattle.fileline.proofs.Set.{same-fault}
-use Rattle.tally.specs.Tally.{No, tFile, tStop, context_of, isDue, isFull, meet, onSaid, end_of, step, run}
+use Rattle.tally.specs.Tally.{No, t_file, t_stop, context_of, is_due, is_full, meet, on_said, end_of, step, run}
 use Rattle.tally.proofs.Small.{file-limits}
 use Rattle.judge.specs.declared.group.Counts.{Counts}
 use Rattle.judge.specs.declared.group.Shelf.{Shelf}
-use Rattle.judge.specs.group.Stands.{bookOf, lineIn}
+use Rattle.judge.specs.group.Stands.{book_of, line_in}
 use Rattle.judge.proofs.group.Steps.{not-due, no_room, by-fields}
 use Rattle.judge.proofs.group.Turns.{cut as cut_of, is-kind, known-long, within}
-use Rattle.judge.proofs.group.Going.{run-stops, run_on}
+use Rattle.judge.proofs.group.Going.{run-stops, run-on}
 use Rattle.judge.specs.declared.accountfile.Left.{Left}
 use Rattle.judge.specs.declared.accountfile.Left.TheVariants as left
-use Rattle.judge.specs.accountfile.Resume.{resume, AtFile, fileMore, newShelf, Moved, Ends, Stepped}
+use Rattle.judge.specs.accountfile.Resume.{resume, AtFile, file_more, new_shelf, Moved, Ends, Stepped}
 
 -- a line's end lies in the file
 pub cut_inside : (f : List ℕ) (at : ℕ) (cut : Cut) → Cuts f at cut → cut.stop ≤ length f
@@ -50,18 +50,18 @@ low_of : {sh : Sheet} {today : ℕ} {a : Asked} {w : List ℕ} {kind : Kind} {k 
 low_of {a = a} (a-file {number = n} _ g _ _) = (number-tested a.number g.0 n g.1).0
 
 -- the first three digits of a number that was read
-pub series-low : (sh : Sheet) (test : ℕ → ℕ) (s : List ℕ) (r : FileRead) → files.told r ≡ readFile sh test s → (kind number : ℕ) → r ≡ reads.File kind number → number / 1000 < 1000
+pub series-low : (sh : Sheet) (test : ℕ → ℕ) (s : List ℕ) (r : FileRead) → files.told r ≡ read_file sh test s → (kind number : ℕ) → r ≡ reads.File kind number → number / 1000 < 1000
 series-low sh test s r t kind number e =
-    let u : plain (file kind number) ≡ readFile sh test s = rw e at t in
-    omega (arith, low_of (rw (← u) at (file-says sh 0 (askingNumber test) s)))
+    let u : plain (file kind number) ≡ read_file sh test s = rw e at t in
+    omega (arith, low_of (rw (← u) at (file-says sh 0 (asking_number test) s)))
 
-pub file-within : (sh : Sheet) (test : ℕ → ℕ) (f : List ℕ) (at : ℕ) (cut : Cut) → Cuts f at cut → kind_of (cut_of f at cut.stop) ≡ fileLine
-    → (r : FileRead) → files.told r ≡ readFile sh test (cut_of f at cut.stop) → (n off : ℕ) → r ≡ reads.Refused n off → at + off ≤ cut.stop
+pub file-within : (sh : Sheet) (test : ℕ → ℕ) (f : List ℕ) (at : ℕ) (cut : Cut) → Cuts f at cut → kind_of (cut_of f at cut.stop) ≡ file_line
+    → (r : FileRead) → files.told r ≡ read_file sh test (cut_of f at cut.stop) → (n off : ℕ) → r ≡ reads.Refused n off → at + off ≤ cut.stop
 file-within sh test f at cut cuts e r t n off q =
     let s = cut_of f at cut.stop in
-    let u : no n off ≡ readFile sh test s = rw q at t in
+    let u : no n off ≡ read_file sh test s = rw q at t in
     within f at cut.stop off cuts.from (cut_inside f at cut cuts)
-    (refusal-in (rw (← u) at (file-says sh 0 (askingNumber test) s)) (kind-long s fileLine e))
+    (refusal-in (rw (← u) at (file-says sh 0 (asking_number test) s)) (kind-long s file_line e))
 
 -- ---- where reading stands
 
@@ -94,58 +94,58 @@ module _ (sh : Sheet) (f : List ℕ) (at k : ℕ) (c : Counts) (cut : Cut) (cuts
   module _ (from to : ℕ) (words : List ℕ) where
     -- it is refused
     stops : (n byte : ℕ)
-        → ((today : ℕ) (h : Header) → h.from ≡ from → h.to ≡ to → (l : List ℕ) → Holds words l → tStop (No n k byte) ≡ step sh today k (lineIn f at cut.stop) (tFile (bookOf h l c)))
+        → ((today : ℕ) (h : Header) → h.from ≡ from → h.to ≡ to → (l : List ℕ) → Holds words l → t_stop (No n k byte) ≡ step sh today k (line_in f at cut.stop) (t_file (book_of h l c)))
         → Stepped sh from to f (left.File at k c) words words (left.Refused n k byte)
     unfolding resume
     stops n byte e =
         record {
           same = λ today h p q l held.
-              (l, held, run-stops sh today (length f) k f at cut cuts (tFile (bookOf h l c)) (No n k byte) (e today h p q l held));
+              (l, held, run-stops sh today (length f) k f at cut cuts (t_file (book_of h l c)) (No n k byte) (e today h p q l held));
           good = tt;
           less = omega arith;
         }
 
     -- 3: r is the kind that was found, v its name
-    pub file-other : (r : LineKind) → kinds.told r ≡ kind_of (cut_of f at cut.stop) → (v : LineKind) → r ≡ v → ((h : Header) (l : List ℕ) → isDue (tFile (bookOf h l c)) (kinds.told v) ≡ false)
+    pub file-other : (r : LineKind) → kinds.told r ≡ kind_of (cut_of f at cut.stop) → (v : LineKind) → r ≡ v → ((h : Header) (l : List ℕ) → is_due (t_file (book_of h l c)) (kinds.told v) ≡ false)
         → Stepped sh from to f (left.File at k c) words words (left.Refused 3 k at)
     unfolding step
     file-other r t v e d =
         stops 3 at λ today h p q l held.
-        not-due sh today k (lineIn f at cut.stop) (tFile (bookOf h l c)) refl (kinds.told v) (is-kind (cut_of f at cut.stop) r t v e _ refl) (d h l)
+        not-due sh today k (line_in f at cut.stop) (t_file (book_of h l c)) refl (kinds.told v) (is-kind (cut_of f at cut.stop) r t v e _ refl) (d h l)
 
     -- the line of an account file
-    module _ (e : kind_of (cut_of f at cut.stop) ≡ fileLine) where
+    module _ (e : kind_of (cut_of f at cut.stop) ≡ file_line) where
       pub file-15 : 1000 ≤ c.files → Stepped sh from to f (left.File at k c) words words (left.Refused 15 k at)
-      unfolding step isDue isFull
+      unfolding step is_due is_full
       file-15 full =
           stops 15 at λ today h p q l held.
-          no_room sh today k (lineIn f at cut.stop) (tFile (bookOf h l c)) refl fileLine e refl (le-leb _ _ full)
+          no_room sh today k (line_in f at cut.stop) (t_file (book_of h l c)) refl file_line e refl (le-leb _ _ full)
 
-      module _ (room : c.files < 1000) (r : FileRead) (t : files.told r ≡ readFile sh (faultIn sh.interval from to words) (cut_of f at cut.stop)) where
+      module _ (room : c.files < 1000) (r : FileRead) (t : files.told r ≡ read_file sh (fault_in sh.interval from to words) (cut_of f at cut.stop)) where
         -- r was found to be v; the header and the words say which numbers are allowed
         pub says : (v : FileRead) → r ≡ v → (today : ℕ) (h : Header) → h.from ≡ from → h.to ≡ to → (l : List ℕ) → Holds words l
-            → onSaid sh k at (counted (files.told v)) (tFile (bookOf h l c)) ≡ step sh today k (lineIn f at cut.stop) (tFile (bookOf h l c))
-        unfolding step isDue isFull context_of readAs numberTest
+            → on_said sh k at (counted (files.told v)) (t_file (book_of h l c)) ≡ step sh today k (line_in f at cut.stop) (t_file (book_of h l c))
+        unfolding step is_due is_full context_of read_as number_test
         says v x today h p q l held =
-            let free : faultIn sh.interval from to words ≡ numberFault sh.interval h l = rw (← p, ← q) (same-fault sh.interval h words l held) in
-            let u : files.told v ≡ readFile sh (numberFault sh.interval h l) (cut_of f at cut.stop) = (rw x at t) ∙ ap (λ (test : ℕ → ℕ). readFile sh test (cut_of f at cut.stop)) free in
-            by-fields sh today k (lineIn f at cut.stop) (tFile (bookOf h l c)) refl fileLine e refl (lt-leb _ _ room) _ (ap counted u)
+            let free : fault_in sh.interval from to words ≡ number_fault sh.interval h l = rw (← p, ← q) (same-fault sh.interval h words l held) in
+            let u : files.told v ≡ read_file sh (number_fault sh.interval h l) (cut_of f at cut.stop) = (rw x at t) ∙ ap (λ (test : ℕ → ℕ). read_file sh test (cut_of f at cut.stop)) free in
+            by-fields sh today k (line_in f at cut.stop) (t_file (book_of h l c)) refl file_line e refl (lt-leb _ _ room) _ (ap counted u)
 
         pub file-refused : (n off : ℕ) → r ≡ reads.Refused n off → (byte : ℕ) → byte ≡ at + off → Stepped sh from to f (left.File at k c) words words (left.Refused n k byte)
-        unfolding onSaid counted
+        unfolding on_said counted
         file-refused n off x byte y = rw y (stops n (at + off) (says (reads.Refused n off) x))
 
         -- the words have the number's first three digits besides
         module _ (good : AtFile f at k c) (kind number : ℕ) (x : r ≡ reads.File kind number) (after : List ℕ) (marks : (l : List ℕ) → Holds words l → Holds after (series number ∷ l)) where
           opened-same : (today : ℕ) (h : Header) → h.from ≡ from → h.to ≡ to → (l : List ℕ) → Holds words l
-              → resume sh today f h (series number ∷ l) (left.Group cut.next (k + 1) (fileMore c) (newShelf kind))
+              → resume sh today f h (series number ∷ l) (left.Group cut.next (k + 1) (file_more c) (new_shelf kind))
               ≡ resume sh today f h l (left.File at k c)
-          unfolding resume onSaid meet on_entry onFile counted
+          unfolding resume on_said meet on_entry on_file counted
           opened-same today h p q l held =
               let z : c.warnings + 0 ≡ c.warnings = omega arith in
-              run_on sh today (length f) k f at cut cuts (tFile (bookOf h l c)) _ (rw z at (says (reads.File kind number) x today h p q l held))
+              run-on sh today (length f) k f at cut cuts (t_file (book_of h l c)) _ (rw z at (says (reads.File kind number) x today h p q l held))
 
-          pub file-opened : (more : Counts) → more ≡ fileMore c → (new : Shelf) → new ≡ newShelf kind
+          pub file-opened : (more : Counts) → more ≡ file_more c → (new : Shelf) → new ≡ new_shelf kind
               → Stepped sh from to f (left.File at k c) words after (left.Group cut.next (k + 1) more new)
           file-opened more y new z =
               rw (y, z)

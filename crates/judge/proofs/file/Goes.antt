@@ -12,12 +12,12 @@ use Rattle.tally.specs.Tally.{Yes}
 use Rattle.tally.specs.Short.{short}
 use Rattle.judge.specs.declared.file.Head.{Head}
 use Rattle.judge.specs.declared.file.FileJudged.TheVariants as judged
-use Rattle.judge.specs.file.Answer.{head_of, Sound, Went, fromSeen, Concluded}
+use Rattle.judge.specs.file.Answer.{head_of, Sound, Went, from_seen, Concluded}
 use Rattle.judge.specs.declared.group.Counts.{Counts}
 use Rattle.judge.specs.declared.group.Shelf.{Shelf}
 use Rattle.judge.specs.declared.accountfile.Left.{Left}
 use Rattle.judge.specs.declared.accountfile.Left.TheVariants as left
-use Rattle.judge.specs.accountfile.Resume.{resume, AtFile, AtGroup, Good, toGo, Moved, Same, Stepped}
+use Rattle.judge.specs.accountfile.Resume.{resume, AtFile, AtGroup, Good, to_go, Moved, Same, Stepped}
 
 -- ---- the readers: m is a step's answer, which was found to be n
 
@@ -31,9 +31,9 @@ pub budget-less : (b t : ℕ) → b ≡ t → (b ≡ 0 → ⊥) → b - 1 < t
 budget-less b t e n = omega arith
 
 -- a step led from o to n: a reader went on from n with one less of the budget, or reading stops at n
-module _ {sh : Sheet} {today from to : ℕ} {f : List ℕ} {o n : Left} {before between : List ℕ} (same : Same sh today from to f o before between n) (less : toGo f n + 1 ≤ toGo f o) where
-  goes_on : {b : ℕ} {after : List ℕ} {r : Left} → Went sh today from to f n (b - 1) between after r → Went sh today from to f o b before after r
-  goes_on w =
+module _ {sh : Sheet} {today from to : ℕ} {f : List ℕ} {o n : Left} {before between : List ℕ} (same : Same sh today from to f o before between n) (less : to_go f n + 1 ≤ to_go f o) where
+  goes-on : {b : ℕ} {after : List ℕ} {r : Left} → Went sh today from to f n (b - 1) between after r → Went sh today from to f o b before after r
+  goes-on w =
       record {
         same = λ h i j l held.
             let x = same h i j l held in
@@ -56,7 +56,7 @@ module _ (sh : Sheet) (from to : ℕ) (f : List ℕ) (o m : Left) (before betwee
     stepped = rw e at p
 
     pub stepped-on : (after : List ℕ) (r : Left) → Went sh today from to f n (b - 1) between after r → Went sh today from to f o b before after r
-    stepped-on after r w = goes_on (stepped.same today) stepped.less w
+    stepped-on after r w = goes-on (stepped.same today) stepped.less w
 
     pub stepped-last : Went sh today from to f o b before between n
     stepped-last = goes_last (stepped.same today) stepped.less stepped.good
@@ -77,7 +77,7 @@ module _ (sh : Sheet) (today : ℕ) (f : List ℕ) (o m : Left) (p : Moved sh to
     same-words h i j l held = (l, held, moved.same h l)
 
     pub moved_on : (after : List ℕ) (r : Left) → Went sh today from to f n (b - 1) words after r → Went sh today from to f o b words after r
-    moved_on after r w = goes_on same-words moved.less w
+    moved_on after r w = goes-on same-words moved.less w
 
     pub moved-last : Went sh today from to f o b words words n
     moved-last = goes_last same-words moved.less moved.good
@@ -87,7 +87,7 @@ module _ (sh : Sheet) (today : ℕ) (f : List ℕ) (o m : Left) (p : Moved sh to
 pub record Along (sh : Sheet) (today : ℕ) (f : List ℕ) (o p : Left) : Type 0 where
   pub same : (h : Header) (l : List ℕ) → resume sh today f h l p ≡ resume sh today f h l o
   pub good : Good f p
-  pub less : toGo f p ≤ toGo f o
+  pub less : to_go f p ≤ to_go f o
 
 pub along-start : (sh : Sheet) (today : ℕ) (f : List ℕ) (at k : ℕ) (c : Counts) (s : Shelf) → AtGroup f at k c s → Along sh today f (left.Group at k c s) (left.Group at k c s)
 along-start sh today f at k c s good = record { same = λ h l. refl; good = good; less = omega arith }
@@ -117,7 +117,7 @@ module _ (sh : Sheet) (today : ℕ) (f : List ℕ) (o p m : Left) (a : Along sh 
       let x = on (left.Group at k c s) e in
       record { same = x.same; good = x.good; less = omega (arith, x.less) }
 
-  pub along-less : (at k : ℕ) (c : Counts) (s : Shelf) → m ≡ left.Group at k c s → toGo f (left.Group at k c s) < toGo f p
+  pub along-less : (at k : ℕ) (c : Counts) (s : Shelf) → m ≡ left.Group at k c s → to_go f (left.Group at k c s) < to_go f p
   along-less at k c s e = let x = next (left.Group at k c s) e in omega (arith, x.less)
 
   pub along-file : (at k : ℕ) (c : Counts) → m ≡ left.File at k c → AtFile f at k c
@@ -134,7 +134,7 @@ pub ruleset calls = (budget-less, stepped-group, moved-group, moved-file)
 pub record Stand (u : List ℕ) (sh : Sheet) (today : ℕ) (f : List ℕ) (at : ℕ) (head : Head) (words : List ℕ) (o : Left) : Type 0 where
   pub earlier : List ℕ
   pub holds : Holds words earlier
-  pub same : resume sh today f (head_of f head) earlier o ≡ fromSeen u sh today f at head
+  pub same : resume sh today f (head_of f head) earlier o ≡ from_seen u sh today f at head
 
 -- for all that the words held at the start, and the place is good
 abbrev pub Stands : Sheet → ℕ → List ℕ → ℕ → Head → List ℕ → List ℕ → Left → Type 0
@@ -142,7 +142,7 @@ Stands sh today f at head start words o = ((u : List ℕ) → Holds start u → 
 
 pub stand-start : (sh : Sheet) (today : ℕ) (f : List ℕ) (at : ℕ) (head : Head) (start : List ℕ) → 2 ≤ at → at ≤ length f
     → Stands sh today f at head start start (left.File at 2 (record { files = 0; items = 0; rows = 0; warnings = 0 }))
-unfolding resume fromSeen
+unfolding resume from_seen
 stand-start sh today f at head start p q = (
   λ u held. record { earlier = u; holds = held; same = refl },
   record {
@@ -169,10 +169,10 @@ module _ (sh : Sheet) (today : ℕ) (f : List ℕ) (at : ℕ) (head : Head) (sta
     pub stand-on : Stands sh today f at head start after r
     stand-on = (λ u held. goes u (stand.0 u held), w.good)
 
-    pub stand-less : min b 1 ≡ 1 → toGo f r < toGo f o
+    pub stand-less : min b 1 ≡ 1 → to_go f r < to_go f o
     stand-less one = rw e (omega (arith, w.less))
 
-  pub stand-refused : (n k byte : ℕ) → o ≡ left.Refused n k byte → (u : List ℕ) → Holds start u → Concluded f (fromSeen u sh today f at head) (judged.Refused n k byte) words
+  pub stand-refused : (n k byte : ℕ) → o ≡ left.Refused n k byte → (u : List ℕ) → Holds start u → Concluded f (from_seen u sh today f at head) (judged.Refused n k byte) words
   unfolding resume short
   stand-refused n k byte e u held =
       record {
@@ -181,11 +181,11 @@ module _ (sh : Sheet) (today : ℕ) (f : List ℕ) (at : ℕ) (head : Head) (sta
       }
 
   module _ (rows warnings : ℕ) (e : o ≡ left.Accepted rows warnings) where
-    pub stand-accepted : (u : List ℕ) → Holds start u → Concluded f (fromSeen u sh today f at head) (judged.Accepted head rows warnings) words
+    pub stand-accepted : (u : List ℕ) → Holds start u → Concluded f (from_seen u sh today f at head) (judged.Accepted head rows warnings) words
     unfolding resume short
     stand-accepted u held =
         let s = stand.0 u held in
-        let same : Yes (head_of f head) s.earlier rows warnings ≡ fromSeen u sh today f at head = rw e at s.same in
+        let same : Yes (head_of f head) s.earlier rows warnings ≡ from_seen u sh today f at head = rw e at s.same in
         record {
           same = ap short same;
           holds = λ h r w q.
@@ -198,6 +198,6 @@ module _ (sh : Sheet) (today : ℕ) (f : List ℕ) (at : ℕ) (head : Head) (sta
     pub stand-kept : (head.named ≡ true → 30 ≤ length f) → Sound f head rows warnings
     stand-kept name =
         let g : Good f (left.Accepted rows warnings) = rw e at stand.1 in
-        record { name = name; rows-low = g.0; warnings-low = g.1 }
+        record { name = name; rows_low = g.0; warnings_low = g.1 }
 
 pub ruleset stands = (stand-start, stand-file, stand-group, stand-on, stand-less, stand-refused, stand-accepted, stand-kept)

@@ -15,12 +15,12 @@ use Rattle.sheet.proofs.Laws.{Sane}
 use Rattle.paper.specs.Batch.{Header, no_header}
 use Rattle.paper.specs.Lines.{Line, lines_from}
 use Rattle.paper.specs.Spells.{differs}
-use Rattle.paper.specs.Judge.{totalBroken}
+use Rattle.paper.specs.Judge.{total_broken}
 use Rattle.scan.specs.declared.line.Cut.{Cut}
 use Rattle.scan.specs.line.Cutting.{Cuts}
 use Rattle.scan.proofs.line.Lines.{at-end}
 use Rattle.calendar.specs.declared.term.Banks.{Banks}
-use Rattle.tally.specs.Tally.{Brief, No, Tally, tStop, warned, groupMore, closed, step, end_of, run}
+use Rattle.tally.specs.Tally.{Brief, No, Tally, t_stop, warned, group_more, closed, step, end_of, run}
 use Rattle.tally.specs.Small.{SmallGroup, Small}
 use Rattle.tally.proofs.Small.{small-step}
 use Rattle.judge.specs.declared.group.Counts.{Counts}
@@ -30,25 +30,25 @@ use Rattle.judge.specs.declared.group.Turn.{Turn}
 use Rattle.judge.specs.declared.group.Turn.TheVariants as turn
 use Rattle.judge.specs.declared.group.GroupEnd.{GroupEnd}
 use Rattle.judge.specs.declared.group.GroupEnd.TheVariants as end
-use Rattle.judge.specs.group.Stands.{bookOf, shelfOf, inGroup, LowItem, LowGroup, lineIn, heldMore, turned, Banked, Turns, closedAs, resumeGroup, Begun, Behind, Ended}
+use Rattle.judge.specs.group.Stands.{book_of, shelf_of, in_group, LowItem, LowGroup, line_in, held_more, turned, Banked, Turns, closed_as, resume_group, Begun, Behind, Ended}
 
 -- ---- lines
 
 -- an answer stays as it is
-pub run-stop : (sh : Sheet) (today n k : ℕ) (ts : List Line) (a : Brief) → run sh today n k ts (tStop a) ≡ a
+pub run-stop : (sh : Sheet) (today n k : ℕ) (ts : List Line) (a : Brief) → run sh today n k ts (t_stop a) ≡ a
 unfolding run step end_of
 run-stop sh today n k [] a = refl
 run-stop sh today n k (t ∷ ts) a = run-stop sh today n (suc k) ts a
 
 -- the line that starts at `at` leads to c', and the other lines are read from there
 module _ (sh : Sheet) (today n k : ℕ) (f : List ℕ) (at : ℕ) (cut : Cut) (cuts : Cuts f at cut) where
-  pub run_on : (c c' : Tally) → c' ≡ step sh today k (lineIn f at cut.stop) c → run sh today n (k + 1) (lines_from f cut.next) c' ≡ run sh today n k (lines_from f at) c
+  pub run-on : (c c' : Tally) → c' ≡ step sh today k (line_in f at cut.stop) c → run sh today n (k + 1) (lines_from f cut.next) c' ≡ run sh today n k (lines_from f at) c
   unfolding run
-  run_on c c' e = rw (cuts.lines, e, add-one)
+  run-on c c' e = rw (cuts.lines, e, add-one)
 
   -- .. which ends it
-  pub run-stops : (c : Tally) (a : Brief) → tStop a ≡ step sh today k (lineIn f at cut.stop) c → a ≡ run sh today n k (lines_from f at) c
-  run-stops c a e = sym (run-stop sh today n (k + 1) (lines_from f cut.next) a) ∙ run_on c (tStop a) e
+  pub run-stops : (c : Tally) (a : Brief) → t_stop a ≡ step sh today k (line_in f at cut.stop) c → a ≡ run sh today n k (lines_from f at) c
+  run-stops c a e = sym (run-stop sh today n (k + 1) (lines_from f cut.next) a) ∙ run-on c (t_stop a) e
 
 -- ---- what is small stays so
 
@@ -60,25 +60,25 @@ module _ (sh : Sheet) (sane : Sane sh) (today k : ℕ) (t : Line) where
 
 -- as the machine closes it
 closed_same : (sh : Sheet) (today : ℕ) (f : List ℕ) (h : Header) (l : List ℕ) (at k : ℕ) (x : Held)
-    → resumeGroup sh today f h l (closedAs sh.strict at k x) ≡ run sh today (length f) k (lines_from f at) (turned sh k h l x turn.Close)
-unfolding closedAs closed resumeGroup pick
+    → resume_group sh today f h l (closed_as sh.strict at k x) ≡ run sh today (length f) k (lines_from f at) (turned sh k h l x turn.Close)
+unfolding closed_as closed resume_group pick
 closed_same sh today f h l at k x =
     let o = x.opened in
     let w = x.counts.warnings in
     let d : w + (0 + differs o.total o.sum) ≡ w + differs o.total o.sum = omega arith in
-    by-test (totalBroken sh.strict o.total o.sum) (λ e. simp e (sym (run-stop sh today (length f) k (lines_from f at) _))) (λ e. simp (e, d))
+    by-test (total_broken sh.strict o.total o.sum) (λ e. simp e (sym (run-stop sh today (length f) k (lines_from f at) _))) (λ e. simp (e, d))
 
-closed-low : (c : Counts) (s : Shelf) (d : ℕ) → SmallGroup (warned (bookOf no_header [] c) (0 + d)) (groupMore (shelfOf s))
+closed-low : (c : Counts) (s : Shelf) (d : ℕ) → SmallGroup (warned (book_of no_header [] c) (0 + d)) (group_more (shelf_of s))
     → LowGroup (record { files = c.files; items = c.items; rows = c.rows; warnings = c.warnings + d }) (record { kind = s.kind; items = s.items; groups = s.groups + 1 })
 closed-low c s d y =
     record { files = y.files; items = y.items; rows = y.rows; warnings = omega (arith, y.warnings); shelf = y.shelf; groups = y.groups }
 
 closed-behind : (sh : Sheet) (f : List ℕ) (from at k : ℕ) (x : Held) → Small (turned sh k no_header [] x turn.Close)
-    → from < at → at ≤ length f → k ≤ at → Behind f from (closedAs sh.strict at k x)
-unfolding closedAs closed Small pick
+    → from < at → at ≤ length f → k ≤ at → Behind f from (closed_as sh.strict at k x)
+unfolding closed_as closed Small pick
 closed-behind sh f from at k x small p q r =
     let o = x.opened in
-    by-test (totalBroken sh.strict o.total o.sum) (λ e. simp e tt)
+    by-test (total_broken sh.strict o.total o.sum) (λ e. simp e tt)
     (λ e. simp e (p, q, r, closed-low x.counts x.shelf (differs o.total o.sum) (simp e at small)))
 
 -- ---- the loop: reading began at `from` with line j, and stands at `at` with line k
@@ -88,7 +88,7 @@ pub record Going (sh : Sheet) (today : ℕ) (banks : Banks) (f : List ℕ) (from
   pub banked : Banked sh today banks x
   pub on : from ≤ at
   pub same : (h : Header) (l : List ℕ)
-      → run sh today (length f) k (lines_from f at) (inGroup h l x) ≡ run sh today (length f) j (lines_from f from) (inGroup h l x₀)
+      → run sh today (length f) k (lines_from f at) (in_group h l x) ≡ run sh today (length f) j (lines_from f from) (in_group h l x₀)
 
 pub going_start : (sh : Sheet) (today : ℕ) (banks : Banks) (f : List ℕ) (at k : ℕ) (x : Held) → Begun f at k x → Banked sh today banks x → Going sh today banks f at k x at k x
 going_start sh today banks f at k x b d = record { begun = b; banked = d; on = omega arith; same = λ h l. refl }
@@ -96,7 +96,7 @@ going_start sh today banks f at k x b d = record { begun = b; banked = d; on = o
 module _ (sh : Sheet) (today : ℕ) (banks : Banks) (f : List ℕ) (from j : ℕ) (x₀ : Held) (at k : ℕ) (x : Held) (going : Going sh today banks f from j x₀ at k x) where
   -- the file ends in the group
   pub going_end : length f ≤ at → Ended sh today f from j x₀ (end.Stop 3 k at)
-  unfolding run end_of resumeGroup
+  unfolding run end_of resume_group
   going_end e =
       let z : at ≡ length f = omega (arith, going.begun.inside) in
       record {
@@ -113,28 +113,28 @@ module _ (sh : Sheet) (today : ℕ) (banks : Banks) (f : List ℕ) (from j : ℕ
     pub line-fits : Fits w64 cut.next → Fits w64 (k + 1)
     line-fits fits = Fits-le next-line fits
 
-    module _ (r : Turn) (turns : (day : ℕ) → Banked sh day banks x → Turns sh day (lineIn f at cut.stop) x r) where
-      says : (v : Turn) → r ≡ v → Turns sh today (lineIn f at cut.stop) x v
+    module _ (r : Turn) (turns : (day : ℕ) → Banked sh day banks x → Turns sh day (line_in f at cut.stop) x r) where
+      says : (v : Turn) → r ≡ v → Turns sh today (line_in f at cut.stop) x v
       says v e = rw e at (turns today going.banked)
 
       leads : (v : Turn) → r ≡ v → (h : Header) (l : List ℕ)
-          → run sh today (length f) (k + 1) (lines_from f cut.next) (turned sh k h l x v) ≡ run sh today (length f) j (lines_from f from) (inGroup h l x₀)
+          → run sh today (length f) (k + 1) (lines_from f cut.next) (turned sh k h l x v) ≡ run sh today (length f) j (lines_from f from) (in_group h l x₀)
       leads v e h l =
-          run_on sh today (length f) k f at cut cuts (inGroup h l x) (turned sh k h l x v) ((says v e).same k h l) ∙ going.same h l
+          run-on sh today (length f) k f at cut cuts (in_group h l x) (turned sh k h l x v) ((says v e).same k h l) ∙ going.same h l
 
       stays-small : Sane sh → (v : Turn) → r ≡ v → Small (turned sh 0 no_header [] x v)
       unfolding Small
       stays-small sane v e =
-          small-on sh sane today 0 (lineIn f at cut.stop) (inGroup no_header [] x) (turned sh 0 no_header [] x v) ((says v e).same 0 no_header []) going.begun.low
+          small-on sh sane today 0 (line_in f at cut.stop) (in_group no_header [] x) (turned sh 0 no_header [] x v) ((says v e).same 0 no_header []) going.begun.low
 
       -- .. an item
       module _ (sane : Sane sh) (amount warnings : ℕ) (e : r ≡ turn.Item amount warnings) where
-        pub going-low : LowItem (heldMore x amount warnings)
+        pub going-low : LowItem (held_more x amount warnings)
         unfolding Small
         going-low = stays-small sane (turn.Item amount warnings) e
 
-        pub going-item : (y : Held) → y ≡ heldMore x amount warnings → Going sh today banks f from j x₀ cut.next (k + 1) y
-        unfolding heldMore
+        pub going-item : (y : Held) → y ≡ held_more x amount warnings → Going sh today banks f from j x₀ cut.next (k + 1) y
+        unfolding held_more
         going-item y q =
             rw q
             (record {
@@ -146,7 +146,7 @@ module _ (sh : Sheet) (today : ℕ) (banks : Banks) (f : List ℕ) (from j : ℕ
 
       -- .. refused
       pub going-stop : (n byte : ℕ) → r ≡ turn.Stop n byte → Ended sh today f from j x₀ (end.Stop n k byte)
-      unfolding resumeGroup
+      unfolding resume_group
       going-stop n byte e =
           record {
             same = λ h l. sym (run-stop sh today (length f) (k + 1) (lines_from f cut.next) (No n k byte)) ∙ leads (turn.Stop n byte) e h l;
@@ -154,7 +154,7 @@ module _ (sh : Sheet) (today : ℕ) (banks : Banks) (f : List ℕ) (from j : ℕ
           }
 
       -- .. closed
-      pub going-close : Sane sh → r ≡ turn.Close → (g : GroupEnd) → g ≡ closedAs sh.strict cut.next (k + 1) x → Ended sh today f from j x₀ g
+      pub going-close : Sane sh → r ≡ turn.Close → (g : GroupEnd) → g ≡ closed_as sh.strict cut.next (k + 1) x → Ended sh today f from j x₀ g
       going-close sane e g q =
           rw q
           (record {

@@ -15,16 +15,16 @@ use Rattle.sheet.specs.Sheets.{LimitsOf}
 use Rattle.sheet.proofs.Laws.{Sane}
 use Rattle.paper.specs.Batch.{Header}
 use Rattle.paper.specs.Lines.{Line}
-use Rattle.paper.specs.Entries.{Entry, head, file, group, item, closeGroup, closeFile, Places, Counted, got, said, no, counted, Kind, itemLine, groupEnd, kind_of, onItem, on_entry}
-use Rattle.paper.specs.Terms.{bankDue}
-use Rattle.paper.specs.ItemLine.{readItem}
-use Rattle.paper.specs.ClosingLine.{readClose}
-use Rattle.paper.specs.Spells.{readAs, differs}
-use Rattle.paper.specs.Judge.{totalBroken}
+use Rattle.paper.specs.Entries.{Entry, head, file, group, item, close_group, close_file, Places, Counted, got, said, no, counted, Kind, item_line, group_end, kind_of, on_item, on_entry}
+use Rattle.paper.specs.Terms.{bank_due}
+use Rattle.paper.specs.ItemLine.{read_item}
+use Rattle.paper.specs.ClosingLine.{read_close}
+use Rattle.paper.specs.Spells.{read_as, differs}
+use Rattle.paper.specs.Judge.{total_broken}
 use Rattle.paper.proofs.Passing.{counted-no}
-use Rattle.paper.proofs.LineSays.{askingNumber, group-end-says, item-says, refusal-in}
+use Rattle.paper.proofs.LineSays.{asking_number, group-end-says, item-says, refusal-in}
 use Rattle.paper.proofs.Starts.{least, kind-long}
-use Rattle.tally.specs.Tally.{context_of, isDue, isFull, meet, onSaid, step}
+use Rattle.tally.specs.Tally.{context_of, is_due, is_full, meet, on_said, step}
 use Rattle.tally.proofs.Small.{item-limits, differs-one}
 use Rattle.scan.specs.declared.kind.LineKind.{LineKind}
 use Rattle.scan.specs.kind.Told as kinds
@@ -42,7 +42,7 @@ use Rattle.judge.specs.declared.group.Held.{Held}
 use Rattle.judge.specs.declared.group.Turn.{Turn}
 use Rattle.judge.specs.declared.group.Turn.TheVariants as turn
 use Rattle.judge.specs.declared.group.GroupEnd.TheVariants as end
-use Rattle.judge.specs.group.Stands.{inGroup, LowItem, lineIn, heldMore, Banked, Turns, closedAs}
+use Rattle.judge.specs.group.Stands.{in_group, LowItem, line_in, held_more, Banked, Turns, closed_as}
 use Rattle.judge.proofs.group.Steps.{not-due, no_room, by-fields}
 
 -- a line's bytes in the file
@@ -67,104 +67,104 @@ within f at stop off p q h = omega (arith, length-take (stop - at) (drop at f), 
 module _ (f : List ℕ) (at stop : ℕ) (p : at ≤ stop) (q : stop ≤ length f) where
   -- of a line that closes anything
   pub close-within : (sh : Sheet) → Sane sh → (kind : Kind) → kind_of (cut f at stop) ≡ kind → 2 ≤ least kind → (r : CloseRead)
-      → ((x : Entry) → closes.told x r ≡ readClose sh.near x (cut f at stop)) → (n off : ℕ) → r ≡ closing.Refused n off → at + off ≤ stop
+      → ((x : Entry) → closes.told x r ≡ read_close sh.near x (cut f at stop)) → (n off : ℕ) → r ≡ closing.Refused n off → at + off ≤ stop
   close-within sh sane kind e two r t n off x =
-      let u : no n off ≡ readClose sh.near closeGroup (cut f at stop) = rw x at (t closeGroup) in
-      within f at stop off p q (refusal-in (rw (← u) at (group-end-says sh 0 (askingNumber (λ _. 0)) (cut f at stop))) (known-long (cut f at stop) kind e two))
+      let u : no n off ≡ read_close sh.near close_group (cut f at stop) = rw x at (t close_group) in
+      within f at stop off p q (refusal-in (rw (← u) at (group-end-says sh 0 (asking_number (λ _. 0)) (cut f at stop))) (known-long (cut f at stop) kind e two))
 
-  pub item-within : (sh : Sheet) (due : ℕ → Bool) (single : Bool) (r : Judged) → items.told r ≡ brief (counted (readItem sh due single (cut f at stop)))
+  pub item-within : (sh : Sheet) (due : ℕ → Bool) (single : Bool) (r : Judged) → items.told r ≡ brief (counted (read_item sh due single (cut f at stop)))
       → (n off : ℕ) → r ≡ judged.Refused n off → at + off ≤ stop
   item-within sh due single r t n off x =
-      let u = counted-no (readItem sh due single (cut f at stop)) n off (brief-no (counted (readItem sh due single (cut f at stop))) n off (rw x at t)) in
+      let u = counted-no (read_item sh due single (cut f at stop)) n off (brief-no (counted (read_item sh due single (cut f at stop))) n off (rw x at t)) in
       within f at stop off p q (refusal-in (rw (← u) at (item-says sh 0 (λ _. 0) false due single (cut f at stop))) (omega arith))
 
 -- ---- what a line says in a group
 
 -- in a group nothing else of an item's line counts
 brief-entry : (sh : Sheet) (k start : ℕ) (e : Entry) (v : ℕ) (p : Places) (h : Header) (l : List ℕ) (x : Held)
-    → onSaid sh k start (brief (said e v p)) (inGroup h l x) ≡ onSaid sh k start (said e v p) (inGroup h l x)
-unfolding onSaid meet on_entry onItem brief
+    → on_said sh k start (brief (said e v p)) (in_group h l x) ≡ on_said sh k start (said e v p) (in_group h l x)
+unfolding on_said meet on_entry on_item brief
 brief-entry sh k start (head a) v p h l x = refl
 brief-entry sh k start (file kind number) v p h l x = refl
 brief-entry sh k start (group payer total date) v p h l x = refl
 brief-entry sh k start (item a) v p h l x = refl
-brief-entry sh k start closeGroup v p h l x = refl
-brief-entry sh k start closeFile v p h l x = refl
+brief-entry sh k start close_group v p h l x = refl
+brief-entry sh k start close_file v p h l x = refl
 
-by-brief : (sh : Sheet) (k start : ℕ) (r : Counted) (h : Header) (l : List ℕ) (x : Held) → onSaid sh k start (brief r) (inGroup h l x) ≡ onSaid sh k start r (inGroup h l x)
+by-brief : (sh : Sheet) (k start : ℕ) (r : Counted) (h : Header) (l : List ℕ) (x : Held) → on_said sh k start (brief r) (in_group h l x) ≡ on_said sh k start r (in_group h l x)
 unfolding brief
 by-brief sh k start (got t) h l x = brief-entry sh k start t.entry t.warnings t.places h l x
 by-brief sh k start (no n off) h l x = refl
 
 module _ (sh : Sheet) (today : ℕ) (f : List ℕ) (at stop : ℕ) (x : Held) where
   -- 3: r is the kind that was found, v its name
-  pub turn-other : (r : LineKind) → kinds.told r ≡ kind_of (cut f at stop) → (v : LineKind) → r ≡ v → ((h : Header) (l : List ℕ) → isDue (inGroup h l x) (kinds.told v) ≡ false)
-      → Turns sh today (lineIn f at stop) x (turn.Stop 3 at)
+  pub turn-other : (r : LineKind) → kinds.told r ≡ kind_of (cut f at stop) → (v : LineKind) → r ≡ v → ((h : Header) (l : List ℕ) → is_due (in_group h l x) (kinds.told v) ≡ false)
+      → Turns sh today (line_in f at stop) x (turn.Stop 3 at)
   unfolding step
   turn-other r t v e d =
-      record { same = λ k h l. not-due sh today k (lineIn f at stop) (inGroup h l x) refl (kinds.told v) (is-kind (cut f at stop) r t v e _ refl) (d h l) }
+      record { same = λ k h l. not-due sh today k (line_in f at stop) (in_group h l x) refl (kinds.told v) (is-kind (cut f at stop) r t v e _ refl) (d h l) }
 
   -- an item
-  module _ (e : kind_of (cut f at stop) ≡ itemLine) where
+  module _ (e : kind_of (cut f at stop) ≡ item_line) where
     -- 15: one too many of the account file
-    pub turn-full-file : 99999 ≤ x.shelf.items → Turns sh today (lineIn f at stop) x (turn.Stop 15 at)
-    unfolding step isDue isFull pick
+    pub turn-full-file : 99999 ≤ x.shelf.items → Turns sh today (line_in f at stop) x (turn.Stop 15 at)
+    unfolding step is_due is_full pick
     turn-full-file i =
-        record { same = λ k h l. no_room sh today k (lineIn f at stop) (inGroup h l x) refl itemLine e refl (simp (le-leb _ _ i)) }
+        record { same = λ k h l. no_room sh today k (line_in f at stop) (in_group h l x) refl item_line e refl (simp (le-leb _ _ i)) }
 
     -- m are the limits that the sheet gave
     module _ (i : x.shelf.items < 99999) (m : Limits) (of : LimitsOf sh m) where
       -- .. or of the file
-      pub turn-full : m.items ≤ x.counts.items → Turns sh today (lineIn f at stop) x (turn.Stop 15 at)
-      unfolding step isDue isFull pick
+      pub turn-full : m.items ≤ x.counts.items → Turns sh today (line_in f at stop) x (turn.Stop 15 at)
+      unfolding step is_due is_full pick
       turn-full j =
           let g : sh.fileitems ≤ x.counts.items = omega (arith, of.items) in
-          record { same = λ k h l. no_room sh today k (lineIn f at stop) (inGroup h l x) refl itemLine e refl (simp (lt-leb _ _ i, le-leb _ _ g)) }
+          record { same = λ k h l. no_room sh today k (line_in f at stop) (in_group h l x) refl item_line e refl (simp (lt-leb _ _ i, le-leb _ _ g)) }
 
-      module _ (j : x.counts.items < m.items) (banks : Banks) (r : Judged) (t : items.told r ≡ brief (counted (readItem sh (allows banks sh.bank) x.opened.single (cut f at stop))))
+      module _ (j : x.counts.items < m.items) (banks : Banks) (r : Judged) (t : items.told r ≡ brief (counted (read_item sh (allows banks sh.bank) x.opened.single (cut f at stop))))
           (banked : Banked sh today banks x) where
         abbrev due : ℕ → Bool
-        due = bankDue sh today x.shelf.kind x.opened.date
+        due = bank_due sh today x.shelf.kind x.opened.date
 
-        told-due : items.told r ≡ brief (counted (readItem sh due x.opened.single (cut f at stop)))
-        told-due = t ∙ ap (λ (d : ℕ → Bool). brief (counted (readItem sh d x.opened.single (cut f at stop)))) (fun_ext banked)
+        told-due : items.told r ≡ brief (counted (read_item sh due x.opened.single (cut f at stop)))
+        told-due = t ∙ ap (λ (d : ℕ → Bool). brief (counted (read_item sh d x.opened.single (cut f at stop)))) (fun_ext banked)
 
-        judged-as : (v : Judged) → r ≡ v → (k : ℕ) (h : Header) (l : List ℕ) → onSaid sh k at (items.told v) (inGroup h l x) ≡ step sh today k (lineIn f at stop) (inGroup h l x)
-        unfolding step isDue isFull context_of readAs pick
+        judged-as : (v : Judged) → r ≡ v → (k : ℕ) (h : Header) (l : List ℕ) → on_said sh k at (items.told v) (in_group h l x) ≡ step sh today k (line_in f at stop) (in_group h l x)
+        unfolding step is_due is_full context_of read_as pick
         judged-as v q k h l =
             let g : x.counts.items < sh.fileitems = omega (arith, of.items) in
-            ap (λ said. onSaid sh k at said (inGroup h l x)) (rw q at told-due)
-            ∙ (by-brief sh k at (counted (readItem sh due x.opened.single (cut f at stop))) h l x
-            ∙ by-fields sh today k (lineIn f at stop) (inGroup h l x) refl itemLine e refl (simp (lt-leb _ _ i, lt-leb _ _ g)) _ refl)
+            ap (λ said. on_said sh k at said (in_group h l x)) (rw q at told-due)
+            ∙ (by-brief sh k at (counted (read_item sh due x.opened.single (cut f at stop))) h l x
+            ∙ by-fields sh today k (line_in f at stop) (in_group h l x) refl item_line e refl (simp (lt-leb _ _ i, lt-leb _ _ g)) _ refl)
 
-        pub turn-item : (amount warnings : ℕ) → r ≡ judged.Item amount warnings → Turns sh today (lineIn f at stop) x (turn.Item amount warnings)
-        unfolding onSaid meet on_entry onItem heldMore
+        pub turn-item : (amount warnings : ℕ) → r ≡ judged.Item amount warnings → Turns sh today (line_in f at stop) x (turn.Item amount warnings)
+        unfolding on_said meet on_entry on_item held_more
         turn-item amount warnings q = record { same = judged-as (judged.Item amount warnings) q }
 
-        pub turn-refused : (n off : ℕ) → r ≡ judged.Refused n off → (byte : ℕ) → byte ≡ at + off → Turns sh today (lineIn f at stop) x (turn.Stop n byte)
-        unfolding onSaid
+        pub turn-refused : (n off : ℕ) → r ≡ judged.Refused n off → (byte : ℕ) → byte ≡ at + off → Turns sh today (line_in f at stop) x (turn.Stop n byte)
+        unfolding on_said
         turn-refused n off q byte y = rw y (record { same = judged-as (judged.Refused n off) q })
 
   -- a group's end
-  module _ (e : kind_of (cut f at stop) ≡ groupEnd) where
+  module _ (e : kind_of (cut f at stop) ≡ group_end) where
     -- 3: there is no item yet
-    pub close-empty : x.opened.count ≡ 0 → Turns sh today (lineIn f at stop) x (turn.Stop 3 at)
-    unfolding step isDue pick
+    pub close-empty : x.opened.count ≡ 0 → Turns sh today (line_in f at stop) x (turn.Stop 3 at)
+    unfolding step is_due pick
     close-empty z =
-        record { same = λ k h l. not-due sh today k (lineIn f at stop) (inGroup h l x) refl groupEnd e (simp (eq-eqb _ _ z)) }
+        record { same = λ k h l. not-due sh today k (line_in f at stop) (in_group h l x) refl group_end e (simp (eq-eqb _ _ z)) }
 
-    module _ (z : x.opened.count ≡ 0 → ⊥) (r : CloseRead) (t : (y : Entry) → closes.told y r ≡ readClose sh.near y (cut f at stop)) where
-      closed-as : (v : CloseRead) → r ≡ v → (k : ℕ) (h : Header) (l : List ℕ) → onSaid sh k at (counted (closes.told closeGroup v)) (inGroup h l x) ≡ step sh today k (lineIn f at stop) (inGroup h l x)
-      unfolding step isDue isFull readAs pick
+    module _ (z : x.opened.count ≡ 0 → ⊥) (r : CloseRead) (t : (y : Entry) → closes.told y r ≡ read_close sh.near y (cut f at stop)) where
+      closed-as : (v : CloseRead) → r ≡ v → (k : ℕ) (h : Header) (l : List ℕ) → on_said sh k at (counted (closes.told close_group v)) (in_group h l x) ≡ step sh today k (line_in f at stop) (in_group h l x)
+      unfolding step is_due is_full read_as pick
       closed-as v q k h l =
-          by-fields sh today k (lineIn f at stop) (inGroup h l x) refl groupEnd e (simp (ne_eqb _ _ z)) refl _ (ap counted (rw q at (t closeGroup)))
+          by-fields sh today k (line_in f at stop) (in_group h l x) refl group_end e (simp (ne_eqb _ _ z)) refl _ (ap counted (rw q at (t close_group)))
 
-      pub close-closed : r ≡ closing.Closed → Turns sh today (lineIn f at stop) x turn.Close
-      unfolding onSaid meet on_entry onItem counted
+      pub close-closed : r ≡ closing.Closed → Turns sh today (line_in f at stop) x turn.Close
+      unfolding on_said meet on_entry on_item counted
       close-closed q = record { same = closed-as closing.Closed q }
 
-      pub close-refused : (n off : ℕ) → r ≡ closing.Refused n off → (byte : ℕ) → byte ≡ at + off → Turns sh today (lineIn f at stop) x (turn.Stop n byte)
-      unfolding onSaid counted
+      pub close-refused : (n off : ℕ) → r ≡ closing.Refused n off → (byte : ℕ) → byte ≡ at + off → Turns sh today (line_in f at stop) x (turn.Stop n byte)
+      unfolding on_said counted
       close-refused n off q byte y = rw y (record { same = closed-as (closing.Refused n off) q })
 
 -- where the banks do not count
@@ -173,16 +173,16 @@ any-banks sh t x r banks h today b = h today
 
 -- ---- the group's end: t is whether its total is refused, d how many warnings it gives
 
-module _ (strict : Bool) (at k : ℕ) (x : Held) (t : Bool) (e : t ≡ totalBroken strict x.opened.total x.opened.sum) where
-  pub end-broken : t ≡ true → end.Stop 10 x.opened.line x.opened.byte ≡ closedAs strict at k x
-  unfolding closedAs pick
+module _ (strict : Bool) (at k : ℕ) (x : Held) (t : Bool) (e : t ≡ total_broken strict x.opened.total x.opened.sum) where
+  pub end-broken : t ≡ true → end.Stop 10 x.opened.line x.opened.byte ≡ closed_as strict at k x
+  unfolding closed_as pick
   end-broken q = rw (← e, q)
 
   pub end_more : t ≡ false → (d : ℕ) → d ≡ differs x.opened.total x.opened.sum
       → end.Closed at k (record { files = x.counts.files; items = x.counts.items; rows = x.counts.rows; warnings = x.counts.warnings + d })
       (record { kind = x.shelf.kind; items = x.shelf.items; groups = x.shelf.groups + 1 })
-      ≡ closedAs strict at k x
-  unfolding closedAs pick
+      ≡ closed_as strict at k x
+  unfolding closed_as pick
   end_more q d w = rw (← e, q, w)
 
 pub end_fits : (x : Held) → LowItem x → (d : ℕ) → d ≡ differs x.opened.total x.opened.sum → Fits w64 (x.counts.warnings + d)

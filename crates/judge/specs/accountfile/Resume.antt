@@ -4,12 +4,12 @@ use Rattle.sheet.specs.declared.Sheet.{Sheet}
 use Rattle.paper.specs.Batch.{Header, no_header}
 use Rattle.paper.specs.Lines.{Line, lines_from}
 use Rattle.fileline.specs.seen.Bits.{Holds}
-use Rattle.tally.specs.Tally.{Brief, No, Yes, Tally, tFile, tStop, step, run}
+use Rattle.tally.specs.Tally.{Brief, No, Yes, Tally, t_file, t_stop, step, run}
 use Rattle.tally.specs.Small.{SmallFile}
 use Rattle.judge.specs.declared.group.Counts.{Counts}
 use Rattle.judge.specs.declared.group.Shelf.{Shelf}
 use Rattle.judge.specs.declared.group.Held.{Held}
-use Rattle.judge.specs.group.Stands.{bookOf, inGroup, inFile, LowItem, LowGroup}
+use Rattle.judge.specs.group.Stands.{book_of, in_group, in_file, LowItem, LowGroup}
 use Rattle.judge.specs.declared.accountfile.Opening.{Opening}
 use Rattle.judge.specs.declared.accountfile.Opening.TheVariants as opening
 use Rattle.judge.specs.declared.accountfile.Left.{Left}
@@ -19,14 +19,14 @@ use Rattle.judge.specs.declared.accountfile.Left.TheVariants as left
 
 -- the answer of the whole file f from there on, with the header and the first three digits of earlier account files' numbers
 unfoldable pub resume : Sheet → ℕ → List ℕ → Header → List ℕ → Left → Brief
-resume sh today f h l (left.File at k c) = run sh today (length f) k (lines_from f at) (tFile (bookOf h l c))
-resume sh today f h l (left.Group at k c s) = run sh today (length f) k (lines_from f at) (inFile h l c s)
+resume sh today f h l (left.File at k c) = run sh today (length f) k (lines_from f at) (t_file (book_of h l c))
+resume sh today f h l (left.Group at k c s) = run sh today (length f) k (lines_from f at) (in_file h l c s)
 resume sh today f h l (left.Refused n k byte) = No n k byte
 resume sh today f h l (left.Accepted rows warnings) = Yes h l rows warnings
 
 -- the numbers are small where no account file is open, whatever the header and the earlier numbers are
 abbrev pub LowFile : Counts → Type 0
-LowFile c = SmallFile (bookOf no_header [] c)
+LowFile c = SmallFile (book_of no_header [] c)
 
 -- line k starts at `at`: its number does not pass its start, and the counts are small
 pub record AtFile (f : List ℕ) (at k : ℕ) (c : Counts) : Type 0 where
@@ -46,25 +46,25 @@ Good f (left.Refused n k byte) = Unit {0}
 Good f (left.Accepted rows warnings) = (rows ≤ 199999001) × (warnings ≤ 799992001)
 
 -- how far it is to the answer: the bytes left, and one step more
-abbrev pub toGo : List ℕ → Left → ℕ
-toGo f (left.File at k c) = suc (length f - at)
-toGo f (left.Group at k c s) = suc (length f - at)
-toGo f (left.Refused n k byte) = 0
-toGo f (left.Accepted rows warnings) = 0
+abbrev pub to_go : List ℕ → Left → ℕ
+to_go f (left.File at k c) = suc (length f - at)
+to_go f (left.Group at k c s) = suc (length f - at)
+to_go f (left.Refused n k byte) = 0
+to_go f (left.Accepted rows warnings) = 0
 
 -- ---- what the readers do
 
 -- with an account file more
-abbrev pub fileMore : Counts → Counts
-fileMore c = record { files = c.files + 1; items = c.items; rows = c.rows + 1; warnings = c.warnings }
+abbrev pub file_more : Counts → Counts
+file_more c = record { files = c.files + 1; items = c.items; rows = c.rows + 1; warnings = c.warnings }
 
 -- an account file of this kind that has nothing yet
-abbrev pub newShelf : ℕ → Shelf
-newShelf kind = record { kind = kind; items = 0; groups = 0 }
+abbrev pub new_shelf : ℕ → Shelf
+new_shelf kind = record { kind = kind; items = 0; groups = 0 }
 
 -- a group that has no item yet, with its line's warnings; its total stands in line k, at `byte`
-unfoldable pub groupHeld : Counts → Shelf → ℕ → Bool → ℕ → ℕ → ℕ → ℕ → Held
-groupHeld c s warnings single date total k byte =
+unfoldable pub group_held : Counts → Shelf → ℕ → Bool → ℕ → ℕ → ℕ → ℕ → Held
+group_held c s warnings single date total k byte =
     record {
       counts = record { files = c.files; items = c.items; rows = c.rows + 1; warnings = c.warnings + warnings };
       shelf = s;
@@ -73,13 +73,13 @@ groupHeld c s warnings single date total k byte =
 
 -- x is that group, and its numbers are small
 pub record NewHeld (c : Counts) (s : Shelf) (warnings : ℕ) (single : Bool) (date total k byte : ℕ) (x : Held) : Type 0 where
-  pub same : x ≡ groupHeld c s warnings single date total k byte
+  pub same : x ≡ group_held c s warnings single date total k byte
   pub low : LowItem x
 
 -- what line k, a group's, leads to: the open group, or the answer
-abbrev pub openedTo : ℕ → Header → List ℕ → Opening → Tally
-openedTo k h l (opening.Group x) = inGroup h l x
-openedTo k h l (opening.Refused n byte) = tStop (No n k byte)
+abbrev pub opened_to : ℕ → Header → List ℕ → Opening → Tally
+opened_to k h l (opening.Group x) = in_group h l x
+opened_to k h l (opening.Refused n byte) = t_stop (No n k byte)
 
 -- the group's numbers are small
 abbrev pub LowOpening : Opening → Type 0
@@ -88,20 +88,20 @@ LowOpening (opening.Refused n byte) = Unit {0}
 
 -- r is what line k, which is the line t, leads to before a group, whatever the header and the earlier numbers are
 pub record Opens (sh : Sheet) (today : ℕ) (t : Line) (k : ℕ) (c : Counts) (s : Shelf) (r : Opening) : Type 0 where
-  pub same : (h : Header) (l : List ℕ) → openedTo k h l r ≡ step sh today k t (inFile h l c s)
+  pub same : (h : Header) (l : List ℕ) → opened_to k h l r ≡ step sh today k t (in_file h l c s)
   pub low : LowOpening r
 
 -- r is where reading stands behind a group whose lines begin at `at` with line k
 pub record Grouped (sh : Sheet) (today : ℕ) (f : List ℕ) (at k : ℕ) (x : Held) (r : Left) : Type 0 where
-  pub same : (h : Header) (l : List ℕ) → resume sh today f h l r ≡ run sh today (length f) k (lines_from f at) (inGroup h l x)
+  pub same : (h : Header) (l : List ℕ) → resume sh today f h l r ≡ run sh today (length f) k (lines_from f at) (in_group h l x)
   pub good : Good f r
-  pub less : toGo f r ≤ length f - at
+  pub less : to_go f r ≤ length f - at
 
 -- from o to r: the file's answer stays, and r is nearer to it
 pub record Moved (sh : Sheet) (today : ℕ) (f : List ℕ) (o r : Left) : Type 0 where
   pub same : (h : Header) (l : List ℕ) → resume sh today f h l r ≡ resume sh today f h l o
   pub good : Good f r
-  pub less : toGo f r + 1 ≤ toGo f o
+  pub less : to_go f r + 1 ≤ to_go f o
 
 -- r is the answer of a file that ends where line k would be, with no account file open
 abbrev pub Ends : ℕ → ℕ → Counts → Left → Type 0
@@ -118,4 +118,4 @@ Same sh today from to f o before after r =
 pub record Stepped (sh : Sheet) (from to : ℕ) (f : List ℕ) (o : Left) (before after : List ℕ) (r : Left) : Type 0 where
   pub same : (today : ℕ) → Same sh today from to f o before after r
   pub good : Good f r
-  pub less : toGo f r + 1 ≤ toGo f o
+  pub less : to_go f r + 1 ≤ to_go f o

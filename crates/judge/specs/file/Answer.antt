@@ -6,10 +6,10 @@ use Rattle.paper.specs.Batch.{Header, spaces20}
 use Rattle.paper.specs.Lines.{lines_from}
 use Rattle.fileline.specs.seen.Bits.{Holds}
 use Rattle.tally.specs.Short.{Brief, No, Yes, short}
-use Rattle.tally.specs.Tally.{tFile, run}
+use Rattle.tally.specs.Tally.{t_file, run}
 use Rattle.tally.specs.Tally as numbers
 use Rattle.judge.specs.declared.accountfile.Left.{Left}
-use Rattle.judge.specs.accountfile.Resume.{Good, toGo, Same}
+use Rattle.judge.specs.accountfile.Resume.{Good, to_go, Same}
 use Rattle.judge.specs.declared.file.Head.{Head}
 use Rattle.judge.specs.declared.file.FileJudged.{FileJudged}
 use Rattle.judge.specs.declared.file.FileJudged.TheVariants as judged
@@ -29,8 +29,8 @@ told f (judged.Accepted h rows warnings) = Yes (head_of f h) rows warnings
 -- a name stands in the file, and there are no more rows and warnings than 1,000 account files of 99,999 items can have
 pub record Sound (f : List ℕ) (h : Head) (rows warnings : ℕ) : Type 0 where
   pub name : h.named ≡ true → 30 ≤ length f
-  pub rows-low : rows ≤ 199999001
-  pub warnings-low : warnings ≤ 799992001
+  pub rows_low : rows ≤ 199999001
+  pub warnings_low : warnings ≤ 799992001
 
 abbrev pub Kept : List ℕ → FileJudged → Type 0
 Kept f (judged.Refused n k byte) = Unit {0}
@@ -42,14 +42,14 @@ Kept f (judged.Accepted h rows warnings) = Sound f h rows warnings
 pub record Went (sh : Sheet) (today from to : ℕ) (f : List ℕ) (o : Left) (budget : ℕ) (before after : List ℕ) (r : Left) : Type 0 where
   pub same : Same sh today from to f o before after r
   pub good : Good f r
-  pub less : toGo f r + min budget 1 ≤ toGo f o
+  pub less : to_go f r + min budget 1 ≤ to_go f o
 
 -- ---- the file
 
 -- the answer of the file f from behind its first line, where line 2 starts at `at` and the numbers u count as seen before
-unfoldable pub fromSeen : List ℕ → Sheet → ℕ → List ℕ → ℕ → Head → numbers.Brief
-fromSeen u sh today f at h =
-    run sh today (length f) 2 (lines_from f at) (tFile (record { head = head_of f h; seen = u; files = 0; items = 0; rows = 0; warnings = 0 }))
+unfoldable pub from_seen : List ℕ → Sheet → ℕ → List ℕ → ℕ → Head → numbers.Brief
+from_seen u sh today f at h =
+    run sh today (length f) 2 (lines_from f at) (t_file (record { head = head_of f h; seen = u; files = 0; items = 0; rows = 0; warnings = 0 }))
 
 -- j is the answer a, and of an accepted file the words hold the numbers that a has
 pub record Concluded (f : List ℕ) (a : numbers.Brief) (j : FileJudged) (words : List ℕ) : Type 0 where

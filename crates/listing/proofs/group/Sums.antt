@@ -12,69 +12,69 @@ use Rattle.base.proofs.Seek.{never}
 use Rattle.sheet.specs.declared.Sheet.{Sheet}
 use Rattle.paper.specs.Batch.{most14}
 use Rattle.paper.specs.Lines.{Line, lines_from}
-use Rattle.paper.specs.Entries.{Listed, counted, Kind, headLine, fileLine, groupLine, itemLine, groupEnd, fileEnd, kind_of, onItem, on_entry}
-use Rattle.paper.specs.Terms.{collection, bankDue}
-use Rattle.paper.specs.ItemLine.{readItem}
-use Rattle.paper.specs.Spells.{readAs, readLine}
+use Rattle.paper.specs.Entries.{Listed, counted, Kind, head_line, file_line, group_line, item_line, group_end, file_end, kind_of, on_item, on_entry}
+use Rattle.paper.specs.Terms.{collection, bank_due}
+use Rattle.paper.specs.ItemLine.{read_item}
+use Rattle.paper.specs.Spells.{read_as, read_line}
 use Rattle.paper.specs.Judge.{is}
 use Rattle.paper.specs.Rows.{accepted}
-use Rattle.paper.proofs.LineSays.{Asked, LineSays, no-header, a-header, a-file, a-group, an_item, a-group-end, a-file-end, refused, says}
+use Rattle.paper.proofs.LineSays.{Asked, LineSays, no-header, a_header, a-file, a-group, an-item, a_group_end, a_file_end, refused, says}
 use Rattle.scan.specs.declared.kind.LineKind.{LineKind}
 use Rattle.scan.specs.kind.Told as kinds
 use Rattle.scan.specs.declared.line.Cut.{Cut}
 use Rattle.scan.specs.line.Cutting.{Cuts}
 use Rattle.scan.proofs.line.Lines.{at-end}
-use Rattle.numeral.specs.placed.Said.{isSaid}
+use Rattle.numeral.specs.placed.Said.{is_said}
 use Rattle.itemline.specs.declared.Fields.{Fields}
 use Rattle.itemline.specs.Told.{told, Sound}
-use Rattle.itemline.specs.Walk.{anyBank}
-use Rattle.why.specs.Warned.{onListed, ahead}
+use Rattle.itemline.specs.Walk.{any_bank}
+use Rattle.why.specs.Warned.{on_listed, ahead}
 use Rattle.why.proofs.Warned.{ahead-item}
-use Rattle.listing.specs.group.Warned.{cut, lineIn}
+use Rattle.listing.specs.group.Warned.{cut, line_in}
 use Rattle.listing.specs.group.Ahead.{ItemsSaid}
 
 -- ---- is it an item's line?
 
 -- v is the kind that was found
-pub of-kind : (s : List ℕ) (r : LineKind) → kinds.told r ≡ kind_of s → (v : LineKind) → r ≡ v → (b : Bool) → b ≡ is itemLine (kinds.told v) → b ≡ is itemLine (kind_of s)
-of-kind s r g v e b q = q ∙ ap (is itemLine) (ap kinds.told (sym e) ∙ g)
+pub of-kind : (s : List ℕ) (r : LineKind) → kinds.told r ≡ kind_of s → (v : LineKind) → r ≡ v → (b : Bool) → b ≡ is item_line (kinds.told v) → b ≡ is item_line (kind_of s)
+of-kind s r g v e b q = q ∙ ap (is item_line) (ap kinds.told (sym e) ∙ g)
 
-is-item : (k : Kind) → is itemLine k ≡ true → k ≡ itemLine
-is-item headLine e = never (sym e)
-is-item fileLine e = never (sym e)
-is-item groupLine e = never (sym e)
-is-item itemLine e = refl
-is-item groupEnd e = never (sym e)
-is-item fileEnd e = never (sym e)
+is-item : (k : Kind) → is item_line k ≡ true → k ≡ item_line
+is-item head_line e = never (sym e)
+is-item file_line e = never (sym e)
+is-item group_line e = never (sym e)
+is-item item_line e = refl
+is-item group_end e = never (sym e)
+is-item file_end e = never (sym e)
 
-not-item : (k : Kind) → is itemLine k ≡ false → k ≡ itemLine → ⊥
+not-item : (k : Kind) → is item_line k ≡ false → k ≡ item_line → ⊥
 not-item k e q = never (rw q at e)
 
 -- ---- one line
 
 module _ (sh : Sheet) (today : ℕ) (single : Bool) (t : Line) (ts : List Line) where
   -- an item's line gives its amount
-  item-gives : kind_of t.bytes ≡ itemLine → (x : Fields) → told t.bytes x ≡ counted (readItem sh anyBank single t.bytes)
+  item-gives : kind_of t.bytes ≡ item_line → (x : Fields) → told t.bytes x ≡ counted (read_item sh any_bank single t.bytes)
       → ahead sh today (accepted single) (t ∷ ts) ≡ x.amount + ahead sh today (accepted single) ts
-  unfolding readLine readAs bankDue collection pick
+  unfolding read_line read_as bank_due collection pick
   item-gives e x q =
-      let z : readLine sh today (accepted single) t.bytes ≡ told t.bytes x = rw e (sym q) in
+      let z : read_line sh today (accepted single) t.bytes ≡ told t.bytes x = rw e (sym q) in
       ahead-item sh today (accepted single) t ts z
 
   -- any other ends the sum
-  none-gives : {a : Asked} {w : List ℕ} {kind : Kind} {x : Listed} → LineSays sh today a w kind x → (kind ≡ itemLine → ⊥)
-      → onListed x (λ x. onItem x.entry (λ i. i.amount + ahead sh today (accepted single) ts) 0 0) 0 ≡ 0
-  unfolding onListed onItem on_entry
+  none-gives : {a : Asked} {w : List ℕ} {kind : Kind} {x : Listed} → LineSays sh today a w kind x → (kind ≡ item_line → ⊥)
+      → on_listed x (λ x. on_item x.entry (λ i. i.amount + ahead sh today (accepted single) ts) 0 0) 0 ≡ 0
+  unfolding on_listed on_item on_entry
   none-gives (no-header _) o = refl
-  none-gives (a-header _ _ _ _ _ _ _) o = refl
+  none-gives (a_header _ _ _ _ _ _ _) o = refl
   none-gives (a-file _ _ _ _) o = refl
   none-gives (a-group _ _ _ _ _ _) o = refl
-  none-gives (an_item _ _ _ _ _ _ _ _ _) o = absurd (o refl)
-  none-gives a-group-end o = refl
-  none-gives a-file-end o = refl
+  none-gives (an-item _ _ _ _ _ _ _ _ _) o = absurd (o refl)
+  none-gives a_group_end o = refl
+  none-gives a_file_end o = refl
   none-gives (refused _ _) o = refl
 
-  other-ends : (kind_of t.bytes ≡ itemLine → ⊥) → ahead sh today (accepted single) (t ∷ ts) ≡ 0
+  other-ends : (kind_of t.bytes ≡ item_line → ⊥) → ahead sh today (accepted single) (t ∷ ts) ≡ 0
   unfolding ahead
   other-ends o = none-gives (says sh today (accepted single) (kind_of t.bytes) t.bytes) o
 
@@ -102,34 +102,34 @@ module _ (sh : Sheet) (f : List ℕ) (single : Bool) where
     sum-end l today h = let z : ahead sh today (accepted single) (lines_from f at) ≡ 0 = rw (at-end f at l) in omega (arith, so.same today)
 
     -- a line, and whether it is an item's
-    module _ (line : Cut) (cuts : Cuts f at line) (r : Bool) (tells : r ≡ is itemLine (kind_of (cut f at line.stop))) where
-      split : (today : ℕ) → ahead sh today (accepted single) (lines_from f at) ≡ ahead sh today (accepted single) (lineIn f at line.stop ∷ lines_from f line.next)
+    module _ (line : Cut) (cuts : Cuts f at line) (r : Bool) (tells : r ≡ is item_line (kind_of (cut f at line.stop))) where
+      split : (today : ℕ) → ahead sh today (accepted single) (lines_from f at) ≡ ahead sh today (accepted single) (line_in f at line.stop ∷ lines_from f line.next)
       split today = rw cuts.lines
 
       pub sum-stop : r ≡ false → Exact sh f single from sum
       sum-stop e today h =
-          omega (arith, so.same today, split today, other-ends sh today single (lineIn f at line.stop) (lines_from f line.next) (not-item _ (sym tells ∙ e)))
+          omega (arith, so.same today, split today, other-ends sh today single (line_in f at line.stop) (lines_from f line.next) (not-item _ (sym tells ∙ e)))
 
       module _ (e : r ≡ true) where
-        known : kind_of (cut f at line.stop) ≡ itemLine
+        known : kind_of (cut f at line.stop) ≡ item_line
         known = is-item _ (sym tells ∙ e)
 
-        here : (isSaid (readItem sh anyBank single (cut f at line.stop)) ≡ true) × ItemsSaid sh single (lines_from f line.next)
+        here : (is_said (read_item sh any_bank single (cut f at line.stop)) ≡ true) × ItemsSaid sh single (lines_from f line.next)
         here = (rw cuts.lines at so.ready) known
 
-        pub sum-ready : isSaid (readItem sh anyBank single (cut f at line.stop)) ≡ true
+        pub sum-ready : is_said (read_item sh any_bank single (cut f at line.stop)) ≡ true
         sum-ready = here.0
 
         module _ (x : Fields) (sound : Sound (cut f at line.stop) x) where
           pub sum_fits : sum ≤ 99999999999999 → Fits w64 (sum + x.amount)
           sum_fits l = record { fits = omega (arith, sound.low) }
 
-          pub sum-item : told (cut f at line.stop) x ≡ counted (readItem sh anyBank single (cut f at line.stop)) → Summing sh f single from line.next (sum + x.amount)
+          pub sum-item : told (cut f at line.stop) x ≡ counted (read_item sh any_bank single (cut f at line.stop)) → Summing sh f single from line.next (sum + x.amount)
           sum-item q =
               record {
                 inside = cuts.inside;
                 ready = here.1;
-                same = λ today. omega (arith, so.same today, split today, item-gives sh today single (lineIn f at line.stop) (lines_from f line.next) known x q);
+                same = λ today. omega (arith, so.same today, split today, item-gives sh today single (line_in f at line.stop) (lines_from f line.next) known x q);
               }
 
 -- a line is behind the one before it

@@ -8,10 +8,10 @@ use lib.ListN.{length, drop, length-take, length-drop}
 use borrow.Author.Tests.{eq-eqb, ne_eqb}
 use Rattle.base.specs.Pick.{pick}
 use Rattle.base.specs.Seek.{seek}
-use Rattle.paper.specs.Warnings.{pastDay, notices}
+use Rattle.paper.specs.Warnings.{past_day, notices}
 use Rattle.paper.specs.Bytes.{space, field_of}
-use Rattle.paper.specs.Entries.{group, totalAt, said, onGroup, on_entry}
-use Rattle.paper.specs.GroupLine.{readGroup}
+use Rattle.paper.specs.Entries.{group, total_at, said, on_group, on_entry}
+use Rattle.paper.specs.GroupLine.{read_group}
 use Rattle.paper.proofs.Passing.{counted-no}
 use Rattle.numeral.specs.counted.Counted.{Counted}
 use Rattle.numeral.proofs.counted.Laws.{counted-nothing, ◌counted-then◌}
@@ -20,11 +20,11 @@ use Rattle.groupline.specs.declared.GroupRead.{GroupRead}
 use Rattle.groupline.specs.declared.GroupRead.TheVariants as read
 use Rattle.groupline.specs.Told.{Tells, Low}
 use Rattle.why.specs.declared.Finding.{Finding}
-use Rattle.why.specs.Names.{fieldNumber}
-use Rattle.why.specs.Warned.{onListed, warned, noticed, differing}
+use Rattle.why.specs.Names.{field_number}
+use Rattle.why.specs.Warned.{on_listed, warned, noticed, differing}
 use Rattle.listing.specs.declared.Telling.{Telling}
 use Rattle.listing.specs.Listed.{spelled, listed}
-use Rattle.listing.specs.group.Warned.{groupWarned, cut, lineIn, atField}
+use Rattle.listing.specs.group.Warned.{group_warned, cut, line_in, at_field}
 use Rattle.listing.proofs.Putting.{listed-append, listed-one}
 use Rattle.listing.proofs.group.Spot.{group-spot}
 
@@ -32,8 +32,8 @@ use Rattle.listing.proofs.group.Spot.{group-spot}
 
 -- how many bytes a field has
 pub field_found : (k start off why field a z : ℕ) (f : List ℕ) (stop end : ℕ) → end ≡ off + seek space (drop off (cut f start stop))
-    → ◌≡◌ {A = Finding} (record { number = 0; cause = why; line = k; byte = start + off; length = end - off; field = field; least = a; most = z }) (atField k (lineIn f start stop) off why field a z)
-unfolding atField
+    → ◌≡◌ {A = Finding} (record { number = 0; cause = why; line = k; byte = start + off; length = end - off; field = field; least = a; most = z }) (at_field k (line_in f start stop) off why field a z)
+unfolding at_field
 field_found k start off why field a z f stop end e =
     let n : end - off ≡ length (field_of (drop off (cut f start stop))) = omega (arith, field-long (drop off (cut f start stop))) in
     rw n
@@ -61,25 +61,25 @@ module _ (t : Telling) (f : List ℕ) {o : List ℕ} {at : ℕ} where
     put_one x w = rw (listed-one t f x) w
 
     module _ (k start stop off : ℕ) (x : Finding) where
-      pub put-differing : (total exact : ℕ) → (total ≡ exact → ⊥) → x ≡ atField k (lineIn f start stop) off 1010 21 exact exact → Counted o at (spelled t f x) o1 d
-          → Counted o at (listed t f (differing k (lineIn f start stop) off total exact)) o1 d
-      unfolding differing atField fieldNumber pick
+      pub put-differing : (total exact : ℕ) → (total ≡ exact → ⊥) → x ≡ at_field k (line_in f start stop) off 1010 21 exact exact → Counted o at (spelled t f x) o1 d
+          → Counted o at (listed t f (differing k (line_in f start stop) off total exact)) o1 d
+      unfolding differing at_field field_number pick
       put-differing total exact n e w = rw (ne_eqb total exact n, ← e) (put_one x w)
 
       pub put-day : (end warnings : ℕ) → end ≡ off + seek space (drop off (cut f start stop)) → (warnings ≡ 0 → ⊥) → warnings ≤ 1
-          → x ≡ atField k (lineIn f start stop) (end + 1) 1011 22 t.today 0 → Counted o at (spelled t f x) o1 d
-          → Counted o at (listed t f (map (noticed t.sheet t.today k (lineIn f start stop) (totalAt off)) (notices pastDay (off + seek space (drop off (cut f start stop)) + 1) warnings))) o1 d
-      unfolding notices warned atField fieldNumber
+          → x ≡ at_field k (line_in f start stop) (end + 1) 1011 22 t.today 0 → Counted o at (spelled t f x) o1 d
+          → Counted o at (listed t f (map (noticed t.sheet t.today k (line_in f start stop) (total_at off)) (notices past_day (off + seek space (drop off (cut f start stop)) + 1) warnings))) o1 d
+      unfolding notices warned at_field field_number
       put-day end warnings g n l e w =
           let one : warnings ≡ 1 = omega arith in
           rw (one, ← g, ← e) (put_one x w)
 
-  pub put_same : (k start stop off total exact : ℕ) → total ≡ exact → Counted o at (listed t f (differing k (lineIn f start stop) off total exact)) o at
+  pub put_same : (k start stop off total exact : ℕ) → total ≡ exact → Counted o at (listed t f (differing k (line_in f start stop) off total exact)) o at
   unfolding differing pick
   put_same k start stop off total exact e = rw (eq-eqb total exact e) put-none
 
   pub put-today : (k start stop off warnings : ℕ) → warnings ≡ 0
-      → Counted o at (listed t f (map (noticed t.sheet t.today k (lineIn f start stop) (totalAt off)) (notices pastDay (off + seek space (drop off (cut f start stop)) + 1) warnings))) o at
+      → Counted o at (listed t f (map (noticed t.sheet t.today k (line_in f start stop) (total_at off)) (notices past_day (off + seek space (drop off (cut f start stop)) + 1) warnings))) o at
   unfolding notices
   put-today k start stop off warnings e = rw e put-none
 
@@ -88,18 +88,18 @@ module _ (t : Telling) (f : List ℕ) {o : List ℕ} {at : ℕ} where
 pub line-once : (r : GroupRead) → Low r → (single : Bool) (total date warnings spot : ℕ) → r ≡ read.Group single total date warnings spot → warnings ≤ 1
 line-once r low single total date warnings spot e = (rw e at low).1
 
-module _ (t : Telling) (f : List ℕ) (start stop : ℕ) (here : Bool) (r : GroupRead) (tells : Tells (readGroup t.sheet t.today here (cut f start stop)) r) where
-  pub line_refused : (n off : ℕ) → r ≡ read.Refused n off → {o : List ℕ} {at : ℕ} (k exact : ℕ) → Counted o at (listed t f (groupWarned t.sheet t.today k (lineIn f start stop) here exact)) o at
-  unfolding groupWarned onListed
+module _ (t : Telling) (f : List ℕ) (start stop : ℕ) (here : Bool) (r : GroupRead) (tells : Tells (read_group t.sheet t.today here (cut f start stop)) r) where
+  pub line_refused : (n off : ℕ) → r ≡ read.Refused n off → {o : List ℕ} {at : ℕ} (k exact : ℕ) → Counted o at (listed t f (group_warned t.sheet t.today k (line_in f start stop) here exact)) o at
+  unfolding group_warned on_listed
   line_refused n off e k exact =
-      let x = counted-no (readGroup t.sheet t.today here (cut f start stop)) n off (rw e at tells.says) in
+      let x = counted-no (read_group t.sheet t.today here (cut f start stop)) n off (rw e at tells.says) in
       rw (← x) (put-none t f)
 
   module _ (long : 2 ≤ length (cut f start stop)) (single : Bool) (total date warnings spot : ℕ) (e : r ≡ read.Group single total date warnings spot) where
     abbrev w : List ℕ
     w = cut f start stop
 
-    says : (readGroup t.sheet t.today here w ≡ said (group tells.payer total date) (notices pastDay (spot + seek space (drop spot w) + 1) warnings) (totalAt spot))
+    says : (read_group t.sheet t.today here w ≡ said (group tells.payer total date) (notices past_day (spot + seek space (drop spot w) + 1) warnings) (total_at spot))
         × (spot + seek space (drop spot w) < length w)
     says = group-spot w t.sheet t.today here long (rw e at tells.says)
 
@@ -110,10 +110,10 @@ module _ (t : Telling) (f : List ℕ) (start stop : ℕ) (here : Bool) (r : Grou
       pub line-total : start + spot ≤ stop
       line-total = omega (arith, line-day)
 
-    pub line-put : {o o1 o2 : List ℕ} {at d h : ℕ} (k exact : ℕ) → Counted o at (listed t f (differing k (lineIn f start stop) spot total exact)) o1 d
-        → Counted o1 d (listed t f (map (noticed t.sheet t.today k (lineIn f start stop) (totalAt spot)) (notices pastDay (spot + seek space (drop spot w) + 1) warnings))) o2 h
-        → Counted o at (listed t f (groupWarned t.sheet t.today k (lineIn f start stop) here exact)) o2 h
-    unfolding groupWarned onListed onGroup on_entry
+    pub line-put : {o o1 o2 : List ℕ} {at d h : ℕ} (k exact : ℕ) → Counted o at (listed t f (differing k (line_in f start stop) spot total exact)) o1 d
+        → Counted o1 d (listed t f (map (noticed t.sheet t.today k (line_in f start stop) (total_at spot)) (notices past_day (spot + seek space (drop spot w) + 1) warnings))) o2 h
+        → Counted o at (listed t f (group_warned t.sheet t.today k (line_in f start stop) here exact)) o2 h
+    unfolding group_warned on_listed on_group on_entry
     line-put k exact a b = rw (says.0, listed-append t f) (a counted-then b)
 
 pub ruleset fields = (field_found, off-within)

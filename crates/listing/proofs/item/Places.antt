@@ -14,10 +14,10 @@ use Rattle.base.proofs.Seek.{seek-le}
 use Rattle.base.proofs.Lists.{drop-none, drop-take}
 use Rattle.sheet.specs.declared.Style.{Style}
 use Rattle.paper.specs.Bytes.{space, bar, mark}
-use Rattle.paper.specs.Texts.{messageEnd}
-use Rattle.why.specs.Names.{fieldNumber}
-use Rattle.why.specs.Warned.{partName, partFrom}
-use Rattle.listing.specs.item.Found.{behind, bankPlace}
+use Rattle.paper.specs.Texts.{message_end}
+use Rattle.why.specs.Names.{field_number}
+use Rattle.why.specs.Warned.{part_name, part_from}
+use Rattle.listing.specs.item.Found.{behind, bank_place}
 
 -- ---- the bank field: e is what find_byte answered
 
@@ -33,18 +33,18 @@ module _ (s : List ℕ) (at e : ℕ) (g : e ≡ at + seek space (drop at s)) whe
 pub ruleset behinds = (behind-space, behind-end)
 
 -- bank_place: a, b and c are what its callees answered
-pub bank-place : (single : Bool) (s : List ℕ) (a b c r : ℕ) → a ≡ pick single (behind s 0) 0 → b ≡ behind s a → c ≡ behind s b → r ≡ behind s c → r ≡ bankPlace single s
-unfolding bankPlace
+pub bank-place : (single : Bool) (s : List ℕ) (a b c r : ℕ) → a ≡ pick single (behind s 0) 0 → b ≡ behind s a → c ≡ behind s b → r ≡ behind s c → r ≡ bank_place single s
+unfolding bank_place
 bank-place single s a b c r ea eb ec er = er ∙ rw (ec, eb, ea)
 
 -- ---- a part before it is cut
 
 -- the message ends within the line
-pub message-le : (y : Style) (m : List ℕ) → messageEnd y m ≤ length m
-unfolding messageEnd pick
+pub message-le : (y : Style) (m : List ℕ) → message_end y m ≤ length m
+unfolding message_end pick
 message-le y m = by-test y.names (λ e. rw e (seek-le mark m)) (λ e. rw e (omega arith))
 
-module _ (y : Style) (s : List ℕ) (at e : ℕ) (g : e ≡ at + messageEnd y (drop at s)) (h : at ≤ length s) where
+module _ (y : Style) (s : List ℕ) (at e : ℕ) (g : e ≡ at + message_end y (drop at s)) (h : at ≤ length s) where
   pub end-within : e ≤ length s
   end-within = omega (arith, message-le y (drop at s), length-drop at s)
 
@@ -52,13 +52,13 @@ module _ (y : Style) (s : List ℕ) (at e : ℕ) (g : e ≡ at + messageEnd y (d
   end-behind = omega arith
 
   -- r is what find_byte answered
-  rest : drop at (take e s) ≡ take (messageEnd y (drop at s)) (drop at s)
-  rest = let z : e - at ≡ messageEnd y (drop at s) = omega arith in drop-take at e s ∙ ap (λ (n : ℕ). take n (drop at s)) z
+  rest : drop at (take e s) ≡ take (message_end y (drop at s)) (drop at s)
+  rest = let z : e - at ≡ message_end y (drop at s) = omega arith in drop-take at e s ∙ ap (λ (n : ℕ). take n (drop at s)) z
 
-  pub part-size : (r : ℕ) → r ≡ at + seek bar (drop at (take (e - 0) (drop 0 s))) → r - at ≡ length (partFrom y (drop at s))
-  unfolding partFrom
+  pub part-size : (r : ℕ) → r ≡ at + seek bar (drop at (take (e - 0) (drop 0 s))) → r - at ≡ length (part_from y (drop at s))
+  unfolding part_from
   part-size r f =
-      let u = take (messageEnd y (drop at s)) (drop at s) in
+      let u = take (message_end y (drop at s)) (drop at s) in
       let z : e - 0 ≡ e = omega arith in
       omega (arith, rw (z, drop-none s, rest) at f, length-take-le (seek bar u) u (seek-le bar u))
 
@@ -68,24 +68,24 @@ pub ruleset part-sizes = (end-within, end-behind, part-size)
 
 module _ (at a b c d : ℕ) where
   abbrev name : ℕ
-  name = fieldNumber (partName at (a ∷ b ∷ c ∷ d ∷ []))
+  name = field_number (part_name at (a ∷ b ∷ c ∷ d ∷ []))
 
   pub name-first : at ≡ a → 37 ≡ name
-  unfolding partName fieldNumber pick
+  unfolding part_name field_number pick
   name-first e = rw (eq-eqb at a e)
 
   module _ (na : at ≡ a → ⊥) where
     pub name-second : at ≡ b → 38 ≡ name
-    unfolding partName fieldNumber pick
+    unfolding part_name field_number pick
     name-second e = rw (ne_eqb at a na, eq-eqb at b e)
 
     module _ (nb : at ≡ b → ⊥) where
       pub name-third : at ≡ c → 39 ≡ name
-      unfolding partName fieldNumber pick
+      unfolding part_name field_number pick
       name-third e = rw (ne_eqb at a na, ne_eqb at b nb, eq-eqb at c e)
 
       pub name-fourth : (at ≡ c → ⊥) → 40 ≡ name
-      unfolding partName fieldNumber pick
+      unfolding part_name field_number pick
       name-fourth nc = rw (ne_eqb at a na, ne_eqb at b nb, ne_eqb at c nc)
 
 pub ruleset part-names = (name-first, name-second, name-third, name-fourth)

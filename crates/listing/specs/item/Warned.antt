@@ -2,12 +2,12 @@
 use Rattle.std.specs.Prelude.{ℕ, Bool, List, [], map}
 use Rattle.sheet.specs.declared.Sheet.{Sheet}
 use Rattle.paper.specs.Lines.{Line}
-use Rattle.paper.specs.ItemLine.{readItem}
-use Rattle.itemline.specs.Walk.{anyBank}
+use Rattle.paper.specs.ItemLine.{read_item}
+use Rattle.itemline.specs.Walk.{any_bank}
 use Rattle.why.specs.declared.Finding.{Finding}
-use Rattle.why.specs.Warned.{onListed, noticed}
+use Rattle.why.specs.Warned.{on_listed, noticed}
 
 -- line k, the line t, in a group that is single or not
-unfoldable pub itemWarned : Sheet → ℕ → ℕ → Line → Bool → List Finding
-itemWarned sh today k t single =
-    onListed (readItem sh anyBank single t.bytes) (λ x. map (noticed sh today k t x.places) x.warnings) []
+unfoldable pub item_warned : Sheet → ℕ → ℕ → Line → Bool → List Finding
+item_warned sh today k t single =
+    on_listed (read_item sh any_bank single t.bytes) (λ x. map (noticed sh today k t x.places) x.warnings) []

@@ -4,7 +4,7 @@ use Rattle.base.specs.Pick.{pick}
 use Rattle.base.specs.Seek.{all, starts, seek}
 use Rattle.base.proofs.Cases.{by-test}
 use Rattle.base.proofs.Seek.{never, all_head, all_tail, seek-next}
-use Rattle.paper.specs.Bytes.{isDigit, space, field_of}
+use Rattle.paper.specs.Bytes.{is_digit, space, field_of}
 use Rattle.numeral.specs.field.Digits.{run}
 use Rattle.numeral.proofs.field.Front.{run-digits, run_is}
 use Rattle.numeral.proofs.field.Number.{run-over}
@@ -14,12 +14,12 @@ field-cons : (x : ℕ) (s : List ℕ) → eqb x 32 ≡ false → field_of (x ∷
 unfolding seek starts pick
 field-cons x s e = simp e
 
-field-over : (d s : List ℕ) → all isDigit d ≡ true → field_of (d ++ s) ≡ d ++ field_of s
-unfolding isDigit pick
+field-over : (d s : List ℕ) → all is_digit d ≡ true → field_of (d ++ s) ≡ d ++ field_of s
+unfolding is_digit pick
 field-over [] s h = refl
 field-over (x ∷ d) s h =
-    field-cons x (d ++ s) (by-test (eqb x 32) (λ e. never (sym (all_head isDigit x d h) ∙ ap isDigit (eqb-true x 32 e))) (λ e. e))
-    ∙ ap (λ (l : List ℕ). x ∷ l) (field-over d s (all_tail isDigit x d h))
+    field-cons x (d ++ s) (by-test (eqb x 32) (λ e. never (sym (all_head is_digit x d h) ∙ ap is_digit (eqb-true x 32 e))) (λ e. e))
+    ∙ ap (λ (l : List ℕ). x ∷ l) (field-over d s (all_tail is_digit x d h))
 
 -- a run that ends at e, before a byte b that is no space
 module _ (s : List ℕ) (at most e v b : ℕ) (h : e ≡ at + length (run most (drop at s))) (l : e < length s) (f : get_or s e 0 ≡ b) (n : b ≡ 32 → ⊥) where
@@ -35,5 +35,5 @@ module _ (s : List ℕ) (at most e v b : ℕ) (h : e ≡ at + length (run most (
       ∙ ap (λ (u : List ℕ). run most (drop at s) ++ u) (field-cons b (drop (e + 1) s) (ne_eqb b 32 n))
 
   pub behind-end : at + seek space (drop at s) ≡ e + 1 + seek space (drop (e + 1) s)
-  unfolding isDigit starts pick
+  unfolding is_digit starts pick
   behind-end = run-over s at most e v h 32 refl ∙ seek-next space s e l (rw rest-is (simp (ne_eqb b 32 n)))

@@ -4,7 +4,7 @@ use Rattle.base.specs.Pick.{pick}
 use Rattle.base.specs.Seek.{all, seek}
 use Rattle.base.proofs.Seek.{never, seek-le, seek-over}
 use Rattle.paper.specs.Read.{Field, value, fault}
-use Rattle.paper.specs.Bytes.{isDigit, space, field_of, null}
+use Rattle.paper.specs.Bytes.{is_digit, space, field_of, null}
 use Rattle.paper.specs.Numerals.{digits}
 use Rattle.numeral.proofs.Digits.{in-range, too_short}
 use Rattle.numeral.proofs.Sound.{read-on, digits-plain, digits-most, digits-sound, digits-fault}
@@ -27,11 +27,11 @@ module _ (s : List ℕ) (at most e v : ℕ) (h : e ≡ at + length (run most (dr
   run_small g = digits-sound 0 most (run most (drop at s)) v g
 
   -- the bytes of the run are digits, so a byte that is none stands behind them
-  pub run-over : (b : ℕ) → isDigit b ≡ false → at + seek (b ∷ []) (drop at s) ≡ e + seek (b ∷ []) (drop e s)
+  pub run-over : (b : ℕ) → is_digit b ≡ false → at + seek (b ∷ []) (drop at s) ≡ e + seek (b ∷ []) (drop e s)
   run-over b n =
       let d : drop (length (run most (drop at s))) (drop at s) ≡ drop e s = rw h (drop-drop (length (run most (drop at s))) at s) in
-      let a : all isDigit (take (length (run most (drop at s))) (drop at s)) ≡ true = rw (← (run_is most (drop at s))) (run-digits most (drop at s)) in
-      let o = seek-over isDigit b n (length (run most (drop at s))) (drop at s) (run-within most (drop at s)) a in
+      let a : all is_digit (take (length (run most (drop at s))) (drop at s)) ≡ true = rw (← (run_is most (drop at s))) (run-digits most (drop at s)) in
+      let o = seek-over is_digit b n (length (run most (drop at s))) (drop at s) (run-within most (drop at s)) a in
       let z = rw d at o in
       omega arith
 
@@ -46,7 +46,7 @@ module _ (s : List ℕ) (at least most e v : ℕ) (h : e ≡ at + length (run mo
   -- it does: the field is the run
   module _ (y : t ≡ true) where
     pub run_ends : at + seek space (drop at s) ≡ e
-    unfolding isDigit pick
+    unfolding is_digit pick
     run_ends = run-over s at most e v h 32 refl ∙ omega (arith, field-ends (drop e s) (sym k ∙ y))
 
     pub run-field : field_of (drop at s) ≡ run most (drop at s)
@@ -67,7 +67,7 @@ module _ (s : List ℕ) (at least most e v : ℕ) (h : e ≡ at + length (run mo
   -- it does not: a byte that is no digit or one too many
   module _ (y : t ≡ false) where
     pub run-goes : length (run most (drop at s)) < seek space (drop at s)
-    unfolding isDigit pick
+    unfolding is_digit pick
     run-goes = omega (arith, run-over s at most e v h 32 refl, field-goes (drop e s) (sym k ∙ y))
 
     pub run-open : at ≤ length s → e < length s
@@ -77,10 +77,10 @@ module _ (s : List ℕ) (at least most e v : ℕ) (h : e ≡ at + length (run mo
     number-other w q =
         let n : ℕ = length (run most (drop at s)) in
         let l : n < length (field_of (drop at s)) = omega (arith, run-goes, field-long (drop at s)) in
-        let d : isDigit (get_or (field_of (drop at s)) n 0) ≡ true = all-at isDigit (field_of (drop at s)) n (digits-plain least most (field_of (drop at s)) w q) l in
+        let d : is_digit (get_or (field_of (drop at s)) n 0) ≡ true = all-at is_digit (field_of (drop at s)) n (digits-plain least most (field_of (drop at s)) w q) l in
         let m : n < most = omega (arith, digits-most least most (field_of (drop at s)) w q) in
-        let f : isDigit (get_or (drop at s) n 0) ≡ false = run-stop most (drop at s) m (omega (arith, run-goes, seek-le space (drop at s))) in
-        never (sym d ∙ ap isDigit (get_or-take (seek space (drop at s)) (drop at s) n 0 run-goes) ∙ f)
+        let f : is_digit (get_or (drop at s) n 0) ≡ false = run-stop most (drop at s) m (omega (arith, run-goes, seek-le space (drop at s))) in
+        never (sym d ∙ ap is_digit (get_or-take (seek space (drop at s)) (drop at s) n 0 run-goes) ∙ f)
 
     pub number-long : missed 4 ≡ field_at (digits least most) s at
     unfolding field_at

@@ -7,7 +7,7 @@ use Rattle.base.proofs.Lists.{drop-none}
 use Rattle.paper.specs.Read.{Field, value, fault}
 use Rattle.paper.specs.Bytes.{space, field_of}
 use Rattle.paper.specs.Numerals.{digits}
-use Rattle.paper.specs.Entries.{Said, no, onField, field, place, gap, lineEnd}
+use Rattle.paper.specs.Entries.{Said, no, on_field, field, place, gap, line_end}
 use Rattle.numeral.specs.declared.Num.{Num}
 use Rattle.numeral.specs.declared.Num.TheVariants as num
 use Rattle.numeral.specs.Told as whole
@@ -44,7 +44,7 @@ module _ {A : Type 0} (read : List ℕ → Field A) (s : List ℕ) (at : ℕ) wh
     found_within l = rw found-end (seek-within space s at l)
 
     pub found-field : {Z : Type 0} (k : A → ℕ → List ℕ → Said Z) → field read at (drop at s) k ≡ k v e (drop e s)
-    unfolding field onField
+    unfolding field on_field
     found-field k = rw (found-value, drop-drop, ← found-end)
 
   module _ (n : ℕ) (g : missed n ≡ field_at read s at) where
@@ -53,7 +53,7 @@ module _ {A : Type 0} (read : List ℕ → Field A) (s : List ℕ) (at : ℕ) wh
     missed-fault = ending-missed (at + seek space (drop at s)) (read (field_of (drop at s))) n g
 
     pub missed-field : {Z : Type 0} (k : A → ℕ → List ℕ → Said Z) → field read at (drop at s) k ≡ no n at
-    unfolding field onField
+    unfolding field on_field
     missed-field k = rw missed-fault
 
 -- ---- the step over a field, of any answer n that tells what stands there
@@ -101,34 +101,34 @@ module _ {Z : Type 0} (r : Said Z) (s : List ℕ) (e : ℕ) where
   unfolding gap
   step-no-gap h k q = q ∙ rw (drop_of_length-le s h)
 
-  pub step_end : length s ≤ e → (x : Said Z) → r ≡ x → r ≡ lineEnd e (drop e s) x
-  unfolding lineEnd
+  pub step_end : length s ≤ e → (x : Said Z) → r ≡ x → r ≡ line_end e (drop e s) x
+  unfolding line_end
   step_end h x q = q ∙ rw (drop_of_length-le s h)
 
-  pub step-no-end : e < length s → (x : Said Z) → r ≡ no 4 e → r ≡ lineEnd e (drop e s) x
-  unfolding lineEnd
+  pub step-no-end : e < length s → (x : Said Z) → r ≡ no 4 e → r ≡ line_end e (drop e s) x
+  unfolding line_end
   step-no-end h x q = q ∙ rw (drop-cons s e 0 h)
 
 -- ---- a field by place, and the rest of the line: m is what a reader of the bytes answered
 
 module _ {Z : Type 0} {A : Type 0} (r : Said Z) (at : ℕ) (x : Field A) (k : A → Said Z) where
-  pub step-known : (v : A) → x ≡ value v → r ≡ k v → r ≡ onField at x k
-  unfolding onField
+  pub step-known : (v : A) → x ≡ value v → r ≡ k v → r ≡ on_field at x k
+  unfolding on_field
   step-known v f q = q ∙ rw f
 
-  pub step-unknown : (c : ℕ) → x ≡ fault c → r ≡ no c at → r ≡ onField at x k
-  unfolding onField
+  pub step-unknown : (c : ℕ) → x ≡ fault c → r ≡ no c at → r ≡ on_field at x k
+  unfolding on_field
   step-unknown c f q = q ∙ rw f
 
 module _ {Z : Type 0} (r : Said Z) (at : ℕ) (x : Field ℕ) (k : ℕ → Said Z) (m : Num) (g : whole.told m ≡ x) where
-  pub step_given : (v : ℕ) → m ≡ num.Value v → r ≡ k v → r ≡ onField at x k
+  pub step_given : (v : ℕ) → m ≡ num.Value v → r ≡ k v → r ≡ on_field at x k
   step_given v f q = step-known r at x k v (sym g ∙ rw f) q
 
-  pub step-fault : (c : ℕ) → m ≡ num.Refused c → r ≡ no c at → r ≡ onField at x k
+  pub step-fault : (c : ℕ) → m ≡ num.Refused c → r ≡ no c at → r ≡ on_field at x k
   step-fault c f q = step-unknown r at x k c (sym g ∙ rw f) q
 
 module _ {Z : Type 0} {A : Type 0} (r : Said Z) (n : ℕ) (read : List ℕ → Field A) (s : List ℕ) (at : ℕ) (k : A → ℕ → List ℕ → Said Z) where
-  pub step-place : at + n ≤ length s → r ≡ onField at (read (take n (drop at s))) (λ v. k v (at + n) (drop (at + n) s)) → r ≡ place n read at (drop at s) k
+  pub step-place : at + n ≤ length s → r ≡ on_field at (read (take n (drop at s))) (λ v. k v (at + n) (drop (at + n) s)) → r ≡ place n read at (drop at s) k
   unfolding place
   step-place h q = q ∙ sym (pick-false _ _ (le-ltb (length (drop at s)) n (omega (arith, length-drop at s))) ∙ rw drop-drop)
 

@@ -5,8 +5,8 @@ use Rattle.base.specs.Pick.{pick}
 use Rattle.base.specs.Seek.{starts, seek}
 use Rattle.base.proofs.Cases.{by-lt, by-test}
 use Rattle.paper.specs.Read.{value}
-use Rattle.paper.specs.Bytes.{isDigit, field_of, null}
-use Rattle.paper.specs.Numerals.{digitsOn, digits}
+use Rattle.paper.specs.Bytes.{is_digit, field_of, null}
+use Rattle.paper.specs.Numerals.{digits_on, digits}
 use Rattle.numeral.proofs.Digits.{in-range, more-digits, ten-le}
 use Rattle.numeral.proofs.Plain.{range-digit}
 use Rattle.numeral.specs.field.Digits.{front, run, Worth}
@@ -14,11 +14,11 @@ use Rattle.numeral.proofs.field.Front.{run-most}
 
 -- ---- a byte that is a digit, and one that is none
 
-pub is_digit : (b d : ℕ) → Worth b d → d ≤ 9 → isDigit b ≡ true
-is_digit b d w h = let g = w.digit h in range-digit b g.0 g.1
+pub is-digit : (b d : ℕ) → Worth b d → d ≤ 9 → is_digit b ≡ true
+is-digit b d w h = let g = w.digit h in range-digit b g.0 g.1
 
-pub no_digit : (b : ℕ) → (48 ≤ b → 57 < b) → isDigit b ≡ false
-unfolding isDigit pick
+pub no_digit : (b : ℕ) → (48 ≤ b → 57 < b) → is_digit b ≡ false
+unfolding is_digit pick
 no_digit b h = by-lt b 48 (λ l. simp (lt-ltb b 48 l)) (λ l. simp (le-ltb b 48 l, lt-leb b 57 (h l)))
 
 -- ---- where it stops at the latest
@@ -57,7 +57,7 @@ pub record Reads (s : List ℕ) (at most stop v i : ℕ) : Type 0 where
   pub to : i ≤ stop
   pub small : v < 10 ^ (i - at)
   pub long : at + length (run most (drop at s)) ≡ i + length (ahead s stop i)
-  pub says : digitsOn 0 (run most (drop at s)) ≡ digitsOn v (ahead s stop i)
+  pub says : digits_on 0 (run most (drop at s)) ≡ digits_on v (ahead s stop i)
 
 pub reads-start : (s : List ℕ) (at most stop : ℕ) → stop ≡ pick (ltb (length s - at) most) (length s) (at + most) → at ≤ length s → Reads s at most stop 0 at
 reads-start s at most stop h l =
@@ -72,7 +72,7 @@ module _ (s : List ℕ) (at most stop v i : ℕ) (inv : Reads s at most stop v i
     reads-long = let e = inv.long in let z : length (ahead s stop i) ≡ 0 = rw h in omega arith
 
     pub reads-value : digits 0 most (run most (drop at s)) ≡ value v
-    unfolding digitsOn
+    unfolding digits_on
     reads-value = in-range 0 most (run most (drop at s)) (omega arith) (run-most most (drop at s)) ∙ inv.says ∙ rw h
 
   pub ahead-end : stop ≤ i → ahead s stop i ≡ []
@@ -84,7 +84,7 @@ module _ (s : List ℕ) (at most stop v i : ℕ) (inv : Reads s at most stop v i
       nothing (x ∷ t) = refl
 
   module _ (l : i < stop) (w : stop ≤ length s) where
-    step : ahead s stop i ≡ pick (isDigit (get_or s i 0)) (get_or s i 0 ∷ ahead s stop (i + 1)) []
+    step : ahead s stop i ≡ pick (is_digit (get_or s i 0)) (get_or s i 0 ∷ ahead s stop (i + 1)) []
     unfolding front
     step =
         let k : i < length s = omega arith in
@@ -96,9 +96,9 @@ module _ (s : List ℕ) (at most stop v i : ℕ) (inv : Reads s at most stop v i
     ahead-other x k h = step ∙ rw (k.other h)
 
     next : 48 ≤ get_or s i 0 → get_or s i 0 ≤ 57 → Reads s at most stop (v * 10 + (get_or s i 0 - 48)) (i + 1)
-    unfolding isDigit digitsOn pick
+    unfolding is_digit digits_on pick
     next lo hi =
-        let d : isDigit (get_or s i 0) ≡ true = simp (le-ltb (get_or s i 0) 48 lo, le-leb (get_or s i 0) 57 hi) in
+        let d : is_digit (get_or s i 0) ≡ true = simp (le-ltb (get_or s i 0) 48 lo, le-leb (get_or s i 0) 57 hi) in
         let a : ahead s stop i ≡ get_or s i 0 ∷ ahead s stop (i + 1) = step ∙ rw d in
         let f = inv.from in
         let z : i + 1 - at ≡ i - at + 1 = omega arith in

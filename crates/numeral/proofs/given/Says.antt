@@ -8,13 +8,13 @@ Says P Q (fault n) = Q n
 
 module _ {A : Type 0} (P : A → Type 0) (Q : ℕ → Type 0) where
   -- of a value, and of a refusal
-  pub of-value : (a : A) → P a → Says P Q (value a)
+  pub of_value : (a : A) → P a → Says P Q (value a)
   unfolding Says
-  of-value a p = p
+  of_value a p = p
 
-  pub of-fault : (n : ℕ) → Q n → Says P Q (fault n)
+  pub of_fault : (n : ℕ) → Q n → Says P Q (fault n)
   unfolding Says
-  of-fault n q = q
+  of_fault n q = q
 
   module _ (x : Field A) (h : Says P Q x) where
     pub says-value : (a : A) → x ≡ value a → P a

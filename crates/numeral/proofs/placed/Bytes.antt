@@ -2,7 +2,7 @@
 use Rattle.std.proofs.Common.{◌≡◌, ℕ, ◌+◌, ◌<◌, ◌≤◌, true, List, [], ◌∷◌, length, get_or, take, drop, refl, add-one, arith, drop-cons}
 use Rattle.base.specs.Pick.{pick}
 use Rattle.base.specs.Seek.{all}
-use Rattle.paper.specs.Bytes.{isDigit}
+use Rattle.paper.specs.Bytes.{is_digit}
 use Rattle.numeral.specs.placed.Placed.{Placed}
 
 module _ (s : List ℕ) (at : ℕ) (l : at + 4 ≤ length s) where
@@ -19,6 +19,6 @@ module _ (s : List ℕ) (at : ℕ) (l : at + 4 ≤ length s) where
       )
 
   -- four that are digits
-  pub placed-four : isDigit (get_or s at 0) ≡ true → isDigit (get_or s (at + 1) 0) ≡ true → isDigit (get_or s (at + 2) 0) ≡ true → isDigit (get_or s (at + 3) 0) ≡ true → Placed 4 s at
+  pub placed-four : is_digit (get_or s at 0) ≡ true → is_digit (get_or s (at + 1) 0) ≡ true → is_digit (get_or s (at + 2) 0) ≡ true → is_digit (get_or s (at + 3) 0) ≡ true → Placed 4 s at
   unfolding all pick
   placed-four a b c d = record { inside = l; plain = rw fours (simp (a, b, c, d)) }

@@ -4,7 +4,7 @@ use lib.Seq.{drop-append-add}
 use Rattle.base.specs.Pick.{pick}
 use Rattle.base.specs.Seek.{seek}
 use Rattle.paper.specs.Read.{Field, value, fault}
-use Rattle.paper.specs.Bytes.{isDigit, space, field_of}
+use Rattle.paper.specs.Bytes.{is_digit, space, field_of}
 use Rattle.paper.specs.Numerals.{digits}
 use Rattle.paper.specs.ItemLine.{is_value}
 use Rattle.numeral.proofs.Sound.{same, read-on, digits-plain, digits-most}
@@ -26,7 +26,7 @@ module _ (s : List ℕ) (at : ℕ) (d : List ℕ) (x : ℕ) (t : List ℕ) (q : 
       let z : at + length d + 1 ≡ at + (length d + 1) = omega arith in
       rw (z, ← (drop-drop (length d + 1) at s), q) (drop-append-add d (x ∷ t) 1 ∙ drop-none t)
 
-  module _ (least most v : ℕ) (g : digits least most d ≡ value v) (few : most ≤ 19) (low : x < 48) (n : isDigit x ≡ false) where
+  module _ (least most v : ℕ) (g : digits least most d ≡ value v) (few : most ≤ 19) (low : x < 48) (n : is_digit x ≡ false) where
     part-front : front (drop at s) ≡ d
     part-front = rw q (front-other d x t (digits-plain least most d v g) n)
 
@@ -71,23 +71,23 @@ module _ {A : Type 0} where
     -- one run of digits
     module _ (least most v : ℕ) (g : digits least most (field_of (drop at s)) ≡ value v) (few : most ≤ 19) where
       pub one-stops : Stops s at
-      unfolding isDigit pick
+      unfolding is_digit pick
       one-stops = part-stops s at (field_of (drop at s)) 32 rest split least most v g few (omega arith) refl
 
       module _ (r : Run) (k : Ran s at r) where
         pub one_value : r.value ≡ v
-        unfolding isDigit pick
+        unfolding is_digit pick
         one_value = part-value s at (field_of (drop at s)) 32 rest split least most v g few (omega arith) refl r k
 
         pub one-whole : r.end ≡ at + seek space (drop at s)
-        unfolding isDigit pick
+        unfolding is_digit pick
         one-whole = part_end s at (field_of (drop at s)) 32 rest split least most v g few (omega arith) refl r k ∙ sym end
 
         pub one_byte : get_or s r.end 0 ≡ 32
         one_byte = rw (one-whole, end) (part-byte s at (field_of (drop at s)) 32 rest split)
 
     -- two of them, p and b, with the byte z between them
-    module _ (z : ℕ) (low : z < 48) (n : isDigit z ≡ false) (p b : List ℕ) (e : field_of (drop at s) ≡ p ++ (z ∷ b))
+    module _ (z : ℕ) (low : z < 48) (n : is_digit z ≡ false) (p b : List ℕ) (e : field_of (drop at s) ≡ p ++ (z ∷ b))
         (least most u : ℕ) (g : digits least most p ≡ value u) (few : most ≤ 19) where
       first : drop at s ≡ p ++ (z ∷ (b ++ (32 ∷ rest)))
       first = split ∙ (ap (λ (l : List ℕ). l ++ (32 ∷ rest)) e ∙ append_assoc p (z ∷ b) (32 ∷ rest))
@@ -110,16 +110,16 @@ module _ {A : Type 0} where
 
         module _ (least' most' v : ℕ) (g' : digits least' most' b ≡ value v) (few' : most' ≤ 19) where
           pub two-next : Stops s (r.end + 1)
-          unfolding isDigit pick
+          unfolding is_digit pick
           two-next = part-stops s (r.end + 1) b 32 rest second least' most' v g' few' (omega arith) refl
 
           module _ (q : Run) (k' : Ran s (r.end + 1) q) where
             pub two-second : q.value ≡ v
-            unfolding isDigit pick
+            unfolding is_digit pick
             two-second = part-value s (r.end + 1) b 32 rest second least' most' v g' few' (omega arith) refl q k'
 
             pub two-whole : q.end ≡ at + seek space (drop at s)
-            unfolding isDigit pick
+            unfolding is_digit pick
             two-whole =
                 let m = part_end s (r.end + 1) b 32 rest second least' most' v g' few' (omega arith) refl q k' in
                 omega (arith, m, first-end, end, ap length e, length-append p (z ∷ b))

@@ -5,8 +5,8 @@ use Rattle.base.specs.Seek.{seek}
 use Rattle.base.proofs.Lists.{drop-take}
 use Rattle.base.proofs.Seek.{all_head, all_take, all_drop, seek-le}
 use Rattle.paper.specs.Read.{value}
-use Rattle.paper.specs.Bytes.{isDigit, space, field_of}
-use Rattle.paper.specs.Numerals.{digitsOn, digits}
+use Rattle.paper.specs.Bytes.{is_digit, space, field_of}
+use Rattle.paper.specs.Numerals.{digits_on, digits}
 use Rattle.numeral.proofs.Digits.{in-range}
 use Rattle.numeral.proofs.Plain.{digit-range}
 use Rattle.numeral.proofs.Sound.{same, read-on, digits-plain, digits-sound, digits-reads}
@@ -23,7 +23,7 @@ pub placed-part : (n i k : ℕ) (s : List ℕ) (at : ℕ) → i + n ≤ k → Pl
 placed-part n i k s at h p =
     record {
       inside = omega (arith, p.inside);
-      plain = rw (← (part-is n i k s at h)) (all_take isDigit n _ (all_drop isDigit i (take k (drop at s)) p.plain));
+      plain = rw (← (part-is n i k s at h)) (all_take is_digit n _ (all_drop is_digit i (take k (drop at s)) p.plain));
     }
 
 pub placed-front : (n k : ℕ) (s : List ℕ) (at : ℕ) → n ≤ k → Placed k s at → Placed n s at
@@ -85,8 +85,8 @@ module _ (s : List ℕ) (at : ℕ) (p : Placed 1 s at) where
   first : take 1 (drop at s) ≡ get_or s at 0 ∷ []
   first = rw (drop-cons s at 0 one_inside)
 
-  one-digit : isDigit (get_or s at 0) ≡ true
-  one-digit = all_head isDigit (get_or s at 0) [] (rw first at p.plain)
+  one-digit : is_digit (get_or s at 0) ≡ true
+  one-digit = all_head is_digit (get_or s at 0) [] (rw first at p.plain)
 
   pub one-low : 48 ≤ get_or s at 0
   one-low = (digit-range (get_or s at 0) one-digit).0
@@ -95,8 +95,8 @@ module _ (s : List ℕ) (at : ℕ) (p : Placed 1 s at) where
   one-high = (digit-range (get_or s at 0) one-digit).1
 
   pub one_number : digits 1 1 (take 1 (drop at s)) ≡ value (get_or s at 0 - 48)
-  unfolding digitsOn pick
-  one_number = in-range 1 1 (take 1 (drop at s)) (rw first (omega arith)) (rw first (omega arith)) ∙ (ap (digitsOn 0) first ∙ simp one-digit (ap (λ (n : ℕ). value n) (omega arith)))
+  unfolding digits_on pick
+  one_number = in-range 1 1 (take 1 (drop at s)) (rw first (omega arith)) (rw first (omega arith)) ∙ (ap (digits_on 0) first ∙ simp one-digit (ap (λ (n : ℕ). value n) (omega arith)))
 
   pub one-fits : Fits w64 (get_or s at 0)
   one-fits = omega (arith, one-high)

@@ -3,8 +3,8 @@ use Rattle.std.proofs.Common.{◌≡◌, ℕ, suc, ◌+◌, ◌-◌, ◌*◌, �
 use Rattle.base.specs.Pick.{pick}
 use Rattle.base.proofs.Cases.{by-test}
 use Rattle.paper.specs.Read.{value}
-use Rattle.paper.specs.Bytes.{isDigit}
-use Rattle.paper.specs.Numerals.{digitsOn}
+use Rattle.paper.specs.Bytes.{is_digit}
+use Rattle.paper.specs.Numerals.{digits_on}
 use Rattle.numeral.proofs.Digits.{more-digits, ten-le}
 use Rattle.numeral.proofs.Plain.{digit-range}
 use Rattle.numeral.specs.field.Digits.{front}
@@ -15,7 +15,7 @@ pub record Takes (s : List ℕ) (at v i : ℕ) : Type 0 where
   pub from : at ≤ i
   pub small : v < 10 ^ (i - at)
   pub long : at + length (front (drop at s)) ≡ i + length (front (drop i s))
-  pub says : digitsOn 0 (front (drop at s)) ≡ digitsOn v (front (drop i s))
+  pub says : digits_on 0 (front (drop at s)) ≡ digits_on v (front (drop i s))
 
 pub takes-start : (s : List ℕ) (at : ℕ) → Takes s at 0 at
 takes-start s at = let z : at - at ≡ 0 = omega arith in record { from = omega arith; small = rw z (omega arith); long = refl; says = refl }
@@ -24,12 +24,12 @@ module _ (s : List ℕ) (at v i : ℕ) (inv : Takes s at v i) (h : Stops s at) w
   pub takes-inside : i < length s
   takes-inside = omega (arith, h.inside, inv.long)
 
-  step : front (drop i s) ≡ pick (isDigit (get_or s i 0)) (get_or s i 0 ∷ front (drop (i + 1) s)) []
+  step : front (drop i s) ≡ pick (is_digit (get_or s i 0)) (get_or s i 0 ∷ front (drop (i + 1) s)) []
   unfolding front
   step = rw (add-one, drop-cons s i 0 takes-inside)
 
   pub takes-end : get_or s i 0 < 48 → Ran s at (record { value = v; end = i })
-  unfolding isDigit digitsOn pick
+  unfolding is_digit digits_on pick
   takes-end l =
       let n : front (drop i s) ≡ [] = step ∙ simp (lt-ltb (get_or s i 0) 48 l) in
       let z : length (front (drop i s)) ≡ 0 = rw n in
@@ -37,10 +37,10 @@ module _ (s : List ℕ) (at v i : ℕ) (inv : Takes s at v i) (h : Stops s at) w
 
   -- a byte that is not below the digits is one, for the byte behind them is
   module _ (l : 48 ≤ get_or s i 0) where
-    digit : isDigit (get_or s i 0) ≡ true
+    digit : is_digit (get_or s i 0) ≡ true
     unfolding pick
     digit =
-        by-test (isDigit (get_or s i 0)) (λ e. e)
+        by-test (is_digit (get_or s i 0)) (λ e. e)
         (λ e.
         let n : front (drop i s) ≡ [] = step ∙ simp e in
         let z : length (front (drop i s)) ≡ 0 = rw n in
@@ -55,7 +55,7 @@ module _ (s : List ℕ) (at v i : ℕ) (inv : Takes s at v i) (h : Stops s at) w
     top = omega (arith, (digit-range (get_or s i 0) digit).1)
 
     pub takes-next : Takes s at (v * 10 + (get_or s i 0 - 48)) (i + 1)
-    unfolding digitsOn pick
+    unfolding digits_on pick
     takes-next =
         let f = inv.from in
         let z : i + 1 - at ≡ i - at + 1 = omega arith in

@@ -1,13 +1,13 @@
 -- `numeral::read_digits` meets its contract. The loop's invariant: the number read so far has at most i digits, and what is left of the
 -- field, read on from it, says what the whole field says. Assumes nothing.
 use Rattle.std.proofs.Common.{◌≡◌, ◌-◌, ◌^◌, ◌<◌, ◌≤◌, length, drop, rules}
-use Rattle.paper.specs.Numerals.{digitsOn, digits}
+use Rattle.paper.specs.Numerals.{digits_on, digits}
 use Rattle.numeral.proofs.Digits.{reading}
 use Rattle.numeral.proofs.read_digits.Statement.{statement}
 use Rattle.numeral.proofs.read_digits.Tie as tie
 
 abbrev invariant-loop : tie.invariant-loop
-invariant-loop f least most n v₀ i₀ v i = (i ≤ length f) × (v < 10 ^ i) × (digits least most f ≡ digitsOn v (drop i f))
+invariant-loop f least most n v₀ i₀ v i = (i ≤ length f) × (v < 10 ^ i) × (digits least most f ≡ digits_on v (drop i f))
 
 abbrev decreases-loop : tie.decreases-loop
 decreases-loop f least most n v₀ i₀ v i = length f - i

@@ -4,7 +4,7 @@ use Rattle.std.specs.Prelude.{◌≡◌, ℕ, ◌+◌, ◌<◌, ◌≤◌, true,
 use Rattle.base.specs.Seek.{seek}
 use Rattle.paper.specs.Read.{Field, value}
 use Rattle.paper.specs.Bytes.{space, field_of}
-use Rattle.paper.specs.Numerals.{digitsOn}
+use Rattle.paper.specs.Numerals.{digits_on}
 use Rattle.paper.specs.ItemLine.{is_value}
 use Rattle.numeral.specs.field.Digits.{front}
 use Rattle.numeral.specs.declared.field.Run.{Run}
@@ -23,4 +23,4 @@ pub record Stops (s : List ℕ) (at : ℕ) : Type 0 where
 -- r has their number, and the place behind them
 pub record Ran (s : List ℕ) (at : ℕ) (r : Run) : Type 0 where
   pub end : r.end ≡ at + length (front (drop at s))
-  pub number : digitsOn 0 (front (drop at s)) ≡ value r.value
+  pub number : digits_on 0 (front (drop at s)) ≡ value r.value

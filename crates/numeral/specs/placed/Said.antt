@@ -3,6 +3,6 @@ use Rattle.std.specs.Prelude.{Bool, true, false}
 use Rattle.paper.specs.Entries.{Said, got, no}
 
 -- does the line say something?
-unfoldable pub isSaid : {A : Type 0} → Said A → Bool
-isSaid (got x) = true
-isSaid (no n at) = false
+unfoldable pub is_said : {A : Type 0} → Said A → Bool
+is_said (got x) = true
+is_said (no n at) = false

@@ -4,5 +4,5 @@ use Rattle.numeral.specs.field.At.{At, found}
 use Rattle.numeral.specs.declared.field.Run.{Run}
 
 -- it has a value, and its field's end
-abbrev pub toldNumber : Run → At ℕ
-toldNumber r = found r.value r.end
+abbrev pub told_number : Run → At ℕ
+told_number r = found r.value r.end

@@ -5,40 +5,40 @@ use Prim.Native.Nat.{ℕ, suc}
 use lib.ListN.{length}
 use Rattle.sheet.specs.declared.Sheet.{Sheet}
 use Rattle.sheet.specs.declared.Style.{Style}
-use Rattle.paper.specs.Texts.{partCarried}
-use Rattle.paper.specs.Batch.{Header, Thing, aFile, aGroup, anItem, misnumbered, strange}
+use Rattle.paper.specs.Texts.{part_carried}
+use Rattle.paper.specs.Batch.{Header, Thing, a_file, a_group, an_item, misnumbered, strange}
 use Rattle.paper.specs.Proper.{Verdict, fine}
-use Rattle.paper.specs.Carried.{headerCarried, partsCarriedFrom, itemCarried, Place, rowsCarried, batchCarried}
-use Rattle.paper.specs.FirstWrong.{seriesIn, items_in, kindIn, dateIn, inOrder, partRules, carriedHeader, carriedRow}
-use Rattle.outcomes.proofs.firstwrong.Verdicts.{verdictOn, then, not-met, tested-in-order, parts-in-order}
+use Rattle.paper.specs.Carried.{header_carried, parts_carried_from, item_carried, Place, rows_carried, batch_carried}
+use Rattle.paper.specs.FirstWrong.{series_in, items_in, kind_in, date_in, in_order, part_rules, carried_header, carried_row}
+use Rattle.outcomes.proofs.firstwrong.Verdicts.{verdict_on, then, not-met, tested-in-order, parts-in-order}
 
 parts-tested : (y : Style) (k : ℕ) (ps : List (List ℕ)) (rest : Verdict)
-    → partsCarriedFrom y k 11 0 ps rest ≡ verdictOn (partRules k (partCarried y) 0 ps) rest
-unfolding partsCarriedFrom
+    → parts_carried_from y k 11 0 ps rest ≡ verdict_on (part_rules k (part_carried y) 0 ps) rest
+unfolding parts_carried_from
 parts-tested y k ps rest =
-    parts-in-order k (partCarried y) rest (λ n i qs. partsCarriedFrom y k n i qs rest) (λ n i. refl) (λ n i p qs. refl) 11 0 ps refl
+    parts-in-order k (part_carried y) rest (λ n i qs. parts_carried_from y k n i qs rest) (λ n i. refl) (λ n i p qs. refl) 11 0 ps refl
 
 module _ (sh : Sheet) (today : ℕ) (h : Header) where
-  pub header-verdict : headerCarried sh.interval h ≡ verdictOn (carriedHeader sh today h) fine
-  unfolding headerCarried carriedHeader verdictOn
+  pub header-verdict : header_carried sh.interval h ≡ verdict_on (carried_header sh today h) fine
+  unfolding header_carried carried_header verdict_on
   header-verdict = refl
 
   -- the place of rows behind these: their items and account files are counted, the last account file and its last group are at hand
-  abbrev placeBehind : List Thing → Place
-  placeBehind before = record { items = length (items_in before); seen = seriesIn before; kind = kindIn before; date = dateIn before }
+  abbrev place_behind : List Thing → Place
+  place_behind before = record { items = length (items_in before); seen = series_in before; kind = kind_in before; date = date_in before }
 
   abbrev tests : ℕ → List Thing → List Thing → Verdict
-  tests k before ts = rowsCarried sh today h k (placeBehind before) ts
+  tests k before ts = rows_carried sh today h k (place_behind before) ts
 
   row-tested : (k : ℕ) (before : List Thing) (t : Thing) (ts : List Thing)
-      → tests k before (t ∷ ts) ≡ verdictOn (carriedRow sh today h k before t) (tests (suc k) (t ∷ before) ts)
-  unfolding rowsCarried itemCarried carriedRow verdictOn items_in seriesIn kindIn dateIn
-  row-tested k before (aFile kind number) ts = refl
-  row-tested k before (aGroup date payer) ts = refl
-  row-tested k before (anItem x) ts = simp (then, parts-tested)
+      → tests k before (t ∷ ts) ≡ verdict_on (carried_row sh today h k before t) (tests (suc k) (t ∷ before) ts)
+  unfolding rows_carried item_carried carried_row verdict_on items_in series_in kind_in date_in
+  row-tested k before (a_file kind number) ts = refl
+  row-tested k before (a_group date payer) ts = refl
+  row-tested k before (an_item x) ts = simp (then, parts-tested)
   row-tested k before (misnumbered x) ts = not-met k 21 [] _
   row-tested k before strange ts = not-met k 0 [] _
 
-  pub batch-verdict : (ts : List Thing) → batchCarried sh today h ts ≡ verdictOn (inOrder (carriedRow sh today h) (λ k before. []) 1 [] ts) fine
-  unfolding batchCarried rowsCarried verdictOn items_in seriesIn kindIn dateIn
-  batch-verdict ts = tested-in-order (carriedRow sh today h) (λ k before. []) tests (λ k before. refl) row-tested 1 [] ts
+  pub batch-verdict : (ts : List Thing) → batch_carried sh today h ts ≡ verdict_on (in_order (carried_row sh today h) (λ k before. []) 1 [] ts) fine
+  unfolding batch_carried rows_carried verdict_on items_in series_in kind_in date_in
+  batch-verdict ts = tested-in-order (carried_row sh today h) (λ k before. []) tests (λ k before. refl) row-tested 1 [] ts

@@ -1,6 +1,6 @@
 -- `accept` puts the rows if they have room, and says so.
 use borrow.Author.Rules.{rules}
-use Rattle.paper.specs.Reading.{acceptedAs}
+use Rattle.paper.specs.Reading.{accepted_as}
 use Rattle.read.proofs.Exits.{filling, limits}
 use Rattle.read.proofs.accept.Statement.{statement}
 use Rattle.read.proofs.accept.Tie as tie
@@ -21,7 +21,7 @@ same_length : tie.Need-same-length
 same_length c = search rules
 
 returns-2 : tie.Need-returns-2
-unfolding acceptedAs
+unfolding accepted_as
 returns-2 c = search filling
 
 pub accept-spec : {M : Type 1} → statement M

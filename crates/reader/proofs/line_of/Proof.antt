@@ -44,8 +44,8 @@ use denote.Triple.Spec.{Meets, triple_of}
 use denote.Triple.Table.{entered, cited}
 use denote.Triple.Walked.{says, Stays, stay_none, stay_none_slice, walk_of, Goes-none, Goes-none_slice, Walks, ends_at, walked, walk_Meets}
 use denote.Exit.{yes}
-use Rattle.reader.specs.Finding.{readerAt, goesOn, answerAt}
-use Rattle.reader.specs.Named.{told, lineAnswer}
+use Rattle.reader.specs.Finding.{reader_at, goes_on, answer_at}
+use Rattle.reader.specs.Named.{told, line_answer}
 use Rattle.reader.specs.declared.AboLine.{AboLine}
 use Rattle.reader.specs.declared.Found.{Found}
 use Rattle.reader.specs.declared.LineReader.{LineReader}
@@ -122,7 +122,7 @@ module _ {M : Type 1} {𝓤 : Ura M} (𝓛 : Logic 𝓤) (mem : Memory → SProp
 
   -- the reader behind what has been found, and both
   abbrev on : Found → LineReader
-  on r = readerAt s r.next
+  on r = reader_at s r.next
 
   abbrev step_of : Found → Step
   step_of r = record { found = r; reader = on r }
@@ -140,7 +140,7 @@ module _ {M : Type 1} {𝓤 : Ura M} (𝓛 : Logic 𝓤) (mem : Memory → SProp
   spelled : (t : Step) (u : Val) → Is (S.the_row α) t (u ∷ []) → t.reader ≡ on t.found → u ≡ S'.lowered (step_of t.found)
   spelled t u is e = ap only (LL.tells (S.the_type α) (S'.the_laws α) t (u ∷ []) is) ∙ ap (λ (d : LineReader). S'.lowered (record { found = t.found; reader = d })) e
 
-  exits : (a : AboLine) (u : Val) → told a ≡ lineAnswer n s.now → ent 𝓤 (⋆ 𝓛 (‵ ((A₀.the_row).own_val a (u ∷ [])) ∷ Token 𝓤 κ q ∷ ‵ (OwnSlice κ s) ∷ [])) (Post u)
+  exits : (a : AboLine) (u : Val) → told a ≡ line_answer n s.now → ent 𝓤 (⋆ 𝓛 (‵ ((A₀.the_row).own_val a (u ∷ [])) ∷ Token 𝓤 κ q ∷ ‵ (OwnSlice κ s) ∷ [])) (Post u)
   exits a u e =
       qed 𝓛 (‵ ((A₀.the_row).own_val a (u ∷ [])) ∷ Token 𝓤 κ q ∷ ‵ (OwnSlice κ s) ∷ []) ∵
       suffices ! _ (ends_at 𝓛 Line-of.ended stayed (Line-of.clauses 𝓛 mem run) (((κ, tt), (q, tt), tt, (s, (n, tt)), at), tt) u a (tt, (tt, tt)) (tt, (tt, tt))) $ says ! e $
@@ -192,7 +192,7 @@ module _ {M : Type 1} {𝓤 : Ura M} (𝓛 : Logic 𝓤) (mem : Memory → SProp
       Turned t = after_turn 𝓤 H (Below 𝓛 Nearer At t) (after_block 𝓤 H (after_seq 𝓤 H (Wp 𝓤 H C Λ En pieces.t-5 (at_return 𝓤 H En Post)) (at_return 𝓤 H En Post)))
 
       -- a turn whose test has held: the reader is passed on, and what it finds has the next number
-      onwards : (r : Found) (k : ℕ) (known : Stands s.now n r k) → goesOn r k n ≡ true → Sq 𝓛 (At (r, k, known)) (runs C Λ En onward (any_q (Turned (r, k, known))))
+      onwards : (r : Found) (k : ℕ) (known : Stands s.now n r k) → goes_on r k n ≡ true → Sq 𝓛 (At (r, k, known)) (runs C Λ En onward (any_q (Turned (r, k, known))))
       unfolding after_turn
       onwards r k known go =
           drop ! $
@@ -216,14 +216,14 @@ module _ {M : Type 1} {𝓤 : Ura M} (𝓛 : Logic 𝓤) (mem : Memory → SProp
           gk' = let m = (less s.now n r k go).1 in omega (arith, gn)
 
       -- the rest of the body, once the loop is left: what has been found is the answer, or nothing is
-      leaves : (r : Found) (k : ℕ) (known : Stands s.now n r k) → goesOn r k n ≡ false → Sq 𝓛 (At (r, k, known)) (runs C Λ En pieces.t-5 (at_ret En Post))
+      leaves : (r : Found) (k : ℕ) (known : Stands s.now n r k) → goes_on r k n ≡ false → Sq 𝓛 (At (r, k, known)) (runs C Λ En pieces.t-5 (at_ret En Post))
       leaves r k known end =
           peeks ! F.the_row (Is F.the_row) (shows 𝓛 F.the_row) r (F'.lowered r ∷ []) (λ is.
           assigns ! (of_opd ! (load ! (from ! (fld ! refl (stop !))) (look_in ! 16 (sub ! 0 refl (whole !))))) (from ! (stop !)) (init ! 4 refl (tt, typed-found r is)) $
           use1 𝓛 (raw ((Named 𝓛 mem run).pre (to_named 𝓛 mem run r k n))) (asks-named 𝓛 mem run r k n (fits s.now n r k known gn) gn) $
           calls_at ! fm (Named 𝓛 mem run) known-named (to_named 𝓛 mem run r k n) (and_then ! (load ! (from ! (stop !)) (look ! 4 refl)) (and_then ! (load ! (from ! (stop !)) (look ! 14 refl)) (and_then ! (load ! (from ! (stop !)) (look ! 18 refl)) (no_more !)))) (λ u.
           use1 𝓛 (after-named 𝓛 mem run r k n u) (id⊢ 𝓤 _) $ await ! tt $ pick ! (λ a.
-          split ! $ move ! (1 ∷ []) $ use1 𝓛 (raw (fact 𝓤 (told a ≡ answerAt r k n))) (named-said 𝓛 mem run r k n a) $ heard ! (told a ≡ answerAt r k n) (λ e. split ! $ drop ! $
+          split ! $ move ! (1 ∷ []) $ use1 𝓛 (raw (fact 𝓤 (told a ≡ answer_at r k n))) (named-said 𝓛 mem run r k n a) $ heard ! (told a ≡ answer_at r k n) (λ e. split ! $ drop ! $
           -- [the answer; the reader; the token; what s owns; _9; …]
           peeks ! A₀.the_row (Is A₀.the_row) (shows 𝓛 A₀.the_row) a (u ∷ []) (λ is-answer.
           land ! (from ! (stop !)) (init ! 22 refl ((LL.lawful A₀.the_type A'.the_laws 𝓛).typed a (u ∷ []) is-answer).0) $
@@ -241,14 +241,14 @@ module _ {M : Type 1} {𝓤 : Ura M} (𝓛 : Logic 𝓤) (mem : Memory → SProp
           use1 𝓛 (raw ((Passes 𝓛 mem run).pre (to-passes 𝓛 mem run r k n))) (asks-passes 𝓛 mem run r k n gk gn) $
           calls_at ! fm (Passes 𝓛 mem run) known-passes (to-passes 𝓛 mem run r k n) (and_then ! (load ! (from ! (stop !)) (look ! 9 refl)) (and_then ! (load ! (from ! (stop !)) (look ! 15 refl)) (and_then ! (load ! (from ! (stop !)) (look ! 19 refl)) (no_more !)))) (λ u.
           use1 𝓛 (after-passes 𝓛 mem run r k n u) (id⊢ 𝓤 _) $ await ! tt $ pick ! (λ b.
-          split ! $ move ! (1 ∷ []) $ use1 𝓛 (raw (fact 𝓤 (b ≡ goesOn r k n))) (passes-said 𝓛 mem run r k n b) $ heard ! (b ≡ goesOn r k n) (λ e. split ! $ drop ! $
+          split ! $ move ! (1 ∷ []) $ use1 𝓛 (raw (fact 𝓤 (b ≡ goes_on r k n))) (passes-said 𝓛 mem run r k n b) $ heard ! (b ≡ goes_on r k n) (λ e. split ! $ drop ! $
           facts ! bool (Is bool) (shows 𝓛 bool) b (u ∷ []) (λ is-test.
           -- [what was found; the reader; the token; what s owns; room for _9; …]
           land ! (from ! (stop !)) (init ! 10 refl ((bool_Lawful 𝓛).typed b (u ∷ []) is-test).0) $
           rewrite ! 10 (λ (w : Val). ‵ (fat full_share ty_bool l₆ 0 w)) (ap only is-test) refl $
           first ! $ branches ! (load ! (from ! (stop !)) (look ! 10 refl))
-          (λ held. skips ! $ exec ! C Λ En onward (any_q (Turned (r, k, known))) $ forget ! 8 refl $ forget ! 10 refl $ onwards r k known (holds b (goesOn r k n) e held))
-          (λ failed. jumps ! $ exec ! C Λ En pieces.t-5 (at_ret En Post) $ forget ! 8 refl $ forget ! 10 refl $ leaves r k known (fails b (goesOn r k n) e failed)))))))
+          (λ held. skips ! $ exec ! C Λ En onward (any_q (Turned (r, k, known))) $ forget ! 8 refl $ forget ! 10 refl $ onwards r k known (holds b (goes_on r k n) e held))
+          (λ failed. jumps ! $ exec ! C Λ En pieces.t-5 (at_ret En Post) $ forget ! 8 refl $ forget ! 10 refl $ leaves r k known (fails b (goes_on r k n) e failed)))))))
         where
           gk : k < 2 ^ 64
           gk = fits s.now n r k known gn
@@ -258,7 +258,7 @@ module _ {M : Type 1} {𝓤 : Ura M} (𝓛 : Logic 𝓤) (mem : Memory → SProp
       looped t = first ! $ blocks ! $ loops ! 𝓣 Nearer Nearer-wf At turns t
 
       -- the body once the reader r has been made, with the machine value u: the first step, which starts at the file's start, and the loop
-      begun : (r : LineReader) (u : Val) → r ≡ readerAt s 0
+      begun : (r : LineReader) (u : Val) → r ≡ reader_at s 0
           → Sq 𝓛 (‵ (OwnReader κ r u) ∷ Token 𝓤 κ q ∷ ‵ (OwnSlice κ s) ∷ Empty (‵ (fat full_share (T'.mir erased) l₅ 0 u) ∷ ‵ (fdies (T'.mir erased) l₅) ∷ ‵ (froom word l₄ 0) ∷ ‵ (fdies word l₄) ∷ ‵ (froom (S'.mir erased) l₃ 0) ∷ ‵ (fdies (S'.mir erased) l₃) ∷ Same))
           (runs C Λ En pieces.t-2 (at_ret En Post))
       begun r u made =
@@ -274,7 +274,7 @@ module _ {M : Type 1} {𝓤 : Ura M} (𝓛 : Logic 𝓤) (mem : Memory → SProp
           assigns ! (of_opd ! (lit ! tt)) (from ! (stop !)) (init ! 14 refl (tt, record { fits = lit< tt })) $ forget ! 12 refl $
           looped (t.found, 1, starts-at s.now n t.found (at-start t e).0)))))
         where
-          at-start : (t : Step) → NextSays r t → NextSays (readerAt s 0) t
+          at-start : (t : Step) → NextSays r t → NextSays (reader_at s 0) t
           at-start t e = subst (λ (x : LineReader). NextSays x t) made e
 
     module _ (known-new : Triple 𝓤 (C #new) (New 𝓛 mem run)) where
@@ -287,7 +287,7 @@ module _ {M : Type 1} {𝓤 : Ura M} (𝓛 : Logic 𝓤) (mem : Memory → SProp
           use2 𝓛 (raw ((New 𝓛 mem run).pre (to-new 𝓛 mem run κ q s)) ⊛ ‵ (OwnSlice κ s)) (asks-new 𝓛 mem run κ q s) $ split ! $
           calls_at ! fm (New 𝓛 mem run) known-new (to-new 𝓛 mem run κ q s) (and_then ! (load ! (from ! (stop !)) (look ! 18 refl)) (no_more !)) (λ u.
           use1 𝓛 (after-new 𝓛 mem run κ q s u) (id⊢ 𝓤 _) $ await ! tt $ pick ! (λ r.
-          split ! $ move ! (1 ∷ []) $ use1 𝓛 (raw (fact 𝓤 (r ≡ readerAt s 0))) (new-said 𝓛 mem run κ q s r) $ heard ! (r ≡ readerAt s 0) (λ made. split ! $ move ! (1 ∷ []) $
+          split ! $ move ! (1 ∷ []) $ use1 𝓛 (raw (fact 𝓤 (r ≡ reader_at s 0))) (new-said 𝓛 mem run κ q s r) $ heard ! (r ≡ reader_at s 0) (λ made. split ! $ move ! (1 ∷ []) $
           -- [what the reader owns; the token; what s owns; room for _9; …]
           peeks ! (T.the_row α) (Is (T.the_row α)) (shows 𝓛 (T.the_row α)) r (u ∷ []) (λ is.
           land ! (from ! (stop !)) (init ! 11 refl (typed-reader r u is)) $

@@ -13,8 +13,8 @@ use Rattle.paper.specs.Numerals.{fixed}
 use Rattle.paper.specs.Accounts.{Account, account}
 use Rattle.numeral.proofs.Fixed.{fixed-length}
 use Rattle.turnover.proofs.Laws.{signed-length}
-use Rattle.gpc.specs.Internal.{spellInternal}
-use Rattle.gpc.specs.Signed.{Signed as Number, spellSigned}
+use Rattle.gpc.specs.Internal.{spell_internal}
+use Rattle.gpc.specs.Signed.{Signed as Number, spell_signed}
 use Rattle.gpc.specs.Records.{crlf}
 
 -- what is left behind a text of k bytes
@@ -28,12 +28,12 @@ module _ (n : ℕ) {o o1 : List ℕ} {at p : ℕ} (w : Wrote o at (fixed 14 n) o
   sign-room h = omega (arith, w.next, wrote-length w, fixed-length 14 n)
 
 module _ (x : Number) {o o1 o2 : List ℕ} {at p q : ℕ} where
-  pub minus-put : (plus : ℕ) → Wrote o1 p (45 ∷ []) o2 q → Wrote o at (fixed 14 x.size) o1 p → x.minus ≡ true → Wrote o at (spellSigned plus x) o2 q
-  unfolding spellSigned pick
+  pub minus-put : (plus : ℕ) → Wrote o1 p (45 ∷ []) o2 q → Wrote o at (fixed 14 x.size) o1 p → x.minus ≡ true → Wrote o at (spell_signed plus x) o2 q
+  unfolding spell_signed pick
   minus-put plus v w e = rw e (w then v)
 
-  pub plus-put : (plus : ℕ) → Wrote o1 p (plus ∷ []) o2 q → Wrote o at (fixed 14 x.size) o1 p → x.minus ≡ false → Wrote o at (spellSigned plus x) o2 q
-  unfolding spellSigned pick
+  pub plus-put : (plus : ℕ) → Wrote o1 p (plus ∷ []) o2 q → Wrote o at (fixed 14 x.size) o1 p → x.minus ≡ false → Wrote o at (spell_signed plus x) o2 q
+  unfolding spell_signed pick
   plus-put plus v w e = rw e (w then v)
 
 pub ruleset signeds = (sign-room, minus-put, plus-put)
@@ -41,24 +41,24 @@ pub ruleset signeds = (sign-room, minus-put, plus-put)
 -- ---- `put_pair`
 
 module _ (plus : ℕ) (x y : Number) {o o1 : List ℕ} {at p : ℕ} where
-  pub second-room : Wrote o at (spellSigned plus x) o1 p → at + 30 ≤ length o → p + 15 ≤ length o1
+  pub second-room : Wrote o at (spell_signed plus x) o1 p → at + 30 ≤ length o → p + 15 ≤ length o1
   second-room w h = behind 15 15 w (signed-length plus x) h
 
-  pub pair_put : {o2 : List ℕ} {q : ℕ} → Wrote o1 p (spellSigned plus y) o2 q → Wrote o at (spellSigned plus x) o1 p
-      → Wrote o at (spellSigned plus x ++ spellSigned plus y) o2 q
+  pub pair_put : {o2 : List ℕ} {q : ℕ} → Wrote o1 p (spell_signed plus y) o2 q → Wrote o at (spell_signed plus x) o1 p
+      → Wrote o at (spell_signed plus x ++ spell_signed plus y) o2 q
   pair_put v w = w then v
 
-pub pair-length : (plus : ℕ) (x y : Number) → length (spellSigned plus x ++ spellSigned plus y) ≡ 30
-pair-length plus x y = omega (arith, length-append (spellSigned plus x) (spellSigned plus y), signed-length plus x, signed-length plus y)
+pub pair-length : (plus : ℕ) (x y : Number) → length (spell_signed plus x ++ spell_signed plus y) ≡ 30
+pair-length plus x y = omega (arith, length-append (spell_signed plus x) (spell_signed plus y), signed-length plus x, signed-length plus y)
 
 pub ruleset pairs = (second-room, pair_put)
 
 -- ---- `put_front` and `put_end`
 
 abbrev pub front : ℕ → Account → List ℕ
-front last a = 48 ∷ 55 ∷ last ∷ spellInternal a
+front last a = 48 ∷ 55 ∷ last ∷ spell_internal a
 
-pub front-put : (last p b : ℕ) {o o1 o2 o3 : List ℕ} {at q r s : ℕ} → Wrote o at (48 ∷ 55 ∷ []) o1 q → Wrote o1 q (last ∷ []) o2 r → Wrote o2 r (spellInternal (account p b)) o3 s
+pub front-put : (last p b : ℕ) {o o1 o2 o3 : List ℕ} {at q r s : ℕ} → Wrote o at (48 ∷ 55 ∷ []) o1 q → Wrote o1 q (last ∷ []) o2 r → Wrote o2 r (spell_internal (account p b)) o3 s
     → Wrote o at (front last (account p b)) o3 s
 front-put last p b w v u = w then v then u
 

@@ -7,14 +7,14 @@ use lib.ListN.{length}
 use Rattle.base.specs.Put.{Wrote}
 use Rattle.base.proofs.Put.{◌then◌}
 use Rattle.paper.specs.Accounts.{Account, account}
-use Rattle.gpc.specs.Internal.{spellInternal}
-use Rattle.gpc.specs.Signed.{Signed as Number, spellSigned}
-use Rattle.gpc.specs.Records.{crlf, spellHead, spellMovement}
+use Rattle.gpc.specs.Internal.{spell_internal}
+use Rattle.gpc.specs.Signed.{Signed as Number, spell_signed}
+use Rattle.gpc.specs.Records.{crlf, spell_head, spell_movement}
 use Rattle.internal.proofs.Laws.{account-length}
 use Rattle.record.proofs.file.Puts.{front, numbers, behind, pair-length, numbers-length}
 
 abbrev two : ℕ → Number → Number → List ℕ
-two plus x y = spellSigned plus x ++ spellSigned plus y
+two plus x y = spell_signed plus x ++ spell_signed plus y
 
 -- behind type and account
 behind-front : (last : ℕ) (a : Account) {o o1 : List ℕ} {at p : ℕ} → Wrote o at (front last a) o1 p → at + 130 ≤ length o → p + 111 ≤ length o1
@@ -47,8 +47,8 @@ module _ (last p b : ℕ) (before o o1 : List ℕ) (at i : ℕ) where
 module _ (p b : ℕ) (before o o1 : List ℕ) (at i : ℕ) where
   pub head-put : (old new debit credit : Number) (after : List ℕ) {o2 o3 o4 o5 : List ℕ} {j k l m : ℕ} → Wrote o at (front 52 (account p b)) o1 i → Wrote o1 i before o2 j
       → Wrote o2 j (two 43 old new) o3 k → Wrote o3 k (two 48 debit credit) o4 l → Wrote o4 l (after ++ crlf) o5 m
-      → Wrote o at (spellHead (record { account = account p b; before = before; old = old; new = new; debit = debit; credit = credit; behind = after })) o5 m
-  unfolding spellHead
+      → Wrote o at (spell_head (record { account = account p b; before = before; old = old; new = new; debit = debit; credit = credit; behind = after })) o5 m
+  unfolding spell_head
   head-put old new debit credit after w v u t s = simp append_assoc at (w then v then u then t then s)
 
 -- ---- `put_movement`: the other account's numbers are q and c
@@ -61,7 +61,7 @@ module _ (last p b : ℕ) (o o1 : List ℕ) (at i : ℕ) where
     pub other-room : i + 16 ≤ length o1
     other-room = omega (arith, left-111)
 
-    module _ (q c : ℕ) (o2 : List ℕ) (j : ℕ) (v : Wrote o1 i (spellInternal (account q c)) o2 j) where
+    module _ (q c : ℕ) (o2 : List ℕ) (j : ℕ) (v : Wrote o1 i (spell_internal (account q c)) o2 j) where
       left-95 : j + 95 ≤ length o2
       left-95 = behind 16 95 v (account-length (account q c)) left-111
 
@@ -80,11 +80,11 @@ module _ (last p b : ℕ) (o o1 : List ℕ) (at i : ℕ) where
 
 module _ (p b : ℕ) (o o1 : List ℕ) (at i : ℕ) where
   pub movement-put : (q c : ℕ) (before : List ℕ) (amount code variable : ℕ) (after : List ℕ) {o2 o3 o4 o5 : List ℕ} {j k l m : ℕ} → Wrote o at (front 53 (account p b)) o1 i
-      → Wrote o1 i (spellInternal (account q c)) o2 j → Wrote o2 j before o3 k → Wrote o3 k (numbers amount code variable) o4 l → Wrote o4 l (after ++ crlf) o5 m
+      → Wrote o1 i (spell_internal (account q c)) o2 j → Wrote o2 j before o3 k → Wrote o3 k (numbers amount code variable) o4 l → Wrote o4 l (after ++ crlf) o5 m
       → Wrote o at
-      (spellMovement
+      (spell_movement
       (record { account = account p b; other = account q c; before = before; amount = amount; code = code; variable = variable; behind = after }))
       o5
       m
-  unfolding spellMovement
+  unfolding spell_movement
   movement-put q c before amount code variable after w v u t s = simp append_assoc at (w then v then u then t then s)

@@ -10,25 +10,25 @@ use Rattle.base.specs.Pick.{pick}
 use Rattle.paper.specs.Batch.{most14}
 use Rattle.paper.specs.Read.{Field, value, fault}
 use Rattle.paper.specs.Numerals.{digits}
-use Rattle.paper.specs.Entries.{Said, got, no, onField}
+use Rattle.paper.specs.Entries.{Said, got, no, on_field}
 use Rattle.numeral.specs.Told.{told}
 use Rattle.numeral.specs.declared.Num.{Num}
 use Rattle.numeral.specs.declared.Num.TheVariants.{Value, Refused}
 use Rattle.numeral.proofs.Sound.{digits-sound}
 use Rattle.gpc.specs.Parts.{slice, or51}
-use Rattle.gpc.specs.Signed.{Signed as Number, signed, readDigits, readMinus, onSigned}
+use Rattle.gpc.specs.Signed.{Signed as Number, signed, read_digits, read_minus, on_signed}
 use Rattle.turnover.specs.declared.signed.Signed.{Signed}
 use Rattle.turnover.specs.signed.Told.{said}
 use Rattle.record.specs.declared.file.SignedRead.{SignedRead}
 use Rattle.record.specs.declared.file.SignedRead.TheVariants as signs
-use Rattle.record.specs.file.Told.{toldSigned, SmallSigned, Two, two, pair_at}
+use Rattle.record.specs.file.Told.{told_signed, SmallSigned, Two, two, pair_at}
 use Rattle.record.proofs.file.Fields.{one_byte}
 
 -- ---- `read_signed`: m is what the digits say
 
 module _ (plus at : ℕ) (s : List ℕ) (m : Num) (g : told m ≡ digits 14 14 (slice at 14 s)) where
-  pub no-digits : (n : ℕ) → m ≡ Refused n → no 51 at ≡ onSigned plus at s got
-  unfolding onSigned onField readDigits or51
+  pub no-digits : (n : ℕ) → m ≡ Refused n → no 51 at ≡ on_signed plus at s got
+  unfolding on_signed on_field read_digits or51
   no-digits n e = rw (← g, e) refl
 
   module _ (v : ℕ) (e : m ≡ Value v) where
@@ -42,16 +42,16 @@ module _ (plus at : ℕ) (s : List ℕ) (m : Num) (g : told m ≡ digits 14 14 (
       behind : slice (at + 14) 1 s ≡ sign ∷ []
       behind = one_byte s (at + 14) (omega arith)
 
-      pub minus-read : (x : Signed) → sign ≡ 45 → said x ≡ signed true v → got (said x) ≡ onSigned plus at s got
-      unfolding onSigned onField readDigits or51 readMinus pick
+      pub minus-read : (x : Signed) → sign ≡ 45 → said x ≡ signed true v → got (said x) ≡ on_signed plus at s got
+      unfolding on_signed on_field read_digits or51 read_minus pick
       minus-read x f h = rw (read, behind, eq-eqb sign 45 f, h) refl
 
-      pub plus-read : (x : Signed) → (sign ≡ 45 → ⊥) → sign ≡ plus → said x ≡ signed false v → got (said x) ≡ onSigned plus at s got
-      unfolding onSigned onField readDigits or51 readMinus pick
+      pub plus-read : (x : Signed) → (sign ≡ 45 → ⊥) → sign ≡ plus → said x ≡ signed false v → got (said x) ≡ on_signed plus at s got
+      unfolding on_signed on_field read_digits or51 read_minus pick
       plus-read x n f h = rw (read, behind, ne_eqb sign 45 n, eq-eqb sign plus f, h) refl
 
-      pub no_sign : (sign ≡ 45 → ⊥) → (sign ≡ plus → ⊥) → no 51 (at + 14) ≡ onSigned plus at s got
-      unfolding onSigned onField readDigits or51 readMinus pick
+      pub no_sign : (sign ≡ 45 → ⊥) → (sign ≡ plus → ⊥) → no 51 (at + 14) ≡ on_signed plus at s got
+      unfolding on_signed on_field read_digits or51 read_minus pick
       no_sign n f = rw (read, behind, ne_eqb sign 45 n, ne_eqb sign plus f) refl
 
     pub small-read : (x : Signed) (b : Bool) → said x ≡ signed b v → x.size ≤ most14
@@ -65,44 +65,44 @@ pub ruleset signing = (no-digits, minus-read, plus-read, no_sign, small-read)
 -- ---- what was read goes on, and a refusal stays: two readers of what stands behind a field agree on it
 
 on_value : {A B C : Type 0} (at : ℕ) (f : Field A) (k : A → Said B) (l : A → Said C) (c : C) (K : Said B)
-    → ((a : A) → l a ≡ got c → k a ≡ K) → onField at f l ≡ got c → onField at f k ≡ K
-unfolding onField
+    → ((a : A) → l a ≡ got c → k a ≡ K) → on_field at f l ≡ got c → on_field at f k ≡ K
+unfolding on_field
 on_value at (value a) k l c K h e = h a e
 on_value at (fault n) k l c K h e = absurd (let z : ◌≡◌ {A = ℕ} 0 1 = cc in omega arith)
 
 on-fault : {A B C : Type 0} (at : ℕ) (f : Field A) (k : A → Said B) (l : A → Said C) (n off : ℕ)
-    → ((a : A) → l a ≡ no n off → k a ≡ no n off) → onField at f l ≡ no n off → onField at f k ≡ no n off
-unfolding onField
+    → ((a : A) → l a ≡ no n off → k a ≡ no n off) → on_field at f l ≡ no n off → on_field at f k ≡ no n off
+unfolding on_field
 on-fault at (value a) k l n off h e = h a e
 on-fault at (fault m) k l n off h e = cc
 
 module _ {B C : Type 0} (plus at : ℕ) (s : List ℕ) (k : Number → Said B) (l : Number → Said C) where
-  signed-value : (c : C) (K : Said B) → ((x : Number) → l x ≡ got c → k x ≡ K) → onSigned plus at s l ≡ got c → onSigned plus at s k ≡ K
-  unfolding onSigned
+  signed-value : (c : C) (K : Said B) → ((x : Number) → l x ≡ got c → k x ≡ K) → on_signed plus at s l ≡ got c → on_signed plus at s k ≡ K
+  unfolding on_signed
   signed-value c K h = on_value at _ _ _ c K (λ n. on_value (at + 14) _ _ _ c K (λ b. h (signed b n)))
 
-  signed-fault : (n off : ℕ) → ((x : Number) → l x ≡ no n off → k x ≡ no n off) → onSigned plus at s l ≡ no n off → onSigned plus at s k ≡ no n off
-  unfolding onSigned
+  signed-fault : (n off : ℕ) → ((x : Number) → l x ≡ no n off → k x ≡ no n off) → on_signed plus at s l ≡ no n off → on_signed plus at s k ≡ no n off
+  unfolding on_signed
   signed-fault n off h = on-fault at _ _ _ n off (λ m. on-fault (at + 14) _ _ _ n off (λ b. h (signed b m)))
 
 module _ {B : Type 0} (plus at : ℕ) (s : List ℕ) (k : Number → Said B) where
-  signed-goes : (y : Number) → got y ≡ onSigned plus at s got → onSigned plus at s k ≡ k y
+  signed-goes : (y : Number) → got y ≡ on_signed plus at s got → on_signed plus at s k ≡ k y
   signed-goes y e =
       signed-value plus at s k got y (k y) (λ x h. let same : x ≡ y = cc in ap k same) (sym e)
 
-  signed-stays : (n off : ℕ) → no n off ≡ onSigned plus at s got → onSigned plus at s k ≡ no n off
+  signed-stays : (n off : ℕ) → no n off ≡ on_signed plus at s got → on_signed plus at s k ≡ no n off
   signed-stays n off e =
       signed-fault plus at s k got n off (λ x h. absurd (let z : ◌≡◌ {A = ℕ} 0 1 = cc in omega arith)) (sym e)
 
 -- ---- `read_pair`: m and w are what the two fields say
 
-module _ (plus at : ℕ) (s : List ℕ) (m : SignedRead) (g : toldSigned m ≡ onSigned plus at s got) where
+module _ (plus at : ℕ) (s : List ℕ) (m : SignedRead) (g : told_signed m ≡ on_signed plus at s got) where
   pub first-refused : (off : ℕ) → m ≡ signs.Refused off → no 51 off ≡ pair_at plus at s
   unfolding pair_at
   first-refused off e = sym (signed-stays plus at s _ 51 off (rw e at g))
 
-  module _ (x : Signed) (e : m ≡ signs.Number x) (w : SignedRead) (h : toldSigned w ≡ onSigned plus (at + 15) s got) where
-    first : {B : Type 0} (k : Number → Said B) → onSigned plus at s k ≡ k (said x)
+  module _ (x : Signed) (e : m ≡ signs.Number x) (w : SignedRead) (h : told_signed w ≡ on_signed plus (at + 15) s got) where
+    first : {B : Type 0} (k : Number → Said B) → on_signed plus at s k ≡ k (said x)
     first k = signed-goes plus at s k (said x) (rw e at g)
 
     pub second-refused : (off : ℕ) → w ≡ signs.Refused off → no 51 off ≡ pair_at plus at s
@@ -121,10 +121,10 @@ pub ruleset pairing = (first-refused, second-refused, pair_read, number_small)
 -- ---- .. and a pair
 
 module _ {B : Type 0} (plus at : ℕ) (s : List ℕ) (k : Number → Number → Said B) where
-  abbrev pub onPair : Said B
-  onPair = onSigned plus at s λ x. onSigned plus (at + 15) s λ y. k x y
+  abbrev pub on_pair : Said B
+  on_pair = on_signed plus at s λ x. on_signed plus (at + 15) s λ y. k x y
 
-  pub pair_goes : (x y : Number) → got (two x y) ≡ pair_at plus at s → onPair ≡ k x y
+  pub pair_goes : (x y : Number) → got (two x y) ≡ pair_at plus at s → on_pair ≡ k x y
   unfolding pair_at
   pair_goes x y e =
       signed-value plus at s _ _ (two x y) (k x y)
@@ -132,7 +132,7 @@ module _ {B : Type 0} (plus at : ℕ) (s : List ℕ) (k : Number → Number → 
       (λ b h. let same : two a b ≡ two x y = cc in ap (λ (t : Two). k t.first t.second) same))
       (sym e)
 
-  pub pair-stays : (n off : ℕ) → no n off ≡ pair_at plus at s → onPair ≡ no n off
+  pub pair-stays : (n off : ℕ) → no n off ≡ pair_at plus at s → on_pair ≡ no n off
   unfolding pair_at
   pair-stays n off e =
       signed-fault plus at s _ _ n off

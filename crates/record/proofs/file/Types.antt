@@ -11,7 +11,7 @@ use borrow.Author.Tests.{eq-eqb, ne_eqb}
 use Rattle.base.specs.Pick.{pick}
 use Rattle.base.specs.Seek.{starts}
 use Rattle.base.proofs.Lists.{drop-none}
-use Rattle.gpc.specs.Records.{headIs, movementIs, noRecord, crlf, read_head, readMovement, readRecord}
+use Rattle.gpc.specs.Records.{head_is, movement_is, no_record, crlf, read_head, read_movement, read_record}
 
 -- the text at `at` begins with one byte and then others
 starts-at : (p : ℕ) (ps s : List ℕ) (at : ℕ) → at < length s → starts (p ∷ ps) (drop at s) ≡ pick (eqb (get_or s at 0) p) (starts ps (drop (suc at) s)) false
@@ -33,46 +33,46 @@ module _ (s : List ℕ) (long : length s ≡ 130) where
       ∙ starts-at 48 (55 ∷ x ∷ []) s 0 (omega arith)
       ∙ rw (starts-at 55 (x ∷ []) s 1 (omega arith), starts-at x [] s 2 (omega arith)) refl
 
-  tests : readRecord s
+  tests : read_record s
       ≡ pick (pick (eqb (at 128) 13) (pick (eqb (at 129) 10) true false) false)
-      (pick (pick (eqb (at 0) 48) (pick (eqb (at 1) 55) (pick (eqb (at 2) 52) true false) false) false) (headIs (read_head s))
-      (pick (pick (eqb (at 0) 48) (pick (eqb (at 1) 55) (pick (eqb (at 2) 53) true false) false) false) (movementIs (readMovement s)) noRecord))
-      noRecord
-  unfolding readRecord
+      (pick (pick (eqb (at 0) 48) (pick (eqb (at 1) 55) (pick (eqb (at 2) 52) true false) false) false) (head_is (read_head s))
+      (pick (pick (eqb (at 0) 48) (pick (eqb (at 1) 55) (pick (eqb (at 2) 53) true false) false) false) (movement_is (read_movement s)) no_record))
+      no_record
+  unfolding read_record
   tests = rw (ended, typed 52, typed 53) refl
 
-  pub no-cr : (at 128 ≡ 13 → ⊥) → noRecord ≡ readRecord s
+  pub no-cr : (at 128 ≡ 13 → ⊥) → no_record ≡ read_record s
   unfolding pick
   no-cr a = sym (tests ∙ simp (ne_eqb (at 128) 13 a))
 
   module _ (cr : at 128 ≡ 13) where
-    pub no-lf : (at 129 ≡ 10 → ⊥) → noRecord ≡ readRecord s
+    pub no-lf : (at 129 ≡ 10 → ⊥) → no_record ≡ read_record s
     unfolding pick
     no-lf a = sym (tests ∙ simp (eq-eqb (at 128) 13 cr, ne_eqb (at 129) 10 a))
 
     module _ (lf : at 129 ≡ 10) where
-      pub no-0 : (at 0 ≡ 48 → ⊥) → noRecord ≡ readRecord s
+      pub no-0 : (at 0 ≡ 48 → ⊥) → no_record ≡ read_record s
       unfolding pick
       no-0 a = sym (tests ∙ simp (eq-eqb (at 128) 13 cr, eq-eqb (at 129) 10 lf, ne_eqb (at 0) 48 a))
 
       module _ (zero : at 0 ≡ 48) where
-        pub no-7 : (at 1 ≡ 55 → ⊥) → noRecord ≡ readRecord s
+        pub no-7 : (at 1 ≡ 55 → ⊥) → no_record ≡ read_record s
         unfolding pick
         no-7 a = sym (tests ∙ simp (eq-eqb (at 128) 13 cr, eq-eqb (at 129) 10 lf, eq-eqb (at 0) 48 zero, ne_eqb (at 1) 55 a))
 
         module _ (seven : at 1 ≡ 55) where
-          pub is-4 : at 2 ≡ 52 → headIs (read_head s) ≡ readRecord s
+          pub is-4 : at 2 ≡ 52 → head_is (read_head s) ≡ read_record s
           unfolding pick
           is-4 a = sym (tests ∙ simp (eq-eqb (at 128) 13 cr, eq-eqb (at 129) 10 lf, eq-eqb (at 0) 48 zero, eq-eqb (at 1) 55 seven, eq-eqb (at 2) 52 a))
 
-          pub is-5 : at 2 ≡ 53 → movementIs (readMovement s) ≡ readRecord s
+          pub is-5 : at 2 ≡ 53 → movement_is (read_movement s) ≡ read_record s
           unfolding pick
           is-5 a =
               sym
               (tests
               ∙ simp (eq-eqb (at 128) 13 cr, eq-eqb (at 129) 10 lf, eq-eqb (at 0) 48 zero, eq-eqb (at 1) 55 seven, eq-eqb (at 2) 53 a, ne_eqb (at 2) 52 (λ e. omega (arith, a, e))))
 
-          pub no-4-5 : (at 2 ≡ 52 → ⊥) → (at 2 ≡ 53 → ⊥) → noRecord ≡ readRecord s
+          pub no-4-5 : (at 2 ≡ 52 → ⊥) → (at 2 ≡ 53 → ⊥) → no_record ≡ read_record s
           unfolding pick
           no-4-5 a b =
               sym

@@ -6,16 +6,16 @@ use native.Mathlib.Omega.{arith}
 use lib.ListN.{length, replicate}
 use Rattle.base.specs.Put.{Wrote}
 use Rattle.base.proofs.Put.{◌then◌}
-use Rattle.paper.specs.Words.{wordsBytes, blanks}
+use Rattle.paper.specs.Words.{words_bytes, blanks}
 use Rattle.paper.specs.Accounts.{account}
 use Rattle.out.proofs.word.Laws.{words-length}
-use Rattle.gpc.specs.Signed.{Signed as Number, signedWord}
-use Rattle.gpc.specs.StatementRows.{headRow, movementRow}
+use Rattle.gpc.specs.Signed.{Signed as Number, signed_word}
+use Rattle.gpc.specs.StatementRows.{head_row, movement_row}
 use Rattle.record.proofs.file.Puts.{behind}
 
 -- the eight words of a row
 abbrev eight : ℕ → ℕ → ℕ → ℕ → ℕ → ℕ → ℕ → ℕ → List ℕ
-eight a b c d e f g h = wordsBytes (a ∷ b ∷ c ∷ d ∷ e ∷ f ∷ g ∷ h ∷ [])
+eight a b c d e f g h = words_bytes (a ∷ b ∷ c ∷ d ∷ e ∷ f ∷ g ∷ h ∷ [])
 
 -- ---- room
 
@@ -51,15 +51,15 @@ module _ (a b c d e f g h : ℕ) (before o o1 : List ℕ) (at i : ℕ) (w : Wrot
 
 module _ (p b : ℕ) (before after : List ℕ) {o o1 o2 o3 o4 : List ℕ} {at i j k l : ℕ} where
   pub head-row : (w3 w4 w5 w6 : ℕ) (old new debit credit : Number) → Wrote o at (eight 74 p b w3 w4 w5 w6 0) o1 i → Wrote o1 i before o2 j → Wrote o2 j after o3 k → Wrote o3 k (replicate 23 0) o4 l
-      → w3 ≡ signedWord old → w4 ≡ signedWord new → w5 ≡ signedWord debit → w6 ≡ signedWord credit
-      → Wrote o at (headRow (record { account = account p b; before = before; old = old; new = new; debit = debit; credit = credit; behind = after })) o4 l
-  unfolding headRow blanks
+      → w3 ≡ signed_word old → w4 ≡ signed_word new → w5 ≡ signed_word debit → w6 ≡ signed_word credit
+      → Wrote o at (head_row (record { account = account p b; before = before; old = old; new = new; debit = debit; credit = credit; behind = after })) o4 l
+  unfolding head_row blanks
   head-row w3 w4 w5 w6 old new debit credit w v u t e3 e4 e5 e6 = rw (← e3, ← e4, ← e5, ← e6) (w then v then u then t)
 
   pub movement-row : (q c amount code variable : ℕ) → Wrote o at (eight 75 p b q c amount code variable) o1 i → Wrote o1 i before o2 j → Wrote o2 j after o3 k → Wrote o3 k (replicate 2 0) o4 l
       → Wrote o at
-      (movementRow (record { account = account p b; other = account q c; before = before; amount = amount; code = code; variable = variable; behind = after }))
+      (movement_row (record { account = account p b; other = account q c; before = before; amount = amount; code = code; variable = variable; behind = after }))
       o4
       l
-  unfolding movementRow blanks
+  unfolding movement_row blanks
   movement-row q c amount code variable w v u t = w then v then u then t

@@ -11,7 +11,7 @@ use mir.Syntax.{w64}
 use mir.Val.{Fits}
 use Rattle.fileline.specs.seen.Bits.{bit}
 use Rattle.register.specs.Marks.{Marks, taken, free}
-use Rattle.register.specs.Register.{noneAbove}
+use Rattle.register.specs.Register.{none_above}
 use Rattle.register.proofs.Digits.{on, bit_in}
 use Rattle.register.proofs.Counted.{taken_more, taken-same, above-taken, digits-taken}
 use Rattle.register.proofs.Laws.{taken_free}
@@ -44,7 +44,7 @@ module _ (ws : List ℕ) (i : ℕ) (fits : Fits w64 (get_or ws i 0)) where
 
 -- ---- all sixteen
 
-module _ (p : Marks) (above : noneAbove p ≡ true) (m i : ℕ) (e : m ≡ taken p (64 * i)) (a : i ≤ 16) (b : 16 ≤ i) where
+module _ (p : Marks) (above : none_above p ≡ true) (m i : ℕ) (e : m ≡ taken p (64 * i)) (a : i ≤ 16) (b : 16 ≤ i) where
   all : m ≡ taken p 1000
   all = let end : i ≡ 16 = omega arith in (rw end at e) ∙ above-taken p above
 

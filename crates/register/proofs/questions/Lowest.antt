@@ -15,7 +15,7 @@ use Rattle.base.proofs.Cases.{by-lt}
 use Rattle.fileline.specs.seen.Bits.{bit}
 use Rattle.fileline.proofs.seen.Laws.{at}
 use Rattle.register.specs.Marks.{Marks, lowest}
-use Rattle.register.specs.Register.{noneAbove}
+use Rattle.register.specs.Register.{none_above}
 use Rattle.register.proofs.Digits.{at-half, at_zero, bit_in}
 use Rattle.register.proofs.Counted.{above-free}
 use Rattle.register.proofs.Laws.{lowest-free, lowest-most, lowest-least}
@@ -114,7 +114,7 @@ module _ (ws : List ℕ) (i : ℕ) (fits : Fits w64 (get_or ws i 0)) (full : Ful
   full-next z j l = full-up 64 (omega arith) (λ k _. rw z (zero-at k)) j (omega arith)
 
   -- it is not: the lowest free number stands in it
-  module _ (above : noneAbove (bit ws) ≡ true) (s : rest (get_or ws i 0) ≡ 0 → ⊥) where
+  module _ (above : none_above (bit ws) ≡ true) (s : rest (get_or ws i 0) ≡ 0 → ⊥) where
     inside : count_trailing_zeros 64 (rest (get_or ws i 0)) < 64
     inside = some 64 (rest (get_or ws i 0)) (omega arith) s
 
@@ -138,7 +138,7 @@ module _ (ws : List ℕ) (i : ℕ) (fits : Fits w64 (get_or ws i 0)) (full : Ful
     free-here = lowest-is (bit ws) 1000 (64 * i + count_trailing_zeros 64 (rest (get_or ws i 0))) in-range full-below (λ _. free-bit)
 
 -- sixteen full words would hold number 1,000
-pub full-never : (p : Marks) (i : ℕ) → noneAbove p ≡ true → Full p (64 * i) → 16 ≤ i → 1000 ≡ lowest p 1000
+pub full-never : (p : Marks) (i : ℕ) → none_above p ≡ true → Full p (64 * i) → 16 ≤ i → 1000 ≡ lowest p 1000
 full-never p i above full l = never (sym (full 1000 (omega arith)) ∙ above-free p above 0 (omega arith))
 
 pub ruleset finds = (zeros-fit, place-fits, full-next, free-here, full-never)

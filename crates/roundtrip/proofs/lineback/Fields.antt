@@ -13,24 +13,24 @@ use Rattle.base.specs.Seek.{all, starts, seek, Free}
 use Rattle.base.proofs.Cases.{by-test}
 use Rattle.base.proofs.Seek.{never, free-starts, free-tail, seek-join}
 use Rattle.paper.specs.Read.{Field, value}
-use Rattle.paper.specs.Bytes.{isDigit, space, field_of}
-use Rattle.paper.specs.Entries.{Entry, Places, Said, Saying, said, onField, field, place}
-use Rattle.paper.specs.GroupLine.{spaceCount}
+use Rattle.paper.specs.Bytes.{is_digit, space, field_of}
+use Rattle.paper.specs.Entries.{Entry, Places, Said, Saying, said, on_field, field, place}
+use Rattle.paper.specs.GroupLine.{space_count}
 use Rattle.numeral.proofs.Plain.{digit-free}
 
 -- what may stand behind a field
 pub data Stops : List ℕ → Type 0 where
   at-end : Stops []
-  at-space : {r : List ℕ} → Stops (32 ∷ r)
+  at_space : {r : List ℕ} → Stops (32 ∷ r)
 
 pub seek-stops : (d r : List ℕ) → Free space d → Stops r → seek space (d ++ r) ≡ length d
 unfolding all
 seek-stops d _ h at-end = rw (append-nil d) h
-seek-stops d _ h (at-space {r = r}) = seek-join 32 [] refl d r h
+seek-stops d _ h (at_space {r = r}) = seek-join 32 [] refl d r h
 
 -- digits are a field
-pub digits-field : (d : List ℕ) → all isDigit d ≡ true → Free space d
-unfolding isDigit pick
+pub digits-field : (d : List ℕ) → all is_digit d ≡ true → Free space d
+unfolding is_digit pick
 digits-field d h = digit-free 32 d h refl
 
 pub field_is : (d r : List ℕ) → Free space d → Stops r → field_of (d ++ r) ≡ d
@@ -39,7 +39,7 @@ field_is d r h s = rw (seek-stops d r h s) (take-append_seam d r)
 module _ {A Z : Type 0} (read : List ℕ → Field A) (at : ℕ) (d : List ℕ) (v : A) (k : A → ℕ → List ℕ → Said Z) where
   -- a field, and what stops it
   pub field_back : (r : List ℕ) → Free space d → Stops r → read d ≡ value v → field read at (d ++ r) k ≡ k v (at + length d) r
-  unfolding field onField
+  unfolding field on_field
   field_back r h s e = rw (seek-stops d r h s, take-append_seam d r, drop-append_seam d r, e)
 
   -- the last field of its line
@@ -48,13 +48,13 @@ module _ {A Z : Type 0} (read : List ℕ → Field A) (at : ℕ) (d : List ℕ) 
 
   -- a field by place
   pub place-back : (n : ℕ) (r : List ℕ) → length d ≡ n → read d ≡ value v → place n read at (d ++ r) k ≡ k v (at + n) r
-  unfolding place onField pick
+  unfolding place on_field pick
   place-back n r l e =
       rw (← l, le-ltb (length (d ++ r)) (length d) (omega (arith, length-append d r)), take-append_seam d r, drop-append_seam d r, e)
 
 -- a field has no space
-pub count-field : (d r : List ℕ) → Free space d → spaceCount (d ++ r) ≡ spaceCount r
-unfolding spaceCount starts pick
+pub count-field : (d r : List ℕ) → Free space d → space_count (d ++ r) ≡ space_count r
+unfolding space_count starts pick
 count-field [] r h = refl
 count-field (x ∷ d) r h =
     by-test (eqb x 32)

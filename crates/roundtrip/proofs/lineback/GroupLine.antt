@@ -14,13 +14,13 @@ use Rattle.sheet.proofs.Laws.{Sane}
 use Rattle.paper.specs.Read.{value}
 use Rattle.paper.specs.Bytes.{space}
 use Rattle.paper.specs.Numerals.{decimal}
-use Rattle.paper.specs.Days.{dueWarnings, readDue, spellDay}
-use Rattle.paper.specs.Warnings.{pastDay, notices}
-use Rattle.paper.specs.Accounts.{Account, accountProper, isNobody, readPayer, spellAccount}
-use Rattle.paper.specs.Amounts.{readTotal}
-use Rattle.paper.specs.Proper.{payerProper}
-use Rattle.paper.specs.Entries.{group, totalAt, Listed, said, groupLine, kind_of, gap, lineEnd}
-use Rattle.paper.specs.GroupLine.{spaceCount, hasPayer, totalAndDate, readGroup, spellPayer, spellGroup}
+use Rattle.paper.specs.Days.{due_warnings, read_due, spell_day}
+use Rattle.paper.specs.Warnings.{past_day, notices}
+use Rattle.paper.specs.Accounts.{Account, account_proper, is_nobody, read_payer, spell_account}
+use Rattle.paper.specs.Amounts.{read_total}
+use Rattle.paper.specs.Proper.{payer_proper}
+use Rattle.paper.specs.Entries.{group, total_at, Listed, said, group_line, kind_of, gap, line_end}
+use Rattle.paper.specs.GroupLine.{space_count, has_payer, total_and_date, read_group, spell_payer, spell_group}
 use Rattle.numeral.proofs.Plain.{decimal-plain}
 use Rattle.calendar.proofs.Back.{due-back, spell-day-plain}
 use Rattle.account.proofs.Plain.{spell-account-field}
@@ -28,117 +28,117 @@ use Rattle.account.proofs.Proper.{nobody-is}
 use Rattle.account.proofs.Back.{payer-back, payer-empty}
 use Rattle.amount.proofs.Back.{total-back}
 use Rattle.roundtrip.specs.linesound.Fits.{GroupFits}
-use Rattle.roundtrip.proofs.lineback.Fields.{at-space, digits-field, field_back, last-back, count-field}
+use Rattle.roundtrip.proofs.lineback.Fields.{at_space, digits-field, field_back, last-back, count-field}
 
 -- ---- total and due date
 
 abbrev totals : ℕ → ℕ → List ℕ
-totals total date = decimal total ++ (32 ∷ spellDay date)
+totals total date = decimal total ++ (32 ∷ spell_day date)
 
 total-field : (t : ℕ) → Free space (decimal t)
 total-field t = digits-field (decimal t) (decimal-plain t)
 
-date-field : (d : ℕ) → Free space (spellDay d)
-date-field d = digits-field (spellDay d) (spell-day-plain d)
+date-field : (d : ℕ) → Free space (spell_day d)
+date-field d = digits-field (spell_day d) (spell-day-plain d)
 
 -- one space
-count-totals : (t d : ℕ) → spaceCount (totals t d) ≡ 1
-unfolding spaceCount pick
+count-totals : (t d : ℕ) → space_count (totals t d) ≡ 1
+unfolding space_count pick
 count-totals t d =
-    count-field (decimal t) (32 ∷ spellDay d) (total-field t)
-    ∙ ap suc (sym (ap spaceCount (append-nil (spellDay d))) ∙ count-field (spellDay d) [] (date-field d))
+    count-field (decimal t) (32 ∷ spell_day d) (total-field t)
+    ∙ ap suc (sym (ap space_count (append-nil (spell_day d))) ∙ count-field (spell_day d) [] (date-field d))
 
 -- ---- the three lines
 
 -- with a payer
-abbrev someLine : Account → ℕ → ℕ → List ℕ
-someLine p t d = 50 ∷ 32 ∷ (spellAccount p ++ (32 ∷ totals t d))
+abbrev some_line : Account → ℕ → ℕ → List ℕ
+some_line p t d = 50 ∷ 32 ∷ (spell_account p ++ (32 ∷ totals t d))
 
-pub some_is : (sh : Sheet) (p : Account) (t d : ℕ) → isNobody p ≡ false → spellGroup sh p t d ≡ someLine p t d
-unfolding spellGroup spellPayer
+pub some_is : (sh : Sheet) (p : Account) (t d : ℕ) → is_nobody p ≡ false → spell_group sh p t d ≡ some_line p t d
+unfolding spell_group spell_payer
 some_is sh p t d e =
     ap (λ (l : List ℕ). 50 ∷ 32 ∷ l)
-    (ap (λ (l : List ℕ). l ++ totals t d) (pick-false (pick sh.emptypayer (32 ∷ []) []) (spellAccount p ++ (32 ∷ [])) e)
-    ∙ append_assoc (spellAccount p) (32 ∷ []) (totals t d))
+    (ap (λ (l : List ℕ). l ++ totals t d) (pick-false (pick sh.emptypayer (32 ∷ []) []) (spell_account p ++ (32 ∷ [])) e)
+    ∙ append_assoc (spell_account p) (32 ∷ []) (totals t d))
 
 -- it has three spaces
-three : (p : Account) (t d : ℕ) → spaceCount (someLine p t d) ≡ 3
-unfolding spaceCount pick
-three p t d = ap suc (count-field (spellAccount p) (32 ∷ totals t d) (spell-account-field p) ∙ ap suc (count-totals t d))
+three : (p : Account) (t d : ℕ) → space_count (some_line p t d) ≡ 3
+unfolding space_count pick
+three p t d = ap suc (count-field (spell_account p) (32 ∷ totals t d) (spell-account-field p) ∙ ap suc (count-totals t d))
 
 -- without one: an empty field, or none
-pub nobody-line : (sh : Sheet) (p : Account) (t d : ℕ) → isNobody p ≡ true → spellGroup sh p t d ≡ 50 ∷ 32 ∷ (pick sh.emptypayer (32 ∷ []) [] ++ totals t d)
-unfolding spellGroup spellPayer
+pub nobody-line : (sh : Sheet) (p : Account) (t d : ℕ) → is_nobody p ≡ true → spell_group sh p t d ≡ 50 ∷ 32 ∷ (pick sh.emptypayer (32 ∷ []) [] ++ totals t d)
+unfolding spell_group spell_payer
 nobody-line sh p t d e =
-    ap (λ (l : List ℕ). 50 ∷ 32 ∷ (l ++ totals t d)) (pick_true (pick sh.emptypayer (32 ∷ []) []) (spellAccount p ++ (32 ∷ [])) e)
+    ap (λ (l : List ℕ). 50 ∷ 32 ∷ (l ++ totals t d)) (pick_true (pick sh.emptypayer (32 ∷ []) []) (spell_account p ++ (32 ∷ [])) e)
 
 -- two spaces
-two : (t d : ℕ) → spaceCount (50 ∷ 32 ∷ totals t d) ≡ 2
-unfolding spaceCount pick
+two : (t d : ℕ) → space_count (50 ∷ 32 ∷ totals t d) ≡ 2
+unfolding space_count pick
 two t d = ap suc (count-totals t d)
 
 module _ (sh : Sheet) (sane : Sane sh) (today : ℕ) (here : Bool) (p : Account) (t d : ℕ) (f : GroupFits sh today here p t d) where
   -- what is read; the total stands at `at`, and the date behind it
   abbrev reads : ℕ → Listed
-  reads at = said (group p t d) (notices pastDay (at + length (decimal t) + 1) (dueWarnings here sh.warnpast today d)) (totalAt at)
+  reads at = said (group p t d) (notices past_day (at + length (decimal t) + 1) (due_warnings here sh.warnpast today d)) (total_at at)
 
-  totals-back : (at : ℕ) → totalAndDate sh today here p at (totals t d) ≡ reads at
-  unfolding totalAndDate gap lineEnd
+  totals-back : (at : ℕ) → total_and_date sh today here p at (totals t d) ≡ reads at
+  unfolding total_and_date gap line_end
   totals-back at =
-      field_back (readTotal sh.comma) at (decimal t) t _ _ (total-field t) at-space (total-back sh.comma t f.total-low)
-      ∙ last-back (readDue sh.longdate here sh.early sh.ahead today) _ (spellDay d) d _ (date-field d)
-      (due-back d f.date-real sh.longdate here sh.early sh.ahead today f.date-allowed)
+      field_back (read_total sh.comma) at (decimal t) t _ _ (total-field t) at_space (total-back sh.comma t f.total_low)
+      ∙ last-back (read_due sh.longdate here sh.early sh.ahead today) _ (spell_day d) d _ (date-field d)
+      (due-back d f.date_real sh.longdate here sh.early sh.ahead today f.date_allowed)
 
   -- the payer's field d
-  with-field : (s : List ℕ) → Free space s → readPayer sh.emptypayer sh.zeropayer sh.joined sh.basemin s ≡ value p
-      → hasPayer sh.emptypayer (50 ∷ 32 ∷ (s ++ (32 ∷ totals t d))) ≡ true
-      → readGroup sh today here (50 ∷ 32 ∷ (s ++ (32 ∷ totals t d))) ≡ reads (2 + length s + 1)
-  unfolding readGroup gap
+  with-field : (s : List ℕ) → Free space s → read_payer sh.emptypayer sh.zeropayer sh.joined sh.basemin s ≡ value p
+      → has_payer sh.emptypayer (50 ∷ 32 ∷ (s ++ (32 ∷ totals t d))) ≡ true
+      → read_group sh today here (50 ∷ 32 ∷ (s ++ (32 ∷ totals t d))) ≡ reads (2 + length s + 1)
+  unfolding read_group gap
   with-field s free e h =
       pick_true _ _ h
-      ∙ field_back (readPayer sh.emptypayer sh.zeropayer sh.joined sh.basemin) 2 s p _ _ free at-space e
+      ∙ field_back (read_payer sh.emptypayer sh.zeropayer sh.joined sh.basemin) 2 s p _ _ free at_space e
       ∙ totals-back _
 
-  some_back : isNobody p ≡ false → readGroup sh today here (spellGroup sh p t d) ≡ reads (2 + length (spellAccount p) + 1)
-  unfolding payerProper hasPayer
+  some_back : is_nobody p ≡ false → read_group sh today here (spell_group sh p t d) ≡ reads (2 + length (spell_account p) + 1)
+  unfolding payer_proper has_payer
   some_back e =
-      let proper : accountProper p ≡ true = sym (pick-false true (accountProper p) e) ∙ f.payer-proper in
-      ap (readGroup sh today here) (some_is sh p t d e)
-      ∙ with-field (spellAccount p) (spell-account-field p)
-      (payer-back p proper sh.joined sh.basemin sane.base-few sh.emptypayer sh.zeropayer)
-      (either (λ b. b ≡ true) sh.emptypayer (λ _. refl) (λ _. le-leb 3 (spaceCount (someLine p t d)) (omega (arith, three p t d))))
+      let proper : account_proper p ≡ true = sym (pick-false true (account_proper p) e) ∙ f.payer-proper in
+      ap (read_group sh today here) (some_is sh p t d e)
+      ∙ with-field (spell_account p) (spell-account-field p)
+      (payer-back p proper sh.joined sh.basemin sane.base_few sh.emptypayer sh.zeropayer)
+      (either (λ b. b ≡ true) sh.emptypayer (λ _. refl) (λ _. le-leb 3 (space_count (some_line p t d)) (omega (arith, three p t d))))
 
-  module _ (e : isNobody p ≡ true) where
-    empty_back : sh.emptypayer ≡ true → readGroup sh today here (spellGroup sh p t d) ≡ reads 3
-    unfolding hasPayer seek
+  module _ (e : is_nobody p ≡ true) where
+    empty_back : sh.emptypayer ≡ true → read_group sh today here (spell_group sh p t d) ≡ reads 3
+    unfolding has_payer seek
     empty_back on =
-        ap (readGroup sh today here)
+        ap (read_group sh today here)
         (nobody-line sh p t d e ∙ ap (λ (l : List ℕ). 50 ∷ 32 ∷ (l ++ totals t d)) (pick_true (32 ∷ []) [] on))
         ∙ with-field [] refl
-        (ap (λ (b : Bool). readPayer b sh.zeropayer sh.joined sh.basemin []) on
+        (ap (λ (b : Bool). read_payer b sh.zeropayer sh.joined sh.basemin []) on
         ∙ payer-empty sh.zeropayer sh.joined sh.basemin
         ∙ ap value (sym (nobody-is p e)))
         (pick_true _ _ on)
 
-    missing-back : sh.emptypayer ≡ false → readGroup sh today here (spellGroup sh p t d) ≡ reads 2
-    unfolding readGroup hasPayer
+    missing-back : sh.emptypayer ≡ false → read_group sh today here (spell_group sh p t d) ≡ reads 2
+    unfolding read_group has_payer
     missing-back off =
-        ap (readGroup sh today here)
+        ap (read_group sh today here)
         (nobody-line sh p t d e ∙ ap (λ (l : List ℕ). 50 ∷ 32 ∷ (l ++ totals t d)) (pick-false (32 ∷ []) [] off))
-        ∙ pick-false _ _ (pick-false _ _ off ∙ lt-leb 3 (spaceCount (50 ∷ 32 ∷ totals t d)) (omega (arith, two t d)))
-        ∙ ap (λ (a : Account). totalAndDate sh today here a 2 (totals t d)) (sym (nobody-is p e))
+        ∙ pick-false _ _ (pick-false _ _ off ∙ lt-leb 3 (space_count (50 ∷ 32 ∷ totals t d)) (omega (arith, two t d)))
+        ∙ ap (λ (a : Account). total_and_date sh today here a 2 (totals t d)) (sym (nobody-is p e))
         ∙ totals-back 2
 
-pub kind-group : (sh : Sheet) (p : Account) (t d : ℕ) → kind_of (spellGroup sh p t d) ≡ groupLine
-unfolding kind_of starts spellGroup pick
+pub kind-group : (sh : Sheet) (p : Account) (t d : ℕ) → kind_of (spell_group sh p t d) ≡ group_line
+unfolding kind_of starts spell_group pick
 kind-group sh p t d = refl
 
 -- .. and where its total stands
 pub group-back : (sh : Sheet) → Sane sh → (today : ℕ) (here : Bool) (p : Account) (t d : ℕ) → GroupFits sh today here p t d
     → (at : ℕ) × (due : ℕ)
-    × (readGroup sh today here (spellGroup sh p t d) ≡ said (group p t d) (notices pastDay due (dueWarnings here sh.warnpast today d)) (totalAt at))
+    × (read_group sh today here (spell_group sh p t d) ≡ said (group p t d) (notices past_day due (due_warnings here sh.warnpast today d)) (total_at at))
 group-back sh sane today here p t d f =
-    by-test (isNobody p)
+    by-test (is_nobody p)
     (λ e.
     by-test sh.emptypayer (λ on. (3, _, empty_back sh sane today here p t d f e on)) (λ off. (2, _, missing-back sh sane today here p t d f e off)))
-    (λ e. (2 + length (spellAccount p) + 1, _, some_back sh sane today here p t d f e))
+    (λ e. (2 + length (spell_account p) + 1, _, some_back sh sane today here p t d f e))

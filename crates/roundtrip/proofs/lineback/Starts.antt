@@ -11,19 +11,19 @@ use Rattle.base.specs.Pick.{pick}
 use Rattle.base.specs.Seek.{all, starts}
 use Rattle.base.proofs.Cases.{by-test, pick-false}
 use Rattle.base.proofs.Seek.{all_head, all_tail}
-use Rattle.paper.specs.Bytes.{isDigit}
-use Rattle.paper.specs.Accounts.{Account, accountProper, spellAccount}
-use Rattle.paper.specs.Entries.{itemLine, kind_of}
+use Rattle.paper.specs.Bytes.{is_digit}
+use Rattle.paper.specs.Accounts.{Account, account_proper, spell_account}
+use Rattle.paper.specs.Entries.{item_line, kind_of}
 use Rattle.numeral.proofs.Plain.{digit-range}
-use Rattle.account.specs.Bytes.{isAccountByte}
+use Rattle.account.specs.Bytes.{is_account_byte}
 use Rattle.account.proofs.Plain.{spell-account-plain}
 use Rattle.account.proofs.Back.{spell-account-least}
 
 -- a dash or a digit
-pub account-range : (x : ℕ) → isAccountByte x ≡ true → (45 ≤ x) × (x ≤ 57)
-unfolding isAccountByte
+pub account-range : (x : ℕ) → is_account_byte x ≡ true → (45 ≤ x) × (x ≤ 57)
+unfolding is_account_byte
 account-range x h =
-    by-test (isDigit x)
+    by-test (is_digit x)
     (λ e. let r = digit-range x e in (omega (arith, r.0), r.1))
     (λ e. let q : x ≡ 45 = eqb-true x 45 (sym (pick-false true (eqb x 45) e) ∙ h) in (omega arith, omega arith))
 
@@ -36,7 +36,7 @@ first-not : (p x : ℕ) (ps r : List ℕ) → eqb x p ≡ false → starts (p �
 unfolding starts
 first-not p x ps r e = pick-false _ _ e
 
-kind-item : (x y : ℕ) (r : List ℕ) → isAccountByte x ≡ true → isAccountByte y ≡ true → kind_of (x ∷ y ∷ r) ≡ itemLine
+kind-item : (x y : ℕ) (r : List ℕ) → is_account_byte x ≡ true → is_account_byte y ≡ true → kind_of (x ∷ y ∷ r) ≡ item_line
 unfolding kind_of pick
 kind-item x y r h k =
     let a = account-range x h in
@@ -53,11 +53,11 @@ kind-item x y r h k =
       second-not 53 43 x y r pl,
     )
 
-kind-bytes : (s r : List ℕ) → 2 ≤ length s → all isAccountByte s ≡ true → kind_of (s ++ r) ≡ itemLine
+kind-bytes : (s r : List ℕ) → 2 ≤ length s → all is_account_byte s ≡ true → kind_of (s ++ r) ≡ item_line
 kind-bytes [] r l h = absurd (omega arith)
 kind-bytes (x ∷ []) r l h = absurd (omega arith)
 kind-bytes (x ∷ y ∷ s) r l h =
-    kind-item x y (s ++ r) (all_head isAccountByte x (y ∷ s) h) (all_head isAccountByte y s (all_tail isAccountByte x (y ∷ s) h))
+    kind-item x y (s ++ r) (all_head is_account_byte x (y ∷ s) h) (all_head is_account_byte y s (all_tail is_account_byte x (y ∷ s) h))
 
-pub kind-account : (a : Account) → accountProper a ≡ true → (r : List ℕ) → kind_of (spellAccount a ++ r) ≡ itemLine
-kind-account a h r = kind-bytes (spellAccount a) r (spell-account-least a h) (spell-account-plain a)
+pub kind-account : (a : Account) → account_proper a ≡ true → (r : List ℕ) → kind_of (spell_account a ++ r) ≡ item_line
+kind-account a h r = kind-bytes (spell_account a) r (spell-account-least a h) (spell-account-plain a)

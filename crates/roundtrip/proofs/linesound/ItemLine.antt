@@ -14,14 +14,14 @@ use Rattle.sheet.specs.declared.Sheet.{Sheet}
 use Rattle.sheet.specs.declared.Style.{Style}
 use Rattle.sheet.proofs.Laws.{Sane}
 use Rattle.paper.specs.Bytes.{null}
-use Rattle.paper.specs.Accounts.{Account, nobody, accountProper, isNobody, readAccount}
-use Rattle.paper.specs.Amounts.{readItemAmount}
-use Rattle.paper.specs.BankField.{Bank, readDueBank}
-use Rattle.paper.specs.Texts.{Noted, lacks as without, nameProper, partProper, taken, wordsCarried, partCarried, nameCarried, partsProper, partsCarried}
+use Rattle.paper.specs.Accounts.{Account, nobody, account_proper, is_nobody, read_account}
+use Rattle.paper.specs.Amounts.{read_item_amount}
+use Rattle.paper.specs.BankField.{Bank, read_due_bank}
+use Rattle.paper.specs.Texts.{Noted, lacks as without, name_proper, part_proper, taken, words_carried, part_carried, name_carried, parts_proper, parts_carried}
 use Rattle.paper.specs.Batch.{most14}
-use Rattle.paper.specs.Proper.{itemPayerProper}
-use Rattle.paper.specs.ItemLine.{readSymbol, partBytes, item_of}
-use Rattle.paper.proofs.LineSays.{Read, Payer, stands, lacks, Symbol, Text, no_text, a-text}
+use Rattle.paper.specs.Proper.{item_payer_proper}
+use Rattle.paper.specs.ItemLine.{read_symbol, part_bytes, item_of}
+use Rattle.paper.proofs.LineSays.{Read, Payer, stands, lacks, Symbol, Text, no-text, a_text}
 use Rattle.numeral.proofs.Sound.{digits-sound}
 use Rattle.numeral.proofs.given.Sound.{symbol-sound}
 use Rattle.account.proofs.Sound.{account-sound}
@@ -40,15 +40,15 @@ unfolding pick
 any true = refl
 any false = refl
 
-no_part : (y : Style) (i : ℕ) → partCarried y i [] ≡ true
-unfolding partCarried wordsCarried taken without null seek all
+no_part : (y : Style) (i : ℕ) → part_carried y i [] ≡ true
+unfolding part_carried words_carried taken without null seek all
 no_part y i = pick_true _ _ (any (ltb i y.most)) ∙ pick_true _ _ (any y.names) ∙ any y.clean
 
 abbrev none4 : List (List ℕ)
 none4 = [] ∷ [] ∷ [] ∷ [] ∷ []
 
 no-texts : (y : Style) → Sendable y none4 []
-unfolding partsProper partProper nameProper partsCarried nameCarried without null seek all pick
+unfolding parts_proper part_proper name_proper parts_carried name_carried without null seek all pick
 no-texts y =
     record {
       four = refl;
@@ -58,29 +58,29 @@ no-texts y =
       name-carried = any y.names;
     }
 
-texts-fit : (y : Style) {w : List ℕ} {t : Noted} → Text y w t → Sendable y (partBytes t) t.name.bytes
-texts-fit y no_text = no-texts y
-texts-fit y {w} (a-text at {t} e) = (text-sound y at (drop at w) t e).sendable
+texts-fit : (y : Style) {w : List ℕ} {t : Noted} → Text y w t → Sendable y (part_bytes t) t.name.bytes
+texts-fit y no-text = no-texts y
+texts-fit y {w} (a_text at {t} e) = (text-sound y at (drop at w) t e).sendable
 
 -- ---- the line
 
-payer-single : (a : Account) → accountProper a ≡ true → itemPayerProper true a ≡ true
-unfolding itemPayerProper pick
+payer-single : (a : Account) → account_proper a ≡ true → item_payer_proper true a ≡ true
+unfolding item_payer_proper pick
 payer-single a h = h
 
-payer-none : itemPayerProper false nobody ≡ true
-unfolding itemPayerProper isNobody pick
+payer-none : item_payer_proper false nobody ≡ true
+unfolding item_payer_proper is_nobody pick
 payer-none = refl
 
 module _ (sh : Sheet) where
-  payer-fits : {single : Bool} {payer : Account} → Payer (readAccount sh.joined sh.basemin) single payer → itemPayerProper single payer ≡ true
+  payer-fits : {single : Bool} {payer : Account} → Payer (read_account sh.joined sh.basemin) single payer → item_payer_proper single payer ≡ true
   payer-fits (stands {a} f) = payer-single a (account-sound sh.joined sh.basemin f.0 a f.1)
   payer-fits lacks = payer-none
 
   pub item-fits : Sane sh → (due : ℕ → Bool)
       → {single : Bool} {w : List ℕ} {payer payee : Account} {amount variable specific : ℕ} {bank : Bank} {texts : Noted}
-      → Payer (readAccount sh.joined sh.basemin) single payer → Read (readAccount sh.joined sh.basemin) payee
-      → Read (readItemAmount sh.comma sh.itemdigits sh.itemmax) amount → Read readSymbol variable → Read (readDueBank sh.priority due) bank
+      → Payer (read_account sh.joined sh.basemin) single payer → Read (read_account sh.joined sh.basemin) payee
+      → Read (read_item_amount sh.comma sh.itemdigits sh.itemmax) amount → Read read_symbol variable → Read (read_due_bank sh.priority due) bank
       → Symbol specific → Text sh.text w texts → ItemFits sh due single (item_of payer payee amount variable specific bank texts)
   item-fits sane due {payee = payee} {amount = amount} {variable = variable} {specific = specific} {bank = bank} p f a v b s t =
       let m : Payable sh.itemmax amount = amount-within sh.comma sh.itemdigits sh.itemmax a.0 amount a.1 in
@@ -88,15 +88,15 @@ module _ (sh : Sheet) where
       let k : Proper sh.priority bank = bank-sound sh.priority b.0 bank i in
       record {
         payer-proper = payer-fits p;
-        payee-proper = account-sound sh.joined sh.basemin f.0 payee f.1;
-        bank-proper = k.bankIs;
+        payee_proper = account-sound sh.joined sh.basemin f.0 payee f.1;
+        bank-proper = k.bank_is;
         bank-due = d;
-        amount-proper = payable-proper most14 amount m.some (omega (arith, m.within, sane.item-low));
-        amount-carried = amount-sound sh.comma sh.itemdigits sh.itemmax a.0 amount a.1;
-        variable-low = lt-ltb variable 10000000000 (digits-sound 1 10 v.0 variable v.1);
-        specific-low = lt-ltb specific 10000000000 (symbol-sound s);
-        constant-low = lt-ltb bank.constant 10000 k.constantIs;
-        priority-proper = k.priorityIs;
+        amount-proper = payable-proper most14 amount m.some (omega (arith, m.within, sane.item_low));
+        amount_carried = amount-sound sh.comma sh.itemdigits sh.itemmax a.0 amount a.1;
+        variable_low = lt-ltb variable 10000000000 (digits-sound 1 10 v.0 variable v.1);
+        specific_low = lt-ltb specific 10000000000 (symbol-sound s);
+        constant_low = lt-ltb bank.constant 10000 k.constant_is;
+        priority-proper = k.priority_is;
         priority-carried = k.carried;
         texts = texts-fit sh.text t;
       }

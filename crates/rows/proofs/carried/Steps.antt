@@ -12,21 +12,21 @@ use Rattle.sheet.specs.declared.Style.{Style}
 use Rattle.sheet.specs.declared.Sheet.{Sheet}
 use Rattle.sheet.specs.declared.Limits.{Limits}
 use Rattle.sheet.specs.Sheets.{LimitsOf}
-use Rattle.paper.specs.Bytes.{isClean, null}
-use Rattle.paper.specs.Days.{dueAllowed}
-use Rattle.paper.specs.Terms.{dayHere}
-use Rattle.paper.specs.Amounts.{amountProper}
-use Rattle.paper.specs.Texts.{lacks, taken, wordsCarried, partCarried, nameCarried}
+use Rattle.paper.specs.Bytes.{is_clean, null}
+use Rattle.paper.specs.Days.{due_allowed}
+use Rattle.paper.specs.Terms.{day_here}
+use Rattle.paper.specs.Amounts.{amount_proper}
+use Rattle.paper.specs.Texts.{lacks, taken, words_carried, part_carried, name_carried}
 use Rattle.paper.specs.Batch.{Header}
-use Rattle.paper.specs.FileLine.{numberFault, numberAllowed}
+use Rattle.paper.specs.FileLine.{number_fault, number_allowed}
 use Rattle.paper.specs.Proper.{Verdict, wrong, check}
 use Rattle.fileline.specs.seen.Bits.{Holds}
 use Rattle.text.specs.declared.span.Span.{Span}
-use Rattle.fileline.specs.Fault.{faultIn}
+use Rattle.fileline.specs.Fault.{fault_in}
 use Rattle.fileline.proofs.Set.{same-fault}
 use Rattle.text.proofs.fits.Carried.{untaken}
 use Rattle.rows.specs.declared.read.ItemRow.{ItemRow}
-use Rattle.rows.specs.read.Told.{textOfSpan}
+use Rattle.rows.specs.read.Told.{text_of_span}
 use Rattle.rows.specs.clean.Stretches.{CleanParts}
 use Rattle.rows.specs.carried.Words.{Taken}
 use Rattle.text.specs.span.Held.{Within}
@@ -35,62 +35,62 @@ use Rattle.rows.proofs.read.Fields.{is_true, holds, lacks as without, passes, fa
 
 -- a test by the limits that a sheet gave is a test by the sheet's
 module _ (sh : Sheet) (l : Limits) (of : LimitsOf sh l) (t : Bool) where
-  pub due-limit : (here early : Bool) (kind today d : ℕ) → here ≡ dayHere sh kind → t ≡ dueAllowed here early l.ahead today d
-      → t ≡ dueAllowed (dayHere sh kind) early sh.ahead today d
+  pub due-limit : (here early : Bool) (kind today d : ℕ) → here ≡ day_here sh kind → t ≡ due_allowed here early l.ahead today d
+      → t ≡ due_allowed (day_here sh kind) early sh.ahead today d
   due-limit here early kind today d q e = rw (of.ahead, q) at e
 
-  pub amount-limit : (v : ℕ) → t ≡ amountProper l.amount v → t ≡ amountProper sh.itemmax v
+  pub amount-limit : (v : ℕ) → t ≡ amount_proper l.amount v → t ≡ amount_proper sh.itemmax v
   amount-limit v e = rw of.amount at e
 
 -- the set of words stands for the list that it holds: r is the refusal that the number gets by them
-module _ (interval : Bool) (from to : ℕ) (words : List ℕ) (n r : ℕ) (e : r ≡ faultIn interval from to words n)
+module _ (interval : Bool) (from to : ℕ) (words : List ℕ) (n r : ℕ) (e : r ≡ fault_in interval from to words n)
     (h : Header) (l : List ℕ) (f : h.from ≡ from) (t : h.to ≡ to) (g : Holds words l) where
-  by-list : r ≡ numberFault interval h l n
+  by-list : r ≡ number_fault interval h l n
   by-list = rw (← f, ← t) at e ∙ ap (λ (p : ℕ → ℕ). p n) (same-fault interval h words l g)
 
-  number-free : r ≡ 0 → numberAllowed interval h l n ≡ true
-  unfolding numberAllowed
+  number-free : r ≡ 0 → number_allowed interval h l n ≡ true
+  unfolding number_allowed
   number-free z = eq-eqb _ _ (sym by-list ∙ z)
 
-  number-taken : (r ≡ 0 → ⊥) → numberAllowed interval h l n ≡ false
-  unfolding numberAllowed
+  number-taken : (r ≡ 0 → ⊥) → number_allowed interval h l n ≡ false
+  unfolding number_allowed
   number-taken z = ne_eqb _ _ (λ q. z (by-list ∙ q))
 
   module _ (k : ℕ) (v rest : Verdict) where
-    pub number-passes : r ≡ 0 → v ≡ rest → v ≡ check k 2 (numberAllowed interval h l n) rest
+    pub number-passes : r ≡ 0 → v ≡ rest → v ≡ check k 2 (number_allowed interval h l n) rest
     number-passes z q = holds k 2 v rest _ (number-free z) q
 
-    pub number-fails : (r ≡ 0 → ⊥) → v ≡ wrong k 2 → v ≡ check k 2 (numberAllowed interval h l n) rest
+    pub number-fails : (r ≡ 0 → ⊥) → v ≡ wrong k 2 → v ≡ check k 2 (number_allowed interval h l n) rest
     number-fails z q = without k 2 v rest _ (number-taken z) q
 
 -- an empty part is carried
-blank-carried : (y : Style) (i : ℕ) → true ≡ partCarried y i []
-unfolding partCarried wordsCarried taken lacks all seek null
+blank-carried : (y : Style) (i : ℕ) → true ≡ part_carried y i []
+unfolding part_carried words_carried taken lacks all seek null
 blank-carried y i = sym (pick_true _ _ (pick_same (ltb i y.most) true) ∙ pick_true _ _ (pick_same y.names true) ∙ pick_same y.clean true)
 
 -- the part of the lent bytes that a test was given is the text
 module _ (y : Style) (t : List ℕ) (p : Span) (w : Within t p) where
-  pub part-here : (i : ℕ) (r : Bool) → r ≡ partCarried y i (take (p.at + p.len - p.at) (drop p.at t)) → r ≡ partCarried y i (textOfSpan t p)
-  part-here i r e = e ∙ ap (partCarried y i) (cut-is t p w)
+  pub part-here : (i : ℕ) (r : Bool) → r ≡ part_carried y i (take (p.at + p.len - p.at) (drop p.at t)) → r ≡ part_carried y i (text_of_span t p)
+  part-here i r e = e ∙ ap (part_carried y i) (cut-is t p w)
 
-  pub taken_here : taken y (textOfSpan t p) ≡ true → taken y (take (p.at + p.len - p.at) (drop p.at t)) ≡ true
+  pub taken_here : taken y (text_of_span t p) ≡ true → taken y (take (p.at + p.len - p.at) (drop p.at t)) ≡ true
   taken_here e = ap (taken y) (cut-is t p w) ∙ e
 
-  pub name-here : (r : Bool) → r ≡ nameCarried y (take (p.at + p.len - p.at) (drop p.at t)) → r ≡ nameCarried y (textOfSpan t p)
-  name-here r e = e ∙ ap (nameCarried y) (cut-is t p w)
+  pub name-here : (r : Bool) → r ≡ name_carried y (take (p.at + p.len - p.at) (drop p.at t)) → r ≡ name_carried y (text_of_span t p)
+  name-here r e = e ∙ ap (name_carried y) (cut-is t p w)
 
-  pub part-blank : (i : ℕ) → p.len ≡ 0 → true ≡ partCarried y i (textOfSpan t p)
+  pub part-blank : (i : ℕ) → p.len ≡ 0 → true ≡ part_carried y i (text_of_span t p)
   part-blank i e =
-      let f : textOfSpan t p ≡ [] = text-within t p w ∙ ap (λ (n : ℕ). take n (drop p.at t)) e in
-      blank-carried y i ∙ ap (partCarried y i) (sym f)
+      let f : text_of_span t p ≡ [] = text-within t p w ∙ ap (λ (n : ℕ). take n (drop p.at t)) e in
+      blank-carried y i ∙ ap (part_carried y i) (sym f)
 
 -- on a sheet that takes neither `#` nor `~`
-module _ (y : Style) (clean : y.clean ≡ true) (p : List ℕ) (r : Bool) (e : r ≡ all isClean p) where
+module _ (y : Style) (clean : y.clean ≡ true) (p : List ℕ) (r : Bool) (e : r ≡ all is_clean p) where
   pub clean-taken : r ≡ true → taken y p ≡ true
   unfolding taken
   clean-taken q = pick_true _ _ clean ∙ sym e ∙ q
 
-  pub unclean-not : (i : ℕ) → r ≡ false → false ≡ partCarried y i p
+  pub unclean-not : (i : ℕ) → r ≡ false → false ≡ part_carried y i p
   unfolding taken
   unclean-not i q = sym (untaken y i p (pick_true _ _ clean ∙ sym e ∙ q))
 

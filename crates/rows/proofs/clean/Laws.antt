@@ -10,12 +10,12 @@ use Rattle.base.specs.Seek.{all}
 use Rattle.base.proofs.Cases.{by-lt}
 use Rattle.base.proofs.Lists.{drop-take}
 use Rattle.base.proofs.Seek.{never, all_take, all_drop}
-use Rattle.paper.specs.Bytes.{isClean}
+use Rattle.paper.specs.Bytes.{is_clean}
 use Rattle.text.specs.declared.span.Span.{Span}
 use Rattle.text.specs.span.Held.{Within}
 use Rattle.rows.specs.declared.clean.Stretch.{Stretch}
 use Rattle.rows.specs.declared.read.ItemRow.{ItemRow}
-use Rattle.rows.specs.read.Told.{textOfSpan}
+use Rattle.rows.specs.read.Told.{text_of_span}
 use Rattle.rows.specs.read.Sized.{Inside}
 use Rattle.rows.specs.clean.Stretches.{Lies, Reaches, HoldsParts, CleanParts}
 use Rattle.rows.proofs.read.Laws.{text-within, upto_is, front-is}
@@ -27,11 +27,11 @@ Cut t from to = drop from (take (to - 0) (drop 0 t))
 -- ---- one text
 
 module _ (t : List ℕ) (p : Span) (w : Within t p) where
-  pub clean-here : (r : Bool) → r ≡ all isClean (Cut t p.at (p.at + p.len)) → r ≡ all isClean (textOfSpan t p)
-  clean-here r e = e ∙ ap (all isClean) (front-is t p w)
+  pub clean-here : (r : Bool) → r ≡ all is_clean (Cut t p.at (p.at + p.len)) → r ≡ all is_clean (text_of_span t p)
+  clean-here r e = e ∙ ap (all is_clean) (front-is t p w)
 
   -- .. that lies in a clean stretch
-  lies-clean : (a : Stretch) → Lies a p → all isClean (Cut t a.from a.to) ≡ true → all isClean (textOfSpan t p) ≡ true
+  lies-clean : (a : Stretch) → Lies a p → all is_clean (Cut t a.from a.to) ≡ true → all is_clean (text_of_span t p) ≡ true
   unfolding all
   lies-clean a l e =
       by-lt 0 p.len
@@ -40,13 +40,13 @@ module _ (t : List ℕ) (p : Span) (w : Within t p) where
       let k = p.at - a.from in
       let at : a.from + k ≡ p.at = omega arith in
       let rest : a.to - a.from - k ≡ a.to - p.at = omega arith in
-      let c : all isClean (take (a.to - a.from) (drop a.from t)) ≡ true = rw (upto_is t a.from a.to) at e in
-      let d : all isClean (take (a.to - p.at) (drop p.at t)) ≡ true = rw (drop-take k (a.to - a.from) (drop a.from t), drop-drop k a.from t, at, rest) at (all_drop isClean k (take (a.to - a.from) (drop a.from t)) c) in
+      let c : all is_clean (take (a.to - a.from) (drop a.from t)) ≡ true = rw (upto_is t a.from a.to) at e in
+      let d : all is_clean (take (a.to - p.at) (drop p.at t)) ≡ true = rw (drop-take k (a.to - a.from) (drop a.from t), drop-drop k a.from t, at, rest) at (all_drop is_clean k (take (a.to - a.from) (drop a.from t)) c) in
       rw (text-within t p w) (shorter p.len (a.to - p.at) (drop p.at t) (omega arith) d))
       (λ none. let z : p.len ≡ 0 = omega arith in rw (text-within t p w, z))
     where
-      shorter : (n m : ℕ) (s : List ℕ) → n ≤ m → all isClean (take m s) ≡ true → all isClean (take n s) ≡ true
-      shorter n m s h c = rw (take-take n m s h) at (all_take isClean n (take m s) c)
+      shorter : (n m : ℕ) (s : List ℕ) → n ≤ m → all is_clean (take m s) ≡ true → all is_clean (take n s) ≡ true
+      shorter n m s h c = rw (take-take n m s h) at (all_take is_clean n (take m s) c)
 
 -- ---- stretches
 
@@ -86,7 +86,7 @@ pub ruleset drawn = (drawn-order, drawn-reaches, drawn-lies, same-reaches, empty
 
 -- a clean stretch has clean parts; of any other nothing is told
 module _ (t : List ℕ) (x : ItemRow) where
-  pub stretch-clean : Inside t x → (a : Stretch) → HoldsParts a x → (r : Bool) → r ≡ all isClean (Cut t a.from a.to) → r ≡ true → CleanParts t x
+  pub stretch-clean : Inside t x → (a : Stretch) → HoldsParts a x → (r : Bool) → r ≡ all is_clean (Cut t a.from a.to) → r ≡ true → CleanParts t x
   stretch-clean i a h r e q =
       let c = sym e ∙ q in
       record {
@@ -107,7 +107,7 @@ module _ (t : List ℕ) (x : ItemRow) where
         fourth = none x.part4 i.fourth h.fourth;
       }
     where
-      none : (p : Span) → Within t p → Lies a p → all isClean (textOfSpan t p) ≡ true
+      none : (p : Span) → Within t p → Lies a p → all is_clean (text_of_span t p) ≡ true
       none p w l =
           by-lt 0 p.len
           (λ some. let (low, high) = l some in absurd (omega arith))

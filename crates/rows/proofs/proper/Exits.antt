@@ -9,60 +9,60 @@ use lib.ListN.{length, take, drop}
 use Rattle.base.specs.Pick.{pick}
 use Rattle.base.specs.Seek.{all, seek}
 use Rattle.base.proofs.Cases.{pick_true, pick-false}
-use Rattle.paper.specs.Bytes.{isText}
-use Rattle.paper.specs.Texts.{lacks, partProper, nameProper}
-use Rattle.paper.specs.Proper.{Verdict, check, partsFrom, itemProper}
-use Rattle.paper.specs.Rows.{referenceProper}
+use Rattle.paper.specs.Bytes.{is_text}
+use Rattle.paper.specs.Texts.{lacks, part_proper, name_proper}
+use Rattle.paper.specs.Proper.{Verdict, check, parts_from, item_proper}
+use Rattle.paper.specs.Rows.{reference_proper}
 use Rattle.text.specs.declared.span.Span.{Span}
 use Rattle.rows.specs.declared.read.Check.{Check}
 use Rattle.rows.specs.declared.read.Check.TheVariants.{Fine, Wrong}
 use Rattle.rows.specs.declared.read.ItemRow.{ItemRow}
-use Rattle.rows.specs.read.Told.{textOfSpan, item_of}
+use Rattle.rows.specs.read.Told.{text_of_span, item_of}
 use Rattle.rows.specs.read.After.{after}
 use Rattle.rows.proofs.read.Laws.{upto_is}
-use Rattle.rows.specs.proper.Stages.{moneyProper, symbolsProper, textsProper, ItemTested}
+use Rattle.rows.specs.proper.Stages.{money_proper, symbols_proper, texts_proper, ItemTested}
 
 -- ---- a text that lies inside what was lent, or does not
 
 module _ (t : List ℕ) (p : Span) (l : Bool) (e : l ≡ leb (p.at + p.len) (length t)) where
-  outside : l ≡ false → textOfSpan t p ≡ 0 ∷ []
-  unfolding textOfSpan
+  outside : l ≡ false → text_of_span t p ≡ 0 ∷ []
+  unfolding text_of_span
   outside h = pick-false _ _ (sym e ∙ h)
 
-  within : l ≡ true → textOfSpan t p ≡ take (p.at + p.len - p.at) (drop p.at t)
-  unfolding textOfSpan
+  within : l ≡ true → text_of_span t p ≡ take (p.at + p.len - p.at) (drop p.at t)
+  unfolding text_of_span
   within h = let n : p.at + p.len - p.at ≡ p.len = omega arith in rw n (pick_true _ _ (sym e ∙ h))
 
-  pub name_out : l ≡ false → false ≡ nameProper (textOfSpan t p)
-  unfolding nameProper all isText pick
+  pub name_out : l ≡ false → false ≡ name_proper (text_of_span t p)
+  unfolding name_proper all is_text pick
   name_out h = rw (outside h)
 
-  pub part_out : l ≡ false → false ≡ partProper (textOfSpan t p)
-  unfolding partProper pick
+  pub part_out : l ≡ false → false ≡ part_proper (text_of_span t p)
+  unfolding part_proper pick
   part_out h = rw (← name_out h)
 
-  here : l ≡ true → drop p.at (take (p.at + p.len - 0) (drop 0 t)) ≡ textOfSpan t p
+  here : l ≡ true → drop p.at (take (p.at + p.len - 0) (drop 0 t)) ≡ text_of_span t p
   here h = upto_is t p.at (p.at + p.len) ∙ sym (within h)
 
-  pub name-there : l ≡ true → (r : Bool) → r ≡ nameProper (drop p.at (take (p.at + p.len - 0) (drop 0 t))) → r ≡ nameProper (textOfSpan t p)
-  name-there h r g = g ∙ ap nameProper (here h)
+  pub name-there : l ≡ true → (r : Bool) → r ≡ name_proper (drop p.at (take (p.at + p.len - 0) (drop 0 t))) → r ≡ name_proper (text_of_span t p)
+  name-there h r g = g ∙ ap name_proper (here h)
 
-  pub part-there : l ≡ true → (r : Bool) → r ≡ partProper (drop p.at (take (p.at + p.len - 0) (drop 0 t))) → r ≡ partProper (textOfSpan t p)
-  part-there h r g = g ∙ ap partProper (here h)
+  pub part-there : l ≡ true → (r : Bool) → r ≡ part_proper (drop p.at (take (p.at + p.len - 0) (drop 0 t))) → r ≡ part_proper (text_of_span t p)
+  part-there h r g = g ∙ ap part_proper (here h)
 
 -- an empty one lies where its place does
 module _ (t : List ℕ) (p : Span) (e : p.len ≡ 0) where
-  blank : (b : Bool) → b ≡ leb p.at (length t) → textOfSpan t p ≡ pick b [] (0 ∷ [])
-  unfolding textOfSpan
+  blank : (b : Bool) → b ≡ leb p.at (length t) → text_of_span t p ≡ pick b [] (0 ∷ [])
+  unfolding text_of_span
   blank b g = let s : p.at + p.len ≡ p.at = omega arith in rw (s, e, g)
 
-  pub name-blank : (r : Bool) → r ≡ leb p.at (length t) → r ≡ nameProper (textOfSpan t p)
-  unfolding nameProper all isText pick
+  pub name-blank : (r : Bool) → r ≡ leb p.at (length t) → r ≡ name_proper (text_of_span t p)
+  unfolding name_proper all is_text pick
   name-blank true g = rw (blank true g)
   name-blank false g = rw (blank false g)
 
-  pub part-blank : (r : Bool) → r ≡ leb p.at (length t) → r ≡ partProper (textOfSpan t p)
-  unfolding partProper nameProper lacks seek all isText pick
+  pub part-blank : (r : Bool) → r ≡ leb p.at (length t) → r ≡ part_proper (text_of_span t p)
+  unfolding part_proper name_proper lacks seek all is_text pick
   part-blank true g = rw (blank true g)
   part-blank false g = rw (blank false g)
 
@@ -72,34 +72,34 @@ pub ruleset places = (name_out, part_out, name-there, part-there, name-blank, pa
 
 -- together the three are the item's test
 stages : (k : ℕ) (single : Bool) (sum : ℕ) (t : List ℕ) (x : ItemRow) (rest : Verdict)
-    → moneyProper k single sum x (symbolsProper k x (textsProper k t x rest)) ≡ itemProper k single sum (item_of t x) rest
-unfolding itemProper partsFrom moneyProper symbolsProper textsProper
+    → money_proper k single sum x (symbols_proper k x (texts_proper k t x rest)) ≡ item_proper k single sum (item_of t x) rest
+unfolding item_proper parts_from money_proper symbols_proper texts_proper
 stages k single sum t x rest = refl
 
 module _ (t : List ℕ) (x : ItemRow) (single : Bool) (sum : ℕ) where
   -- the reference's test, and all of them
   abbrev referred : ℕ → Verdict → Verdict
-  referred k rest = check k 21 (referenceProper x.reference) rest
+  referred k rest = check k 21 (reference_proper x.reference) rest
 
   abbrev whole : ℕ → Verdict → Verdict
-  whole k rest = itemProper k single sum (item_of t x) (referred k rest)
+  whole k rest = item_proper k single sum (item_of t x) (referred k rest)
 
-  module _ (m : Check) (money : (k : ℕ) (rest : Verdict) → after k m rest ≡ moneyProper k single sum x rest) where
+  module _ (m : Check) (money : (k : ℕ) (rest : Verdict) → after k m rest ≡ money_proper k single sum x rest) where
     -- what a stage's test says is what the item's says, where those before it passed
-    on-money : (k : ℕ) (rest : Verdict) → after k m (symbolsProper k x (textsProper k t x (referred k rest))) ≡ whole k rest
+    on-money : (k : ℕ) (rest : Verdict) → after k m (symbols_proper k x (texts_proper k t x (referred k rest))) ≡ whole k rest
     on-money k rest = money k _ ∙ stages k single sum t x (referred k rest)
 
     pub money-wrong : (n : ℕ) → m ≡ Wrong n → ItemTested t x single sum (Wrong n)
     money-wrong n h = record { same = λ k rest. rw h at (on-money k rest) }
 
-    module _ (h : m ≡ Fine) (s : Check) (symbols : (k : ℕ) (rest : Verdict) → after k s rest ≡ symbolsProper k x rest) where
-      on-symbols : (k : ℕ) (rest : Verdict) → after k s (textsProper k t x (referred k rest)) ≡ whole k rest
+    module _ (h : m ≡ Fine) (s : Check) (symbols : (k : ℕ) (rest : Verdict) → after k s rest ≡ symbols_proper k x rest) where
+      on-symbols : (k : ℕ) (rest : Verdict) → after k s (texts_proper k t x (referred k rest)) ≡ whole k rest
       on-symbols k rest = symbols k _ ∙ rw h at (on-money k rest)
 
       pub symbols-wrong : (n : ℕ) → s ≡ Wrong n → ItemTested t x single sum (Wrong n)
       symbols-wrong n g = record { same = λ k rest. rw g at (on-symbols k rest) }
 
-      module _ (g : s ≡ Fine) (l : Check) (texts : (k : ℕ) (rest : Verdict) → after k l rest ≡ textsProper k t x rest) where
+      module _ (g : s ≡ Fine) (l : Check) (texts : (k : ℕ) (rest : Verdict) → after k l rest ≡ texts_proper k t x rest) where
         on_texts : (k : ℕ) (rest : Verdict) → after k l (referred k rest) ≡ whole k rest
         on_texts k rest = texts k _ ∙ rw g at (on-symbols k rest)
 

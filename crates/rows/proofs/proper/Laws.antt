@@ -10,19 +10,19 @@ use borrow.Author.Tests.{ltb-true, leb-true}
 use Rattle.base.specs.Pick.{pick}
 use Rattle.base.specs.Seek.{all}
 use Rattle.base.proofs.Cases.{by-test, pick-false, pick-both, pick-not}
-use Rattle.paper.specs.Bytes.{isText}
-use Rattle.paper.specs.Amounts.{amountProper}
-use Rattle.paper.specs.BankField.{bankProper, priorityProper}
-use Rattle.paper.specs.Texts.{partProper, nameProper}
+use Rattle.paper.specs.Bytes.{is_text}
+use Rattle.paper.specs.Amounts.{amount_proper}
+use Rattle.paper.specs.BankField.{bank_proper, priority_proper}
+use Rattle.paper.specs.Texts.{part_proper, name_proper}
 use Rattle.paper.specs.Batch.{most14}
-use Rattle.paper.specs.Proper.{Verdict, fine, check, partsFrom, itemProper}
-use Rattle.paper.specs.Rows.{referenceProper}
+use Rattle.paper.specs.Proper.{Verdict, fine, check, parts_from, item_proper}
+use Rattle.paper.specs.Rows.{reference_proper}
 use Rattle.paper.proofs.Verdicts.{check-only, name-short}
 use Rattle.text.specs.declared.span.Span.{Span}
 use Rattle.rows.specs.declared.read.Check.{Check}
 use Rattle.rows.specs.declared.read.Check.TheVariants.{Fine}
 use Rattle.rows.specs.declared.read.ItemRow.{ItemRow}
-use Rattle.rows.specs.read.Told.{textOfSpan, item_of}
+use Rattle.rows.specs.read.Told.{text_of_span, item_of}
 use Rattle.text.specs.span.Held.{Within}
 use Rattle.rows.specs.read.Sized.{Sized}
 use Rattle.rows.specs.proper.Stages.{ItemTested}
@@ -31,14 +31,14 @@ use Rattle.rows.proofs.read.Laws.{text-within}
 -- ---- a text
 
 -- the byte that stands for a text outside is none
-no_name : nameProper (0 ∷ []) ≡ false
-unfolding nameProper all isText pick
+no_name : name_proper (0 ∷ []) ≡ false
+unfolding name_proper all is_text pick
 no_name = refl
 
 module _ (t : List ℕ) (p : Span) where
-  pub name_in : nameProper (textOfSpan t p) ≡ true → Within t p × (p.len ≤ 35)
-  unfolding textOfSpan
-  name_in e =
+  pub name-in : name_proper (text_of_span t p) ≡ true → Within t p × (p.len ≤ 35)
+  unfolding text_of_span
+  name-in e =
       by-test (leb (p.at + p.len) (length t))
       (λ h.
       let w : Within t p = leb-true _ _ h in
@@ -46,22 +46,22 @@ module _ (t : List ℕ) (p : Span) where
       (w, omega (arith, length-take p.len (drop p.at t), length-drop p.at t)))
       (λ h. absurd (let z = rw (pick-false (take p.len (drop p.at t)) (0 ∷ []) h, no_name) at e in let y : ◌≡◌ {A = ℕ} 0 1 = cc in omega arith))
 
-  pub part_in : partProper (textOfSpan t p) ≡ true → Within t p × (p.len ≤ 35)
-  unfolding partProper
-  part_in e = name_in (pick-both _ _ e).0
+  pub part_in : part_proper (text_of_span t p) ≡ true → Within t p × (p.len ≤ 35)
+  unfolding part_proper
+  part_in e = name-in (pick-both _ _ e).0
 
 -- ---- an amount
 
-pub amount-low : (max v : ℕ) (r : Bool) → r ≡ amountProper max v → r ≡ true → v ≤ max
-unfolding amountProper
+pub amount-low : (max v : ℕ) (r : Bool) → r ≡ amount_proper max v → r ≡ true → v ≤ max
+unfolding amount_proper
 amount-low max v r e h = leb-true v max (pick-not (ltb v 1) (leb v max) (sym e ∙ h)).1
 
 -- ---- an item
 
 module _ (t : List ℕ) (x : ItemRow) (single : Bool) (sum : ℕ) where
   -- where all passes, so does what is tested behind the item
-  pub item-sized : (k : ℕ) (rest : Verdict) → itemProper k single sum (item_of t x) rest ≡ fine → Sized t x × (sum + x.amount ≤ most14) × (rest ≡ fine)
-  unfolding itemProper partsFrom amountProper bankProper priorityProper
+  pub item-sized : (k : ℕ) (rest : Verdict) → item_proper k single sum (item_of t x) rest ≡ fine → Sized t x × (sum + x.amount ≤ most14) × (rest ≡ fine)
+  unfolding item_proper parts_from amount_proper bank_proper priority_proper
   item-sized k rest e =
       let a = check-only k 1 _ _ e in
       let b = check-only k 3 _ _ a.1 in
@@ -81,7 +81,7 @@ module _ (t : List ℕ) (x : ItemRow) (single : Bool) (sum : ℕ) where
       let q2 = part_in t x.part2 p2.0 in
       let q3 = part_in t x.part3 p3.0 in
       let q4 = part_in t x.part4 p4.0 in
-      let q5 = name_in t x.name n.0 in
+      let q5 = name-in t x.name n.0 in
       let variable = ltb-true x.variable 10000000000 f.0 in
       let specific = ltb-true x.specific 10000000000 g.0 in
       let constant = ltb-true x.constant 10000 h.0 in (
@@ -105,11 +105,11 @@ module _ (t : List ℕ) (x : ItemRow) (single : Bool) (sum : ℕ) where
 
   -- as the code tells it, of a row that passed all tests
   module _ (r : Check) (tested : ItemTested t x single sum r) (e : r ≡ Fine) where
-    passed : Sized t x × (sum + x.amount ≤ most14) × (check 0 21 (referenceProper x.reference) fine ≡ fine)
+    passed : Sized t x × (sum + x.amount ≤ most14) × (check 0 21 (reference_proper x.reference) fine ≡ fine)
     passed = item-sized 0 _ (sym ((rw e at tested.same) 0 fine))
 
     pub sized-when : Sized t x × (sum + x.amount ≤ most14)
     sized-when = (passed.0, passed.1)
 
-    pub numbered-when : referenceProper x.reference ≡ true
+    pub numbered-when : reference_proper x.reference ≡ true
     numbered-when = (check-only 0 21 _ _ passed.2).0

@@ -10,7 +10,7 @@ use borrow.Author.Tests.{le-leb, lt-leb, leb-true}
 use Rattle.base.proofs.Cases.{pick_true, by-lt}
 use Rattle.base.proofs.Lists.{drop-take}
 use Rattle.text.specs.declared.span.Span.{Span}
-use Rattle.rows.specs.read.Told.{textOfSpan}
+use Rattle.rows.specs.read.Told.{text_of_span}
 use Rattle.text.specs.span.Held.{Within}
 
 -- the lent bytes up to a place, as the code cuts them, from another place on
@@ -18,19 +18,19 @@ pub upto_is : (t : List ℕ) (from to : ℕ) → drop from (take (to - 0) (drop 
 upto_is t from to = let e : to - 0 ≡ to = omega arith in rw (e, drop-take from to t)
 
 module _ (t : List ℕ) (p : Span) where
-  pub text_in : leb (p.at + p.len) (length t) ≡ true → textOfSpan t p ≡ take p.len (drop p.at t)
-  unfolding textOfSpan
-  text_in e = pick_true _ _ e
+  pub text-in : leb (p.at + p.len) (length t) ≡ true → text_of_span t p ≡ take p.len (drop p.at t)
+  unfolding text_of_span
+  text-in e = pick_true _ _ e
 
-  pub text-within : Within t p → textOfSpan t p ≡ take p.len (drop p.at t)
-  text-within h = text_in (le-leb _ _ h)
+  pub text-within : Within t p → text_of_span t p ≡ take p.len (drop p.at t)
+  text-within h = text-in (le-leb _ _ h)
 
   -- as the code cuts it
-  pub cut-is : Within t p → take (p.at + p.len - p.at) (drop p.at t) ≡ textOfSpan t p
+  pub cut-is : Within t p → take (p.at + p.len - p.at) (drop p.at t) ≡ text_of_span t p
   cut-is h = let e : p.at + p.len - p.at ≡ p.len = omega arith in rw e (sym (text-within h))
 
   -- .. with all that is lent before it
-  pub front-is : Within t p → drop p.at (take (p.at + p.len - 0) (drop 0 t)) ≡ textOfSpan t p
+  pub front-is : Within t p → drop p.at (take (p.at + p.len - 0) (drop 0 t)) ≡ text_of_span t p
   front-is h = upto_is t p.at (p.at + p.len) ∙ cut-is h
 
 -- the code's test, which adds nothing

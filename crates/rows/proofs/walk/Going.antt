@@ -9,16 +9,16 @@ use lib.ListN.{length, drop}
 use Rattle.base.specs.Pick.{pick}
 use Rattle.paper.specs.Batch.{most14}
 use Rattle.paper.specs.Proper as paper
-use Rattle.paper.specs.Proper.{fine, wrong, check, mayStop, rowsProper, batchProper, atTop}
+use Rattle.paper.specs.Proper.{fine, wrong, check, may_stop, rows_proper, batch_proper, at_top}
 use Rattle.paper.specs.Words.{words}
-use Rattle.paper.specs.Rows.{rowsIn, thingIn, thingsIn}
+use Rattle.paper.specs.Rows.{rows_in, thing_in, things_in}
 use Rattle.rows.specs.declared.read.RowRead.{RowRead}
 use Rattle.rows.specs.declared.walk.Before.{Before}
 use Rattle.rows.specs.declared.walk.Walk.{Walk}
 use Rattle.rows.specs.declared.walk.Walk.TheVariants.{On, Wrong}
-use Rattle.rows.specs.list.From.{thingsFrom}
+use Rattle.rows.specs.list.From.{things_from}
 use Rattle.rows.specs.read.Told.{told}
-use Rattle.rows.specs.walk.Walks.{beforeOf, walked, Walks}
+use Rattle.rows.specs.walk.Walks.{before_of, walked, Walks}
 use Rattle.rows.proofs.list.From.{things-step, things-end, things-rest}
 use Rattle.rows.proofs.walk.Passed.{walk-sum, walks-on}
 
@@ -27,10 +27,10 @@ pub record Going (texts rows : List ℕ) (at k : ℕ) (b : Before) : Type 0 wher
   pub inside : at ≤ length rows
   pub row : at + 192 ≡ 192 * k
   pub low : b.sum ≤ most14
-  pub same : rowsProper k (beforeOf b) (thingsFrom texts rows at) ≡ batchProper (thingsIn texts (rowsIn rows))
+  pub same : rows_proper k (before_of b) (things_from texts rows at) ≡ batch_proper (things_in texts (rows_in rows))
 
-pub going_start : (texts rows : List ℕ) (b : Before) → beforeOf b ≡ atTop → Going texts rows 0 1 b
-unfolding batchProper
+pub going_start : (texts rows : List ℕ) (b : Before) → before_of b ≡ at_top → Going texts rows 0 1 b
+unfolding batch_proper
 going_start texts rows b e =
     record {
       inside = omega arith;
@@ -41,12 +41,12 @@ going_start texts rows b e =
 
 module _ {texts rows : List ℕ} {at k : ℕ} {b : Before} (going : Going texts rows at k b) where
   -- the row that was read leads to r
-  module _ (test : 192 ≤ length rows - at) (row : RowRead) (read : (t : List ℕ) → told t row ≡ thingIn t (words 24 (drop at rows)))
+  module _ (test : 192 ≤ length rows - at) (row : RowRead) (read : (t : List ℕ) → told t row ≡ thing_in t (words 24 (drop at rows)))
       (r : Walk) (walks : Walks b (told texts row) r) where
     room : at + 192 ≤ length rows
     room = omega (arith, going.inside)
 
-    verdict : walked k r (thingsFrom texts rows (at + 192)) ≡ batchProper (thingsIn texts (rowsIn rows))
+    verdict : walked k r (things_from texts rows (at + 192)) ≡ batch_proper (things_in texts (rows_in rows))
     verdict = walks.same k _ ∙ (rw (read texts, ← things-step rows at texts room) going.same)
 
     pub going_on : (next : Before) → r ≡ On next → Going texts rows (at + 192) (k + 1) next
@@ -58,25 +58,25 @@ module _ {texts rows : List ℕ} {at k : ℕ} {b : Before} (going : Going texts 
           same = rw (add-one k) (rw e at verdict);
         }
 
-    pub going-wrong : (field : ℕ) → r ≡ Wrong field → wrong k field ≡ batchProper (thingsIn texts (rowsIn rows))
+    pub going-wrong : (field : ℕ) → r ≡ Wrong field → wrong k field ≡ batch_proper (things_in texts (rows_in rows))
     going-wrong field e = rw e at verdict
 
   -- bytes that are no whole row
-  pub going-rest : at < length rows → length rows - at < 192 → wrong k 0 ≡ batchProper (thingsIn texts (rowsIn rows))
-  unfolding rowsProper
+  pub going-rest : at < length rows → length rows - at < 192 → wrong k 0 ≡ batch_proper (things_in texts (rows_in rows))
+  unfolding rows_proper
   going-rest p q = rw (things-rest rows at texts p (omega arith)) at going.same
 
   -- behind the last row
-  module _ (p : length rows ≤ at) (stop : Bool) (may : stop ≡ mayStop (beforeOf b).stage) where
-    at-end : check k 0 stop fine ≡ batchProper (thingsIn texts (rowsIn rows))
-    unfolding rowsProper
+  module _ (p : length rows ≤ at) (stop : Bool) (may : stop ≡ may_stop (before_of b).stage) where
+    at-end : check k 0 stop fine ≡ batch_proper (things_in texts (rows_in rows))
+    unfolding rows_proper
     at-end = rw (things-end rows at texts p, ← may) at going.same
 
-    pub going-stop : stop ≡ true → fine ≡ batchProper (thingsIn texts (rowsIn rows))
+    pub going-stop : stop ≡ true → fine ≡ batch_proper (things_in texts (rows_in rows))
     unfolding check pick
     going-stop e = rw e at at-end
 
-    pub going-missing : stop ≡ false → wrong k 0 ≡ batchProper (thingsIn texts (rowsIn rows))
+    pub going-missing : stop ≡ false → wrong k 0 ≡ batch_proper (things_in texts (rows_in rows))
     unfolding check pick
     going-missing e = rw e at at-end
 

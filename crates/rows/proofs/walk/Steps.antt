@@ -8,12 +8,12 @@ use lib.Dec.{ltb}
 use borrow.Author.Tests.{ltb-true, not-false}
 use Rattle.base.specs.Pick.{pick}
 use Rattle.base.proofs.Cases.{by-test, pick-both}
-use Rattle.paper.specs.Days.{realDay}
-use Rattle.paper.specs.Accounts.{Account, account, isNobody}
-use Rattle.paper.specs.Batch.{Thing, aFile, aGroup}
+use Rattle.paper.specs.Days.{real_day}
+use Rattle.paper.specs.Accounts.{Account, account, is_nobody}
+use Rattle.paper.specs.Batch.{Thing, a_file, a_group}
 use Rattle.paper.specs.Proper as paper
-use Rattle.paper.specs.Proper.{Verdict, check, fileDue, groupDue, itemDue, kindProper, payerProper, afterItem, itemStands, rowsProper}
-use Rattle.paper.specs.Rows.{referenceProper}
+use Rattle.paper.specs.Proper.{Verdict, check, file_due, group_due, item_due, kind_proper, payer_proper, after_item, item_stands, rows_proper}
+use Rattle.paper.specs.Rows.{reference_proper}
 use Rattle.rows.specs.declared.read.Check.{Check}
 use Rattle.rows.specs.declared.read.Check.TheVariants as answer
 use Rattle.rows.specs.declared.read.ItemRow.{ItemRow}
@@ -24,9 +24,9 @@ use Rattle.rows.specs.declared.walk.Before.{Before}
 use Rattle.rows.specs.declared.walk.Walk.{Walk}
 use Rattle.rows.specs.declared.walk.Walk.TheVariants.{On, Wrong}
 use Rattle.rows.specs.read.After.{after}
-use Rattle.rows.specs.read.Told.{told, item_of, toldItem}
+use Rattle.rows.specs.read.Told.{told, item_of, told_item}
 use Rattle.rows.specs.proper.Stages.{ItemTested}
-use Rattle.rows.specs.walk.Walks.{stageOf, beforeOf, Walks}
+use Rattle.rows.specs.walk.Walks.{stage_of, before_of, Walks}
 use Rattle.rows.proofs.read.Fields.{passes, fails}
 use Rattle.rows.proofs.proper.Laws.{sized-when, numbered-when}
 
@@ -34,53 +34,53 @@ use Rattle.rows.proofs.proper.Laws.{sized-when, numbered-when}
 
 -- ---- an account file
 
-module _ (b : Before) (kind number : ℕ) (t : Bool) (due : t ≡ pick (fileDue (stageOf b.stage)) (ltb b.files 1000) false) where
-  pub file-late : not t ≡ true → Walks b (aFile kind number) (Wrong 0)
-  unfolding rowsProper
+module _ (b : Before) (kind number : ℕ) (t : Bool) (due : t ≡ pick (file_due (stage_of b.stage)) (ltb b.files 1000) false) where
+  pub file-late : not t ≡ true → Walks b (a_file kind number) (Wrong 0)
+  unfolding rows_proper
   file-late e = record { same = λ k ts. fails k 0 _ _ t _ due e refl; leads = tt }
 
   module _ (here : not t ≡ false) where
     pub file-fits : b.files + 1 < 18446744073709551616
     file-fits = let few = ltb-true b.files 1000 (pick-both _ _ (sym due ∙ not-false t here)).1 in omega arith
 
-    module _ (c : Check) (tested : (k : ℕ) (rest : Verdict) → after k c rest ≡ check k 1 (kindProper kind) (check k 2 (ltb number 1000000) rest)) where
-      pub file-wrong : (field : ℕ) → c ≡ answer.Wrong field → Walks b (aFile kind number) (Wrong field)
-      unfolding rowsProper
+    module _ (c : Check) (tested : (k : ℕ) (rest : Verdict) → after k c rest ≡ check k 1 (kind_proper kind) (check k 2 (ltb number 1000000) rest)) where
+      pub file-wrong : (field : ℕ) → c ≡ answer.Wrong field → Walks b (a_file kind number) (Wrong field)
+      unfolding rows_proper
       file-wrong field e = record { same = λ k ts. passes k 0 _ _ t _ due here ((rw e at tested) k _); leads = tt }
 
       pub file-on : c ≡ answer.Fine
-          → Walks b (aFile kind number) (On (record { stage = stage.NeedGroup; files = b.files + 1; items = 0; single = false; sum = 0 }))
-      unfolding rowsProper
+          → Walks b (a_file kind number) (On (record { stage = stage.NeedGroup; files = b.files + 1; items = 0; single = false; sum = 0 }))
+      unfolding rows_proper
       file-on e = record { same = λ k ts. passes k 0 _ _ t _ due here ((rw e at tested) k _); leads = refl }
 
 -- ---- a group
 
-module _ (b : Before) (date : ℕ) (payer : Account) (t : Bool) (due : t ≡ groupDue (stageOf b.stage)) where
-  pub group-late : not t ≡ true → Walks b (aGroup date payer) (Wrong 0)
-  unfolding rowsProper
+module _ (b : Before) (date : ℕ) (payer : Account) (t : Bool) (due : t ≡ group_due (stage_of b.stage)) where
+  pub group-late : not t ≡ true → Walks b (a_group date payer) (Wrong 0)
+  unfolding rows_proper
   group-late e = record { same = λ k ts. fails k 0 _ _ t _ due e refl; leads = tt }
 
-  module _ (here : not t ≡ false) (c : Check) (tested : (k : ℕ) (rest : Verdict) → after k c rest ≡ check k 1 (realDay date) (check k 2 (payerProper payer) rest)) where
-    pub group-wrong : (field : ℕ) → c ≡ answer.Wrong field → Walks b (aGroup date payer) (Wrong field)
-    unfolding rowsProper
+  module _ (here : not t ≡ false) (c : Check) (tested : (k : ℕ) (rest : Verdict) → after k c rest ≡ check k 1 (real_day date) (check k 2 (payer_proper payer) rest)) where
+    pub group-wrong : (field : ℕ) → c ≡ answer.Wrong field → Walks b (a_group date payer) (Wrong field)
+    unfolding rows_proper
     group-wrong field e = record { same = λ k ts. passes k 0 _ _ t _ due here ((rw e at tested) k _); leads = tt }
 
-    pub group-on : c ≡ answer.Fine → (single : Bool) → single ≡ isNobody payer
-        → Walks b (aGroup date payer) (On (record { stage = stage.NeedItem; files = b.files; items = b.items; single = single; sum = 0 }))
-    unfolding rowsProper
+    pub group-on : c ≡ answer.Fine → (single : Bool) → single ≡ is_nobody payer
+        → Walks b (a_group date payer) (On (record { stage = stage.NeedItem; files = b.files; items = b.items; single = single; sum = 0 }))
+    unfolding rows_proper
     group-on e single s = record { same = λ k ts. rw s (passes k 0 _ _ t _ due here ((rw e at tested) k _)); leads = rw s }
 
 -- ---- an item
 
 -- its reference is the last that is tested
 referred : (texts : List ℕ) (x : ItemRow) (k : ℕ) (b : paper.Before) (ts : List Thing)
-    → itemStands k b (item_of texts x) (check k 21 (referenceProper x.reference) (rowsProper (suc k) (afterItem b (item_of texts x)) ts)) ≡ rowsProper k b (toldItem texts x ∷ ts)
-unfolding rowsProper check pick
-referred texts x k b ts = by-test (referenceProper x.reference) (λ e. rw e) (λ e. rw e)
+    → item_stands k b (item_of texts x) (check k 21 (reference_proper x.reference) (rows_proper (suc k) (after_item b (item_of texts x)) ts)) ≡ rows_proper k b (told_item texts x ∷ ts)
+unfolding rows_proper check pick
+referred texts x k b ts = by-test (reference_proper x.reference) (λ e. rw e) (λ e. rw e)
 
-module _ (b : Before) (texts : List ℕ) (x : ItemRow) (t : Bool) (due : t ≡ pick (itemDue (stageOf b.stage)) (ltb b.items 99999) false) where
-  pub item-late : not t ≡ true → Walks b (toldItem texts x) (Wrong 0)
-  item-late e = record { same = λ k ts. fails k 0 _ _ t _ due e refl ∙ referred texts x k (beforeOf b) ts; leads = tt }
+module _ (b : Before) (texts : List ℕ) (x : ItemRow) (t : Bool) (due : t ≡ pick (item_due (stage_of b.stage)) (ltb b.items 99999) false) where
+  pub item-late : not t ≡ true → Walks b (told_item texts x) (Wrong 0)
+  item-late e = record { same = λ k ts. fails k 0 _ _ t _ due e refl ∙ referred texts x k (before_of b) ts; leads = tt }
 
   module _ (here : not t ≡ false) where
     pub item-fits : b.items + 1 < 18446744073709551616
@@ -90,15 +90,15 @@ module _ (b : Before) (texts : List ℕ) (x : ItemRow) (t : Bool) (due : t ≡ p
       pub sum_fits : c ≡ answer.Fine → b.sum + x.amount < 18446744073709551616
       sum_fits e = omega (arith, (sized-when texts x b.single b.sum c tested e).1)
 
-      pub item-wrong : (field : ℕ) → c ≡ answer.Wrong field → Walks b (toldItem texts x) (Wrong field)
-      item-wrong field e = record { same = λ k ts. passes k 0 _ _ t _ due here ((rw e at tested.same) k _) ∙ referred texts x k (beforeOf b) ts; leads = tt }
+      pub item-wrong : (field : ℕ) → c ≡ answer.Wrong field → Walks b (told_item texts x) (Wrong field)
+      item-wrong field e = record { same = λ k ts. passes k 0 _ _ t _ due here ((rw e at tested.same) k _) ∙ referred texts x k (before_of b) ts; leads = tt }
 
       pub item_on : c ≡ answer.Fine
-          → Walks b (toldItem texts x) (On (record { stage = stage.Any; files = b.files; items = b.items + 1; single = b.single; sum = b.sum + x.amount }))
+          → Walks b (told_item texts x) (On (record { stage = stage.Any; files = b.files; items = b.items + 1; single = b.single; sum = b.sum + x.amount }))
       unfolding pick
       item_on e =
           record {
-            same = λ k ts. passes k 0 _ _ t _ due here ((rw e at tested.same) k _) ∙ referred texts x k (beforeOf b) ts;
+            same = λ k ts. passes k 0 _ _ t _ due here ((rw e at tested.same) k _) ∙ referred texts x k (before_of b) ts;
             leads = rw (numbered-when texts x b.single b.sum c tested e);
           }
 
@@ -109,17 +109,17 @@ pub ruleset steps = (file-late, file-wrong, file-on, group-late, group-wrong, gr
 -- ---- a row that was read as r leads to w
 
 module _ (b : Before) (texts : List ℕ) (r : RowRead) (w : Walk) where
-  pub row-file : (kind number : ℕ) → r ≡ row.File kind number → Walks b (aFile kind number) w → Walks b (told texts r) w
+  pub row-file : (kind number : ℕ) → r ≡ row.File kind number → Walks b (a_file kind number) w → Walks b (told texts r) w
   row-file kind number e p = rw e p
 
-  pub row-group : (date prefix base : ℕ) → r ≡ row.Group date prefix base → Walks b (aGroup date (account prefix base)) w → Walks b (told texts r) w
+  pub row-group : (date prefix base : ℕ) → r ≡ row.Group date prefix base → Walks b (a_group date (account prefix base)) w → Walks b (told texts r) w
   row-group date prefix base e p = rw e p
 
-  pub row-item : (x : ItemRow) → r ≡ row.Item x → Walks b (toldItem texts x) w → Walks b (told texts r) w
+  pub row-item : (x : ItemRow) → r ≡ row.Item x → Walks b (told_item texts x) w → Walks b (told texts r) w
   row-item x e p = rw e p
 
 pub row-strange : (b : Before) (texts : List ℕ) (r : RowRead) → r ≡ row.Strange → Walks b (told texts r) (Wrong 0)
-unfolding rowsProper
+unfolding rows_proper
 row-strange b texts r e = rw e (record { same = λ k ts. refl; leads = tt })
 
 pub ruleset kinds = (row-file, row-group, row-item, row-strange)

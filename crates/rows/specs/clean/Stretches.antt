@@ -1,11 +1,11 @@
 -- Stretches of lent bytes that texts lie in. Assumes nothing.
 use Rattle.std.specs.Prelude.{◌+◌, ◌≤◌, ◌<◌, ℕ, ◌≡◌, true, List}
 use Rattle.base.specs.Seek.{all}
-use Rattle.paper.specs.Bytes.{isClean}
+use Rattle.paper.specs.Bytes.{is_clean}
 use Rattle.text.specs.declared.span.Span.{Span}
 use Rattle.rows.specs.declared.clean.Stretch.{Stretch}
 use Rattle.rows.specs.declared.read.ItemRow.{ItemRow}
-use Rattle.rows.specs.read.Told.{textOfSpan}
+use Rattle.rows.specs.read.Told.{text_of_span}
 
 -- a text lies in a stretch, if it has bytes
 abbrev pub Lies : Stretch → Span → Type 0
@@ -25,7 +25,7 @@ pub record HoldsParts (a : Stretch) (x : ItemRow) : Type 0 where
 
 -- none of them holds `#` or `~`
 pub record CleanParts (t : List ℕ) (x : ItemRow) : Type 0 where
-  pub first : all isClean (textOfSpan t x.part1) ≡ true
-  pub second : all isClean (textOfSpan t x.part2) ≡ true
-  pub third : all isClean (textOfSpan t x.part3) ≡ true
-  pub fourth : all isClean (textOfSpan t x.part4) ≡ true
+  pub first : all is_clean (text_of_span t x.part1) ≡ true
+  pub second : all is_clean (text_of_span t x.part2) ≡ true
+  pub third : all is_clean (text_of_span t x.part3) ≡ true
+  pub fourth : all is_clean (text_of_span t x.part4) ≡ true

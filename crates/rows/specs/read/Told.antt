@@ -2,9 +2,9 @@
 use Rattle.std.specs.Prelude.{ℕ, ◌+◌, List, [], ◌∷◌, leb, length, take, drop}
 use Rattle.base.specs.Pick.{pick}
 use Rattle.paper.specs.Accounts.{account}
-use Rattle.paper.specs.Batch.{Item, Thing, aFile, aGroup, anItem, misnumbered, strange}
-use Rattle.paper.specs.Rows.{referenceProper}
-use Rattle.out.specs.word.Places.{wordHere}
+use Rattle.paper.specs.Batch.{Item, Thing, a_file, a_group, an_item, misnumbered, strange}
+use Rattle.paper.specs.Rows.{reference_proper}
+use Rattle.out.specs.word.Places.{word_here}
 use Rattle.text.specs.declared.span.Span.{Span}
 use Rattle.rows.specs.declared.read.ItemRow.{ItemRow}
 use Rattle.rows.specs.declared.read.Sides.{Sides}
@@ -14,8 +14,8 @@ use Rattle.rows.specs.declared.read.RowRead.{RowRead}
 use Rattle.rows.specs.declared.read.RowRead.TheVariants.{File, Group, Item as AnItem, Strange}
 
 -- the text at a place of the lent bytes t; one that lies outside is read as a byte that is no text byte, so that its field is refused
-unfoldable pub textOfSpan : List ℕ → Span → List ℕ
-textOfSpan t p = pick (leb (p.at + p.len) (length t)) (take p.len (drop p.at t)) (0 ∷ [])
+unfoldable pub text_of_span : List ℕ → Span → List ℕ
+text_of_span t p = pick (leb (p.at + p.len) (length t)) (take p.len (drop p.at t)) (0 ∷ [])
 
 -- the item of a row
 abbrev pub item_of : List ℕ → ItemRow → Item
@@ -29,61 +29,61 @@ item_of t x =
       specific = x.specific;
       constant = x.constant;
       priority = x.priority;
-      parts = textOfSpan t x.part1 ∷ textOfSpan t x.part2 ∷ textOfSpan t x.part3 ∷ textOfSpan t x.part4 ∷ [];
-      name = textOfSpan t x.name;
+      parts = text_of_span t x.part1 ∷ text_of_span t x.part2 ∷ text_of_span t x.part3 ∷ text_of_span t x.part4 ∷ [];
+      name = text_of_span t x.name;
     }
 
 -- what an item's row says, by its reference
-abbrev pub toldItem : List ℕ → ItemRow → Thing
-toldItem t x = pick (referenceProper x.reference) (anItem (item_of t x)) (misnumbered (item_of t x))
+abbrev pub told_item : List ℕ → ItemRow → Thing
+told_item t x = pick (reference_proper x.reference) (an_item (item_of t x)) (misnumbered (item_of t x))
 
 -- what a row says
 abbrev pub told : List ℕ → RowRead → Thing
-told t (File kind number) = aFile kind number
-told t (Group date prefix base) = aGroup date (account prefix base)
-told t (AnItem x) = toldItem t x
+told t (File kind number) = a_file kind number
+told t (Group date prefix base) = a_group date (account prefix base)
+told t (AnItem x) = told_item t x
 told t Strange = strange
 
 -- ---- a row in lent bytes
 
 -- the place and the length that two words are
-abbrev pub spanHere : List ℕ → ℕ → Span
-spanHere rows at = record { at = wordHere rows at; len = wordHere rows (at + 8) }
+abbrev pub span_here : List ℕ → ℕ → Span
+span_here rows at = record { at = word_here rows at; len = word_here rows (at + 8) }
 
 -- the words of an item whose row begins at a place
-abbrev pub sidesHere : List ℕ → ℕ → Sides
-sidesHere rows at =
+abbrev pub sides_here : List ℕ → ℕ → Sides
+sides_here rows at =
     record {
-      payerprefix = wordHere rows (at + 8);
-      payerbase = wordHere rows (at + 16);
-      payeeprefix = wordHere rows (at + 24);
-      payeebase = wordHere rows (at + 32);
-      bank = wordHere rows (at + 40);
-      amount = wordHere rows (at + 48);
+      payerprefix = word_here rows (at + 8);
+      payerbase = word_here rows (at + 16);
+      payeeprefix = word_here rows (at + 24);
+      payeebase = word_here rows (at + 32);
+      bank = word_here rows (at + 40);
+      amount = word_here rows (at + 48);
     }
 
-abbrev pub symbolsHere : List ℕ → ℕ → Symbols
-symbolsHere rows at =
+abbrev pub symbols_here : List ℕ → ℕ → Symbols
+symbols_here rows at =
     record {
-      variable = wordHere rows (at + 56);
-      specific = wordHere rows (at + 64);
-      constant = wordHere rows (at + 72);
-      priority = wordHere rows (at + 80);
+      variable = word_here rows (at + 56);
+      specific = word_here rows (at + 64);
+      constant = word_here rows (at + 72);
+      priority = word_here rows (at + 80);
     }
 
-abbrev pub textsHere : List ℕ → ℕ → Texts
-textsHere rows at =
+abbrev pub texts_here : List ℕ → ℕ → Texts
+texts_here rows at =
     record {
-      part1 = spanHere rows (at + 88);
-      part2 = spanHere rows (at + 104);
-      part3 = spanHere rows (at + 120);
-      part4 = spanHere rows (at + 136);
-      name = spanHere rows (at + 152);
+      part1 = span_here rows (at + 88);
+      part2 = span_here rows (at + 104);
+      part3 = span_here rows (at + 120);
+      part4 = span_here rows (at + 136);
+      name = span_here rows (at + 152);
     }
 
 -- the item with these words
-abbrev pub itemWith : Sides → Symbols → Texts → ℕ → ItemRow
-itemWith w y t n =
+abbrev pub item_with : Sides → Symbols → Texts → ℕ → ItemRow
+item_with w y t n =
     record {
       payerprefix = w.payerprefix;
       payerbase = w.payerbase;
@@ -104,5 +104,5 @@ itemWith w y t n =
     }
 
 -- the item whose row begins at a place
-abbrev pub itemHere : List ℕ → ℕ → ItemRow
-itemHere rows at = itemWith (sidesHere rows at) (symbolsHere rows at) (textsHere rows at) (wordHere rows (at + 168))
+abbrev pub item_here : List ℕ → ℕ → ItemRow
+item_here rows at = item_with (sides_here rows at) (symbols_here rows at) (texts_here rows at) (word_here rows (at + 168))

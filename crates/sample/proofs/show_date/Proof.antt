@@ -2,7 +2,7 @@
 use borrow.Author.Rules.{rules}
 use mathlib.Core.Path.{refl}
 use Rattle.base.specs.Pick.{pick}
-use Rattle.paper.specs.Days.{realDay, monthDays, leap}
+use Rattle.paper.specs.Days.{real_day, month_days, leap}
 use Rattle.sample.proofs.show_date.Statement.{statement}
 use Rattle.sample.proofs.show_date.Tie as tie
 
@@ -13,7 +13,7 @@ limits-requires : tie.Need-limits-requires
 limits-requires c κs = search rules
 
 due-at-requires : tie.Need-due-at-requires
-unfolding realDay monthDays leap pick
+unfolding real_day month_days leap pick
 due-at-requires c κs = (search rules, refl)
 
 enum-known-n : tie.Need-enum-known-n

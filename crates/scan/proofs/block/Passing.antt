@@ -10,7 +10,7 @@ use borrow.Author.Tests.{eq-eqb}
 use Rattle.base.specs.Pick.{pick}
 use Rattle.base.specs.Seek.{all, seek}
 use Rattle.base.proofs.Seek.{all_head, all_tail, seek-over}
-use Rattle.scan.specs.block.Blocks.{isOther, Skips}
+use Rattle.scan.specs.block.Blocks.{is_other, Skips}
 
 -- ---- over the first k bytes of a text
 
@@ -20,7 +20,7 @@ all-behind p zero s h = refl
 all-behind p (suc k) [] h = refl
 all-behind p (suc k) (x ∷ s) h = simp (all_head p x (take k s) h) (all-behind p k s (all_tail p x (take k s) h))
 
-itself : (b : ℕ) → isOther b b ≡ false
+itself : (b : ℕ) → is_other b b ≡ false
 itself b = ap not (eq-eqb b b refl)
 
 -- ---- from a place of a text on
@@ -34,10 +34,10 @@ module _ (s : List ℕ) (at r : ℕ) where
   all-skipped p k = all-behind p (r - at) (drop at s) k.between ∙ ap (all p) (drops k.from)
 
   -- sought
-  pub seek-skipped : (b : ℕ) → Skips (isOther b) s at r → at + seek (b ∷ []) (drop at s) ≡ r + seek (b ∷ []) (drop r s)
+  pub seek-skipped : (b : ℕ) → Skips (is_other b) s at r → at + seek (b ∷ []) (drop at s) ≡ r + seek (b ∷ []) (drop r s)
   seek-skipped b k =
       let f = k.from in
       let l = k.inside in
-      let e = seek-over (isOther b) b (itself b) (r - at) (drop at s) (omega (arith, length-drop at s)) k.between in
+      let e = seek-over (is_other b) b (itself b) (r - at) (drop at s) (omega (arith, length-drop at s)) k.between in
       let g = ap (seek (b ∷ [])) (drops k.from) in
       omega arith

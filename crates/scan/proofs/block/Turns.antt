@@ -15,26 +15,26 @@ use Rattle.base.specs.Pick.{pick}
 use Rattle.base.specs.Seek.{all}
 use Rattle.base.proofs.Cases.{pick-false}
 use Rattle.base.proofs.Seek.{never, all_head, all_tail, all_drop, all_cons, all_append, all_weaker}
-use Rattle.paper.specs.Bytes.{isText, isClean}
-use Rattle.scan.specs.block.Blocks.{isHigh, isOther, isFar, Skips}
+use Rattle.paper.specs.Bytes.{is_text, is_clean}
+use Rattle.scan.specs.block.Blocks.{is_high, is_other, is_far, Skips}
 
 -- ---- one byte
 
-pub is-high : (x : ℕ) → 14 ≤ x → isHigh x ≡ true
+pub is-high : (x : ℕ) → 14 ≤ x → is_high x ≡ true
 is-high x h = le-leb 14 x h
 
-pub is-text : (x : ℕ) → 32 ≤ x → (x ≡ 127 → ⊥) → x < 256 → isText x ≡ true
-unfolding isText pick
+pub is-text : (x : ℕ) → 32 ≤ x → (x ≡ 127 → ⊥) → x < 256 → is_text x ≡ true
+unfolding is_text pick
 is-text x l n h = rw (le-ltb x 32 l, ne_eqb x 127 n, le-leb x 255 (omega arith))
 
-pub is-clean : (x : ℕ) → (x ≡ 35 → ⊥) → (x ≡ 126 → ⊥) → isClean x ≡ true
-unfolding isClean
+pub is-clean : (x : ℕ) → (x ≡ 35 → ⊥) → (x ≡ 126 → ⊥) → is_clean x ≡ true
+unfolding is_clean
 is-clean x h t = pick-false _ _ (ne_eqb x 35 h) ∙ ap not (ne_eqb x 126 t)
 
-pub is-other : (b x : ℕ) → (x ≡ b → ⊥) → isOther b x ≡ true
+pub is-other : (b x : ℕ) → (x ≡ b → ⊥) → is_other b x ≡ true
 is-other b x n = simp (ne_eqb x b n)
 
-pub is-far : (c w x : ℕ) → w < bit_xor x c → isFar c w x ≡ true
+pub is-far : (c w x : ℕ) → w < bit_xor x c → is_far c w x ≡ true
 is-far c w x l = lt-ltb w (bit_xor x c) l
 
 -- ---- a block: the first j bytes have passed the test, if the answer is still true
@@ -60,30 +60,30 @@ module _ (p : ℕ → Bool) (s : List ℕ) (at : ℕ) where
   pass-end w j t m n h = let e : j ≡ w = omega arith in rw e at h
 
 -- bytes that are neither `#` nor `~`
-both-clean : (s : List ℕ) → all (isOther 35) s ≡ true → all (isOther 126) s ≡ true → all isClean s ≡ true
-unfolding all isClean
+both-clean : (s : List ℕ) → all (is_other 35) s ≡ true → all (is_other 126) s ≡ true → all is_clean s ≡ true
+unfolding all is_clean
 both-clean [] h t = refl
 both-clean (x ∷ s) h t =
-    all_cons isClean x s
-    (pick-false _ _ (not-true _ (all_head (isOther 35) x s h)) ∙ all_head (isOther 126) x s t)
-    (both-clean s (all_tail (isOther 35) x s h) (all_tail (isOther 126) x s t))
+    all_cons is_clean x s
+    (pick-false _ _ (not-true _ (all_head (is_other 35) x s h)) ∙ all_head (is_other 126) x s t)
+    (both-clean s (all_tail (is_other 35) x s h) (all_tail (is_other 126) x s t))
 
 -- .. by two answers, the second of which is asked for where the first is true
-pub clean-both : (s : List ℕ) (t u : Bool) → (t ≡ true → all (isOther 35) s ≡ true) → t ≡ true → (u ≡ true → all (isOther 126) s ≡ true)
-    → u ≡ true → all isClean s ≡ true
+pub clean-both : (s : List ℕ) (t u : Bool) → (t ≡ true → all (is_other 35) s ≡ true) → t ≡ true → (u ≡ true → all (is_other 126) s ≡ true)
+    → u ≡ true → all is_clean s ≡ true
 clean-both s t u h e k f = both-clean s (h e) (k f)
 
-pub clean-not : (s : List ℕ) → false ≡ true → all isClean s ≡ true
+pub clean-not : (s : List ℕ) → false ≡ true → all is_clean s ≡ true
 clean-not s e = never (sym e)
 
 -- the last bytes of a text, if they reach back to a place
 pub clean_end : (s : List ℕ) (from : ℕ) (t : Bool) → 64 ≤ length s → length s - 64 ≤ from
-    → (t ≡ true → all isClean (take 64 (drop (length s - 64) s)) ≡ true) → t ≡ true → all isClean (drop from s) ≡ true
+    → (t ≡ true → all is_clean (take 64 (drop (length s - 64) s)) ≡ true) → t ≡ true → all is_clean (drop from s) ≡ true
 clean_end s from t l r h e =
     let at = length s - 64 in
     let k : at + (from - at) ≡ from = omega arith in
-    let c : all isClean (drop at s) ≡ true = rw (take_all 64 (drop at s) (omega (arith, length-drop at s))) at (h e) in
-    rw (drop-drop (from - at) at s, k) at (all_drop isClean (from - at) (drop at s) c)
+    let c : all is_clean (drop at s) ≡ true = rw (take_all 64 (drop at s) (omega (arith, length-drop at s))) at (h e) in
+    rw (drop-drop (from - at) at s, k) at (all_drop is_clean (from - at) (drop at s) c)
 
 pub ruleset cleans = (clean-both, clean-not)
 
@@ -150,21 +150,21 @@ module _ (p : ℕ → Bool) (s : List ℕ) (at : ℕ) where
     near-one l h = skip_by i 1 k (omega arith) (rw (drop-cons s i 0 l) (all_cons p (get_or s i 0) [] h refl))
 
 -- on, by bytes far from what ends lines, or from one byte
-far-high : (x : ℕ) → isFar 0 13 x ≡ true → isHigh x ≡ true
+far-high : (x : ℕ) → is_far 0 13 x ≡ true → is_high x ≡ true
 far-high x h = let l : 13 < x = rw (xor_zero_r x) at (ltb-true 13 (bit_xor x 0) h) in is-high x (omega arith)
 
-far-other : (b x : ℕ) → isFar b 0 x ≡ true → isOther b x ≡ true
+far-other : (b x : ℕ) → is_far b 0 x ≡ true → is_other b x ≡ true
 far-other b x h = is-other b x (λ e. never (sym h ∙ ap (λ (y : ℕ). ltb 0 (bit_xor y b)) e ∙ ap (ltb 0) (xor_self b)))
 
 weaker : (p q : ℕ → Bool) → ((x : ℕ) → p x ≡ true → q x ≡ true) → (s : List ℕ) (at r : ℕ) → Skips p s at r → Skips q s at r
 weaker p q h s at r k = record { from = k.from; inside = k.inside; between = all_weaker p q h (take (r - at) (drop at s)) k.between }
 
 module _ (s : List ℕ) (at i r : ℕ) where
-  pub near-high : Skips isHigh s at i → Skips (isFar 0 13) s i r → Skips isHigh s at r
-  near-high k n = skip-then isHigh s at i r k (weaker (isFar 0 13) isHigh far-high s i r n)
+  pub near-high : Skips is_high s at i → Skips (is_far 0 13) s i r → Skips is_high s at r
+  near-high k n = skip-then is_high s at i r k (weaker (is_far 0 13) is_high far-high s i r n)
 
-  pub near-other : (b : ℕ) → Skips (isOther b) s at i → Skips (isFar b 0) s i r → Skips (isOther b) s at r
-  near-other b k n = skip-then (isOther b) s at i r k (weaker (isFar b 0) (isOther b) (far-other b) s i r n)
+  pub near-other : (b : ℕ) → Skips (is_other b) s at i → Skips (is_far b 0) s i r → Skips (is_other b) s at r
+  near-other b k n = skip-then (is_other b) s at i r k (weaker (is_far b 0) (is_other b) (far-other b) s i r n)
 
 pub ruleset skip-near = (near-high, near-other)
 

@@ -12,8 +12,8 @@ use Rattle.base.specs.Pick.{pick}
 use Rattle.base.specs.Seek.{all}
 use Rattle.base.proofs.Cases.{by-test, by-lt}
 use Rattle.base.proofs.Seek.{never, all_cons, all_append, all_weaker}
-use Rattle.paper.specs.Lines.{startsLF, ended, behind, lines_of, lines_from}
-use Rattle.scan.specs.block.Blocks.{isHigh, Skips}
+use Rattle.paper.specs.Lines.{starts_lf, ended, behind, lines_of, lines_from}
+use Rattle.scan.specs.block.Blocks.{is_high, Skips}
 use Rattle.scan.specs.declared.line.Cut.{Cut}
 use Rattle.scan.specs.line.Cutting.{is_plain, Cuts}
 use Rattle.scan.proofs.line.Plain.{high-plain}
@@ -24,7 +24,7 @@ cut_at e n = record { stop = e; next = n }
 
 -- ---- what one byte of the file does
 
-begins-lf : (f : List ℕ) (i : ℕ) → startsLF (drop i f) ≡ true → (i < length f) × (get_or f i 0 ≡ 10)
+begins-lf : (f : List ℕ) (i : ℕ) → starts_lf (drop i f) ≡ true → (i < length f) × (get_or f i 0 ≡ 10)
 begins-lf f i e =
     by-lt i (length f)
     (λ l. (l, eqb-true (get_or f i 0) 10 (rw (drop-cons f i 0 l) at e)))
@@ -35,19 +35,19 @@ unfolding lines_from lines_of pick
 from-lf f i l e = rw (add-one, drop-cons f i 0 l, e)
 
 -- where the next line starts behind a CR at i
-abbrev pub pastCR : List ℕ → ℕ → ℕ
-pastCR f i = pick (startsLF (drop (i + 1) f)) (i + 2) (i + 1)
+abbrev pub past_cr : List ℕ → ℕ → ℕ
+past_cr f i = pick (starts_lf (drop (i + 1) f)) (i + 2) (i + 1)
 
 module _ (f : List ℕ) (i : ℕ) where
-  pub behind-lf : i + 1 < length f → get_or f (i + 1) 0 ≡ 10 → i + 1 + 1 ≡ pastCR f i
+  pub behind-lf : i + 1 < length f → get_or f (i + 1) 0 ≡ 10 → i + 1 + 1 ≡ past_cr f i
   unfolding pick
   behind-lf l e = rw (drop-cons f (i + 1) 0 l, e) (omega arith)
 
-  pub behind-other : i + 1 < length f → (get_or f (i + 1) 0 ≡ 10 → ⊥) → i + 1 ≡ pastCR f i
+  pub behind-other : i + 1 < length f → (get_or f (i + 1) 0 ≡ 10 → ⊥) → i + 1 ≡ past_cr f i
   unfolding pick
   behind-other l n = rw (drop-cons f (i + 1) 0 l, ne_eqb _ _ n)
 
-  pub behind-none : length f ≤ i + 1 → i + 1 ≡ pastCR f i
+  pub behind-none : length f ≤ i + 1 → i + 1 ≡ past_cr f i
   unfolding pick
   behind-none h = rw (drop_of_length-le f h)
 
@@ -59,21 +59,21 @@ record Ends (f : List ℕ) (i n : ℕ) : Type 0 where
   more : i < n
   room : n ≤ length f
 
-from-cr : (f : List ℕ) (i : ℕ) → i < length f → get_or f i 0 ≡ 13 → lines_from f i ≡ pick (startsLF (drop (i + 1) f)) (behind i (lines_from f (i + 1))) (ended i (lines_from f (i + 1)))
+from-cr : (f : List ℕ) (i : ℕ) → i < length f → get_or f i 0 ≡ 13 → lines_from f i ≡ pick (starts_lf (drop (i + 1) f)) (behind i (lines_from f (i + 1))) (ended i (lines_from f (i + 1)))
 unfolding lines_from lines_of pick
 from-cr f i l e = rw (add-one, drop-cons f i 0 l, e)
 
-ends-cr : (f : List ℕ) (i : ℕ) → i < length f → get_or f i 0 ≡ 13 → Ends f i (pastCR f i)
+ends-cr : (f : List ℕ) (i : ℕ) → i < length f → get_or f i 0 ≡ 13 → Ends f i (past_cr f i)
 unfolding pick
-ends-cr f i l e = by-test (startsLF (drop (i + 1) f)) (λ t. simp t (two t)) (λ t. simp t (one t))
+ends-cr f i l e = by-test (starts_lf (drop (i + 1) f)) (λ t. simp t (two t)) (λ t. simp t (one t))
   where
-    two : startsLF (drop (i + 1) f) ≡ true → Ends f i (i + 2)
+    two : starts_lf (drop (i + 1) f) ≡ true → Ends f i (i + 2)
     two t =
         let (m, d) = begins-lf f (i + 1) t in
         let far : i + 1 + 1 ≡ i + 2 = omega arith in
         record { here = from-cr f i l e ∙ rw (t, from-lf f (i + 1) m d, far); more = omega arith; room = omega arith }
 
-    one : startsLF (drop (i + 1) f) ≡ false → Ends f i (i + 1)
+    one : starts_lf (drop (i + 1) f) ≡ false → Ends f i (i + 1)
     one t = record { here = from-cr f i l e ∙ rw t; more = omega arith; room = omega arith }
 
 -- ---- what has been read
@@ -83,11 +83,11 @@ abbrev pub Passed : List ℕ → ℕ → ℕ → Type 0
 Passed f at i = (at ≤ i) × (i ≤ length f) × (all is_plain (take (i - at) (drop at f)) ≡ true)
 
 -- bytes above 13 are
-pub passed-high : (f : List ℕ) (at i : ℕ) → Skips isHigh f at i → Passed f at i
+pub passed-high : (f : List ℕ) (at i : ℕ) → Skips is_high f at i → Passed f at i
 passed-high f at i k = (
   k.from,
   k.inside,
-  all_weaker isHigh is_plain (λ b h. high-plain b (omega (arith, leb-true 14 b h))) (take (i - at) (drop at f)) k.between,
+  all_weaker is_high is_plain (λ b h. high-plain b (omega (arith, leb-true 14 b h))) (take (i - at) (drop at f)) k.between,
 )
 
 pub passed-more : (f : List ℕ) (at i : ℕ) → Passed f at i → i < length f → is_plain (get_or f i 0) ≡ true → Passed f at (i + 1)
@@ -120,7 +120,7 @@ module _ (f : List ℕ) (at i : ℕ) (inv : Passed f at i) where
   pub cut-lf : i < length f → get_or f i 0 ≡ 10 → Cuts f at (cut_at i (i + 1))
   cut-lf l e = ended_at (i + 1) (record { here = from-lf f i l e; more = omega arith; room = omega arith })
 
-  pub cut-cr : (n : ℕ) → i < length f → get_or f i 0 ≡ 13 → n ≡ pastCR f i → Cuts f at (cut_at i n)
+  pub cut-cr : (n : ℕ) → i < length f → get_or f i 0 ≡ 13 → n ≡ past_cr f i → Cuts f at (cut_at i n)
   cut-cr n l e q = ended_at n (rw q (ends-cr f i l e))
 
   -- the last line, which lacks its end

@@ -13,7 +13,7 @@ use Rattle.base.specs.Seek.{starts, seek}
 use Rattle.base.proofs.Cases.{by-test}
 use Rattle.base.proofs.Seek.{seek-here, seek-next, seek-end, seek-within}
 use Rattle.paper.specs.Bytes.{space}
-use Rattle.paper.specs.GroupLine.{spaceCount}
+use Rattle.paper.specs.GroupLine.{space_count}
 
 -- ---- what `field_end` finds: at e the field ends, and the rest begins
 
@@ -41,21 +41,21 @@ pub ruleset turns = (hit, miss, past)
 
 -- ---- the spaces of a line, n of them before i
 
-module _ (s : List ℕ) (n i : ℕ) (inv : spaceCount s ≡ n + spaceCount (drop i s)) where
-  step : i < length s → spaceCount s ≡ n + pick (eqb (get_or s i 0) 32) (suc (spaceCount (drop (i + 1) s))) (spaceCount (drop (i + 1) s))
-  unfolding spaceCount
+module _ (s : List ℕ) (n i : ℕ) (inv : space_count s ≡ n + space_count (drop i s)) where
+  step : i < length s → space_count s ≡ n + pick (eqb (get_or s i 0) 32) (suc (space_count (drop (i + 1) s))) (space_count (drop (i + 1) s))
+  unfolding space_count
   step l = inv ∙ rw (drop-cons s i 0 l, add-one)
 
-  pub count-space : i < length s → get_or s i 0 ≡ 32 → spaceCount s ≡ n + 1 + spaceCount (drop (i + 1) s)
+  pub count-space : i < length s → get_or s i 0 ≡ 32 → space_count s ≡ n + 1 + space_count (drop (i + 1) s)
   unfolding pick
   count-space l e = let h = rw (eq-eqb _ _ e) at (step l) in omega arith
 
-  pub count-other : i < length s → (get_or s i 0 ≡ 32 → ⊥) → spaceCount s ≡ n + spaceCount (drop (i + 1) s)
+  pub count-other : i < length s → (get_or s i 0 ≡ 32 → ⊥) → space_count s ≡ n + space_count (drop (i + 1) s)
   unfolding pick
   count-other l e = let h = rw (ne_eqb _ _ e) at (step l) in omega arith
 
-  pub count-end : length s ≤ i → n ≡ spaceCount s
-  unfolding spaceCount
+  pub count-end : length s ≤ i → n ≡ space_count s
+  unfolding space_count
   count-end h = sym (inv ∙ rw (drop_of_length-le s h) (omega arith))
 
 pub ruleset counts = (count-space, count-other, count-end)

@@ -10,7 +10,7 @@ use Rattle.base.specs.Pick.{pick}
 use Rattle.base.specs.Seek.{all}
 use Rattle.base.proofs.Cases.{by-test}
 use Rattle.base.proofs.Seek.{never, all_weaker}
-use Rattle.paper.specs.Bytes.{isText, isDigit}
+use Rattle.paper.specs.Bytes.{is_text, is_digit}
 use Rattle.scan.specs.line.Cutting.{is_plain}
 
 pub plain-lf : (b : ℕ) → is_plain b ≡ true → eqb b 10 ≡ false
@@ -30,18 +30,18 @@ pub high-plain : (b : ℕ) → 13 < b → is_plain b ≡ true
 high-plain b h = is-plain b (λ e. absurd (omega arith)) (λ e. absurd (omega arith))
 
 -- every text byte, and every digit
-pub text-plain : (b : ℕ) → isText b ≡ true → is_plain b ≡ true
-unfolding isText pick
+pub text-plain : (b : ℕ) → is_text b ≡ true → is_plain b ≡ true
+unfolding is_text pick
 text-plain b t =
     by-test (ltb b 32) (λ e. never (sym (simp e at t))) (λ e. high-plain b (omega (arith, ltb-false b 32 e)))
 
-pub digit-plain : (b : ℕ) → isDigit b ≡ true → is_plain b ≡ true
-unfolding isDigit pick
+pub digit-plain : (b : ℕ) → is_digit b ≡ true → is_plain b ≡ true
+unfolding is_digit pick
 digit-plain b t =
     by-test (ltb b 48) (λ e. never (sym (simp e at t))) (λ e. high-plain b (omega (arith, ltb-false b 48 e)))
 
-pub texts-plain : (s : List ℕ) → all isText s ≡ true → all is_plain s ≡ true
-texts-plain = all_weaker isText is_plain text-plain
+pub texts-plain : (s : List ℕ) → all is_text s ≡ true → all is_plain s ≡ true
+texts-plain = all_weaker is_text is_plain text-plain
 
-pub digits-plain : (s : List ℕ) → all isDigit s ≡ true → all is_plain s ≡ true
-digits-plain = all_weaker isDigit is_plain digit-plain
+pub digits-plain : (s : List ℕ) → all is_digit s ≡ true → all is_plain s ≡ true
+digits-plain = all_weaker is_digit is_plain digit-plain

@@ -12,37 +12,37 @@ use borrow.Author.Tests.{eq-eqb, ne_eqb, le-leb, lt-ltb, le-ltb}
 use Rattle.base.specs.Pick.{pick}
 use Rattle.base.specs.Seek.{all, starts, seek}
 use Rattle.base.proofs.Seek.{seek-here, seek-next, seek-end}
-use Rattle.paper.specs.Bytes.{isText, isClean}
+use Rattle.paper.specs.Bytes.{is_text, is_clean}
 use Rattle.paper.specs.Texts.{lacks}
 use Rattle.scan.proofs.block.Turns.{is-clean}
 
 -- is_text
 module _ (b : ℕ) where
-  pub text-low : b < 32 → false ≡ isText b
-  unfolding isText pick
+  pub text-low : b < 32 → false ≡ is_text b
+  unfolding is_text pick
   text-low h = rw (lt-ltb b 32 h)
 
-  pub text-del : b ≡ 127 → false ≡ isText b
-  unfolding isText pick
+  pub text-del : b ≡ 127 → false ≡ is_text b
+  unfolding is_text pick
   text-del h = rw h
 
-  pub text-yes : 32 ≤ b → (b ≡ 127 → ⊥) → b < 256 → true ≡ isText b
-  unfolding isText pick
+  pub text-yes : 32 ≤ b → (b ≡ 127 → ⊥) → b < 256 → true ≡ is_text b
+  unfolding is_text pick
   text-yes l n h = rw (le-ltb b 32 l, ne_eqb b 127 n, le-leb b 255 (omega arith))
 
 pub ruleset texts = (text-low, text-del, text-yes)
 
 -- is_clean
 module _ (b : ℕ) where
-  pub clean-hash : b ≡ 35 → false ≡ isClean b
-  unfolding isClean pick
+  pub clean-hash : b ≡ 35 → false ≡ is_clean b
+  unfolding is_clean pick
   clean-hash h = rw h
 
-  pub clean-tilde : b ≡ 126 → false ≡ isClean b
-  unfolding isClean pick
+  pub clean-tilde : b ≡ 126 → false ≡ is_clean b
+  unfolding is_clean pick
   clean-tilde h = rw h
 
-  pub clean-yes : (b ≡ 35 → ⊥) → (b ≡ 126 → ⊥) → true ≡ isClean b
+  pub clean-yes : (b ≡ 35 → ⊥) → (b ≡ 126 → ⊥) → true ≡ is_clean b
   clean-yes h t = sym (is-clean b h t)
 
 pub ruleset cleans = (clean-hash, clean-tilde, clean-yes)

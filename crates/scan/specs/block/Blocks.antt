@@ -4,16 +4,16 @@ use Rattle.std.specs.Int.Bits.{bit_xor}
 use Rattle.base.specs.Seek.{all}
 
 -- a byte above 13 ends no line
-abbrev pub isHigh : ℕ → Bool
-isHigh b = leb 14 b
+abbrev pub is_high : ℕ → Bool
+is_high b = leb 14 b
 
 -- a byte other than c
-abbrev pub isOther : ℕ → ℕ → Bool
-isOther c b = not (eqb b c)
+abbrev pub is_other : ℕ → ℕ → Bool
+is_other c b = not (eqb b c)
 
 -- a byte that differs from c by more than w in its bits: with w 0 a byte other than c, with c 0 a byte above w
-abbrev pub isFar : ℕ → ℕ → ℕ → Bool
-isFar c w b = ltb w (bit_xor b c)
+abbrev pub is_far : ℕ → ℕ → ℕ → Bool
+is_far c w b = ltb w (bit_xor b c)
 
 -- r is a place of s at or after `at`, and p holds of every byte between
 pub record Skips (p : ℕ → Bool) (s : List ℕ) (at r : ℕ) : Type 0 where

@@ -10,7 +10,7 @@ use borrow.Author.Tests.{lt-ltb, le-ltb}
 use Rattle.base.specs.Pick.{pick}
 use Rattle.base.proofs.Cases.{by-lt, pick_true, pick-false}
 use Rattle.numeral.specs.counted.Counted.{Counted}
-use Rattle.sentences.specs.Quoted.{quotedOr}
+use Rattle.sentences.specs.Quoted.{quoted_or}
 
 -- r is n, but at most m
 module _ (n m r : ℕ) (e : r ≡ pick (ltb n m) n m) where
@@ -45,6 +45,6 @@ module _ (f : List ℕ) (byte len from more : ℕ) where
       ∙ ap (take len) (left_out f byte from e))
 
   pub part-counted : from ≡ pick (ltb byte (length f)) byte (length f) → more ≡ pick (ltb len (length f - from)) len (length f - from)
-      → {o o1 : List ℕ} {at r : ℕ} → Counted o at (quotedOr (take (from + more - from) (drop from f))) o1 r
-      → Counted o at (quotedOr (take len (drop byte f))) o1 r
+      → {o o1 : List ℕ} {at r : ℕ} → Counted o at (quoted_or (take (from + more - from) (drop from f))) o1 r
+      → Counted o at (quoted_or (take len (drop byte f))) o1 r
   part-counted e g w = rw (part-is e g) at w

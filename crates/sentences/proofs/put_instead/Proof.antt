@@ -1,6 +1,6 @@
 -- `put_instead` puts what was allowed.
 use borrow.Author.Rules.{rules}
-use Rattle.sentences.specs.Sentences.{allowedWords}
+use Rattle.sentences.specs.Sentences.{allowed_words}
 use Rattle.sentences.proofs.Parts.{in_three}
 use Rattle.sentences.proofs.put_instead.Statement.{statement}
 use Rattle.sentences.proofs.put_instead.Tie as tie
@@ -24,7 +24,7 @@ same_length : tie.Need-same-length
 same_length c = search rules
 
 returns : tie.Need-returns
-unfolding allowedWords
+unfolding allowed_words
 returns c = search in_three
 
 pub put-instead-spec : {M : Type 1} → statement M

@@ -1,6 +1,6 @@
 -- `put_place` puts the line, the byte and the field.
 use borrow.Author.Rules.{rules}
-use Rattle.sentences.specs.Sentences.{placeWords}
+use Rattle.sentences.specs.Sentences.{place_words}
 use Rattle.sentences.proofs.Parts.{in_three}
 use Rattle.sentences.proofs.put_place.Statement.{statement}
 use Rattle.sentences.proofs.put_place.Tie as tie
@@ -24,7 +24,7 @@ same_length : tie.Need-same-length
 same_length c = search rules
 
 returns : tie.Need-returns
-unfolding placeWords
+unfolding place_words
 returns c = search in_three
 
 pub put-place-spec : {M : Type 1} → statement M

@@ -1,6 +1,6 @@
 -- `put_refusal` puts a refusal, part by part.
 use borrow.Author.Rules.{rules}
-use Rattle.sentences.specs.Sentences.{refusalWords}
+use Rattle.sentences.specs.Sentences.{refusal_words}
 use Rattle.sentences.proofs.Parts.{in_three}
 use Rattle.sentences.proofs.put_refusal.Statement.{statement}
 use Rattle.sentences.proofs.put_refusal.Tie as tie
@@ -21,7 +21,7 @@ same_length : tie.Need-same-length
 same_length c = search rules
 
 returns : tie.Need-returns
-unfolding refusalWords
+unfolding refusal_words
 returns c = search in_three
 
 pub put-refusal-spec : {M : Type 1} → statement M

@@ -1,6 +1,6 @@
 -- `put_warning` puts a warning, part by part.
 use borrow.Author.Rules.{rules}
-use Rattle.sentences.specs.Sentences.{warningWords}
+use Rattle.sentences.specs.Sentences.{warning_words}
 use Rattle.sentences.proofs.Parts.{in_three}
 use Rattle.sentences.proofs.put_warning.Statement.{statement}
 use Rattle.sentences.proofs.put_warning.Tie as tie
@@ -24,7 +24,7 @@ same_length : tie.Need-same-length
 same_length c = search rules
 
 returns : tie.Need-returns
-unfolding warningWords
+unfolding warning_words
 returns c = search in_three
 
 pub put-warning-spec : {M : Type 1} → statement M

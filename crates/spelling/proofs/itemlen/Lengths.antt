@@ -11,31 +11,31 @@ use Rattle.base.specs.Pick.{pick}
 use Rattle.base.proofs.Cases.{pick_true, pick-false}
 use Rattle.bank.proofs.Spelled.{spell-bank-most}
 use Rattle.sheet.specs.declared.Sheet.{Sheet}
-use Rattle.paper.specs.Accounts.{account, spellAccount}
+use Rattle.paper.specs.Accounts.{account, spell_account}
 use Rattle.paper.specs.Numerals.{decimal}
-use Rattle.paper.specs.BankField.{spellBank}
-use Rattle.paper.specs.GroupLine.{spellPayer}
-use Rattle.paper.specs.Texts.{spellText, noText}
-use Rattle.paper.specs.ItemLine.{spellTail}
+use Rattle.paper.specs.BankField.{spell_bank}
+use Rattle.paper.specs.GroupLine.{spell_payer}
+use Rattle.paper.specs.Texts.{spell_text, no_text}
+use Rattle.paper.specs.ItemLine.{spell_tail}
 use Rattle.rows.specs.declared.read.ItemRow.{ItemRow}
 use Rattle.spelling.specs.itemlen.Front.{front}
 use Rattle.spelling.proofs.itemlen.Tails.{fixed-is, lone_is, open_is}
 
 -- front_len: what its callees answered, from left to right
 pub front_long : (x : ItemRow) (i j k l m : ℕ)
-    → i ≡ length (spellPayer false (account x.payerprefix x.payerbase))
-    → j ≡ length (spellAccount (account x.payeeprefix x.payeebase) ++ (32 ∷ []))
+    → i ≡ length (spell_payer false (account x.payerprefix x.payerbase))
+    → j ≡ length (spell_account (account x.payeeprefix x.payeebase) ++ (32 ∷ []))
     → k ≡ length (decimal x.amount)
     → l ≡ length (decimal x.variable)
-    → ((b c : ℕ) → m ≡ length (spellBank b c x.priority))
+    → ((b c : ℕ) → m ≡ length (spell_bank b c x.priority))
     → i + j + (k + 1) + (l + 1) + m ≡ length (front x)
 unfolding front
 front_long x i j k l m e f g h n =
-    let payer = spellPayer false (account x.payerprefix x.payerbase) in
-    let payee = spellAccount (account x.payeeprefix x.payeebase) ++ (32 ∷ []) in
+    let payer = spell_payer false (account x.payerprefix x.payerbase) in
+    let payee = spell_account (account x.payeeprefix x.payeebase) ++ (32 ∷ []) in
     let amount = decimal x.amount in
     let variable = decimal x.variable in
-    let bank = spellBank x.bank x.constant x.priority in
+    let bank = spell_bank x.bank x.constant x.priority in
     omega (
       arith,
       n x.bank x.constant,
@@ -48,8 +48,8 @@ front_long x i j k l m e f g h n =
     )
 
 -- .. the last of them at most 10
-pub bank-low : (p m : ℕ) → ((b c : ℕ) → m ≡ length (spellBank b c p)) → m ≤ 10
-bank-low p m h = omega (arith, h 0 0, spell-bank-most 0 0 p)
+pub bank_low : (p m : ℕ) → ((b c : ℕ) → m ≡ length (spell_bank b c p)) → m ≤ 10
+bank_low p m h = omega (arith, h 0 0, spell-bank-most 0 0 p)
 
 -- symbol_len
 module _ (hidden : Bool) (n : ℕ) where
@@ -69,22 +69,22 @@ module _ (n : ℕ) where
 
 pub ruleset symbols = (hidden-long, shown-long, lone-none, lone-some)
 
--- tail_len: t is what no_text answered, i the symbol's and j the text's length
+-- tail_len: t is what no-text answered, i the symbol's and j the text's length
 module _ (sh : Sheet) (specific : ℕ) (ps : List (List ℕ)) (n : List ℕ) where
   pub fixed-long : sh.fixedtail ≡ true → (i j : ℕ) → i ≡ length (32 ∷ (pick (eqb specific 0) [] (decimal specific) ++ (32 ∷ [])))
-      → j ≡ length (spellText sh.text ps n) → i + j ≡ length (spellTail sh specific ps n)
+      → j ≡ length (spell_text sh.text ps n) → i + j ≡ length (spell_tail sh specific ps n)
   fixed-long e i j g h =
       let symbol : List ℕ = 32 ∷ (pick (eqb specific 0) [] (decimal specific) ++ (32 ∷ [])) in
-      sym (ap length (fixed-is sh specific ps n e) ∙ length-append symbol (spellText sh.text ps n) ∙ omega arith)
+      sym (ap length (fixed-is sh specific ps n e) ∙ length-append symbol (spell_text sh.text ps n) ∙ omega arith)
 
-  module _ (e : sh.fixedtail ≡ false) (t : Bool) (f : t ≡ noText ps n) where
-    pub lone-long : t ≡ true → (i : ℕ) → i ≡ length (pick (eqb specific 0) [] (32 ∷ decimal specific)) → i ≡ length (spellTail sh specific ps n)
+  module _ (e : sh.fixedtail ≡ false) (t : Bool) (f : t ≡ no_text ps n) where
+    pub lone-long : t ≡ true → (i : ℕ) → i ≡ length (pick (eqb specific 0) [] (32 ∷ decimal specific)) → i ≡ length (spell_tail sh specific ps n)
     lone-long u i g = g ∙ sym (ap length (lone_is sh specific ps n e t f u))
 
     pub open-long : t ≡ false → (i j : ℕ) → i ≡ length (32 ∷ (pick false [] (decimal specific) ++ (32 ∷ [])))
-        → j ≡ length (spellText sh.text ps n) → i + j ≡ length (spellTail sh specific ps n)
+        → j ≡ length (spell_text sh.text ps n) → i + j ≡ length (spell_tail sh specific ps n)
     open-long u i j g h =
         let symbol : List ℕ = 32 ∷ (pick false [] (decimal specific) ++ (32 ∷ [])) in
-        sym (ap length (open_is sh specific ps n e t f u) ∙ length-append symbol (spellText sh.text ps n) ∙ omega arith)
+        sym (ap length (open_is sh specific ps n e t f u) ∙ length-append symbol (spell_text sh.text ps n) ∙ omega arith)
 
 pub ruleset tails = (fixed-long, lone-long, open-long)

@@ -6,26 +6,26 @@ use Prim.Native.Nat.{ℕ, ◌+◌, ◌≤◌}
 use lib.ListN.{length}
 use Rattle.base.specs.Put.{Wrote}
 use Rattle.base.proofs.Put.{◌then◌}
-use Rattle.paper.specs.Accounts.{account, spellAccount}
+use Rattle.paper.specs.Accounts.{account, spell_account}
 use Rattle.paper.specs.Numerals.{decimal}
-use Rattle.paper.specs.BankField.{spellBank}
-use Rattle.paper.specs.GroupLine.{spellPayer}
+use Rattle.paper.specs.BankField.{spell_bank}
+use Rattle.paper.specs.GroupLine.{spell_payer}
 use Rattle.rows.specs.declared.read.ItemRow.{ItemRow}
 use Rattle.spelling.specs.itemlen.Front.{front}
 use Rattle.spelling.proofs.putlines.Chain.{whole, part, rest, wrote_as}
 
 module _ (x : ItemRow) (o : List ℕ) (at : ℕ) where
   abbrev payer : List ℕ
-  payer = spellPayer false (account x.payerprefix x.payerbase)
+  payer = spell_payer false (account x.payerprefix x.payerbase)
 
   abbrev payee : List ℕ
-  payee = spellAccount (account x.payeeprefix x.payeebase) ++ (32 ∷ [])
+  payee = spell_account (account x.payeeprefix x.payeebase) ++ (32 ∷ [])
 
   abbrev two : List ℕ
   two = (decimal x.amount ++ (32 ∷ [])) ++ (decimal x.variable ++ (32 ∷ []))
 
   abbrev bank : List ℕ
-  bank = spellBank x.bank x.constant x.priority
+  bank = spell_bank x.bank x.constant x.priority
 
   front-is : front x ≡ payer ++ (payee ++ (two ++ bank))
   unfolding front

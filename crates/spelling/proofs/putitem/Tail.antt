@@ -15,8 +15,8 @@ use Rattle.base.proofs.Seek.{never}
 use Rattle.out.proofs.put.Room.{wrote_none}
 use Rattle.sheet.specs.declared.Sheet.{Sheet}
 use Rattle.paper.specs.Numerals.{decimal}
-use Rattle.paper.specs.Texts.{spellText, noText}
-use Rattle.paper.specs.ItemLine.{spellTail}
+use Rattle.paper.specs.Texts.{spell_text, no_text}
+use Rattle.paper.specs.ItemLine.{spell_tail}
 use Rattle.spelling.proofs.itemlen.Tails.{between, fixed-is, lone_is, open_is}
 use Rattle.spelling.proofs.putlines.Chain.{whole, part, rest, wrote_as}
 
@@ -74,12 +74,12 @@ module _ (n : ℕ) (o : List ℕ) (at : ℕ) where
 pub ruleset lones = (lone-none, lone-space, lone-number, then-lone)
 
 -- put_tail: t is what `textless` answered
-module _ (sh : Sheet) (specific : ℕ) (ps : List (List ℕ)) (n o : List ℕ) (at : ℕ) (t : Bool) (f : t ≡ pick sh.fixedtail false (noText ps n)) where
+module _ (sh : Sheet) (specific : ℕ) (ps : List (List ℕ)) (n o : List ℕ) (at : ℕ) (t : Bool) (f : t ≡ pick sh.fixedtail false (no_text ps n)) where
   abbrev tail : List ℕ
-  tail = spellTail sh specific ps n
+  tail = spell_tail sh specific ps n
 
   abbrev text : List ℕ
-  text = spellText sh.text ps n
+  text = spell_text sh.text ps n
 
   module _ (g : t ≡ true) where
     alone-is : tail ≡ pick (eqb specific 0) [] (32 ∷ decimal specific)

@@ -9,7 +9,7 @@ use Rattle.base.proofs.Put.{◌then◌}
 use Rattle.numeral.proofs.Fixed.{fixed-length}
 use Rattle.sheet.specs.declared.Sheet.{Sheet}
 use Rattle.paper.specs.Numerals.{fixed}
-use Rattle.paper.specs.FileLine.{spellFile}
+use Rattle.paper.specs.FileLine.{spell_file}
 use Rattle.spelling.proofs.putlines.Chain.{whole, part, rest, wrote_as}
 
 -- fixed_space, code_end: the number in front of y
@@ -19,10 +19,10 @@ fixed-first k n y at m h = omega (arith, fixed-length k n, length-append (fixed 
 -- put_file_line
 module _ (sh : Sheet) (kind number : ℕ) (o : List ℕ) (at : ℕ) where
   abbrev line : List ℕ
-  line = spellFile sh kind number ++ (13 ∷ 10 ∷ [])
+  line = spell_file sh kind number ++ (13 ∷ 10 ∷ [])
 
   file-is : line ≡ (49 ∷ 32 ∷ []) ++ ((fixed 4 kind ++ (32 ∷ [])) ++ ((fixed 6 number ++ (32 ∷ [])) ++ (fixed 4 sh.bank ++ (13 ∷ 10 ∷ []))))
-  unfolding spellFile
+  unfolding spell_file
   file-is = simp append_assoc
 
   module _ (h : at + length line ≤ length o) where

@@ -12,14 +12,14 @@ use Rattle.numeral.proofs.Fixed.{fixed-length}
 use Rattle.calendar.proofs.Back.{spell-day-length}
 use Rattle.sheet.specs.declared.Sheet.{Sheet}
 use Rattle.paper.specs.Bytes.{bytes}
-use Rattle.paper.specs.Numerals.{fixedOn, fixed}
-use Rattle.paper.specs.Days.{spellDay}
-use Rattle.paper.specs.FirstLine.{spellFirst}
+use Rattle.paper.specs.Numerals.{fixed_on, fixed}
+use Rattle.paper.specs.Days.{spell_day}
+use Rattle.paper.specs.FirstLine.{spell_first}
 use Rattle.spelling.proofs.putlines.Chain.{whole, part, rest, sized, wrote_as}
 
 -- the line's start and its end
 abbrev front : ℕ → List ℕ → List ℕ
-front date name = bytes "UHL1" ++ (spellDay date ++ name)
+front date name = bytes "UHL1" ++ (spell_day date ++ name)
 
 abbrev back : ℕ → ℕ → ℕ → List ℕ
 back client from to = fixed 10 client ++ (fixed 3 from ++ (fixed 3 to ++ (fixed 12 0 ++ (13 ∷ 10 ∷ []))))
@@ -28,17 +28,17 @@ back client from to = fixed 10 client ++ (fixed 3 from ++ (fixed 3 to ++ (fixed 
 module _ (date : ℕ) (name o o1 : List ℕ) (at p : ℕ) (w : Wrote o at (bytes "UHL1") o1 p) where
   module _ (h : at + length (front date name) ≤ length o) where
     pub front-day : p + 6 ≤ length o1
-    front-day = sized (spell-day-length date) (part (spellDay date) _ (rest w (whole refl h)))
+    front-day = sized (spell-day-length date) (part (spell_day date) _ (rest w (whole refl h)))
 
-    pub front-name : (o2 : List ℕ) (q : ℕ) → Wrote o1 p (spellDay date) o2 q → q + length name ≤ length o2
+    pub front-name : (o2 : List ℕ) (q : ℕ) → Wrote o1 p (spell_day date) o2 q → q + length name ≤ length o2
     front-name o2 q v = (rest v (rest w (whole refl h))).room
 
-  pub then-front : {o2 o3 : List ℕ} {q r : ℕ} → Wrote o1 p (spellDay date) o2 q → Wrote o2 q name o3 r → Wrote o at (front date name) o3 r
+  pub then-front : {o2 o3 : List ℕ} {q r : ℕ} → Wrote o1 p (spell_day date) o2 q → Wrote o2 q name o3 r → Wrote o at (front date name) o3 r
   then-front v u = w then v then u
 
 -- first_back: twelve zeros and CR LF are written at once
 zeros-is : (client from to : ℕ) → back client from to ≡ fixed 10 client ++ (fixed 3 from ++ (fixed 3 to ++ (bytes "000000000000" ++ (13 ∷ 10 ∷ []))))
-unfolding fixed fixedOn
+unfolding fixed fixed_on
 zeros-is client from to = refl
 
 module _ (client from to : ℕ) (o : List ℕ) (at : ℕ) where
@@ -64,11 +64,11 @@ module _ (client from to : ℕ) (o : List ℕ) (at : ℕ) where
 -- put_first
 module _ (sh : Sheet) (date client from to : ℕ) (name o : List ℕ) (at : ℕ) where
   abbrev line : List ℕ
-  line = spellFirst sh (record { date = date; name = name; client = client; from = from; to = to }) ++ (13 ∷ 10 ∷ [])
+  line = spell_first sh (record { date = date; name = name; client = client; from = from; to = to }) ++ (13 ∷ 10 ∷ [])
 
   module _ (e : sh.header ≡ true) where
     full_is : line ≡ front date name ++ back client from to
-    unfolding spellFirst
+    unfolding spell_first
     full_is = ap (λ (s : List ℕ). s ++ (13 ∷ 10 ∷ [])) (pick_true _ _ e) ∙ simp append_assoc
 
     module _ (h : at + length line ≤ length o) where
@@ -83,7 +83,7 @@ module _ (sh : Sheet) (date client from to : ℕ) (name o : List ℕ) (at : ℕ)
 
   module _ (e : sh.header ≡ false) where
     plain-is : line ≡ bytes "UHL1" ++ (13 ∷ 10 ∷ [])
-    unfolding spellFirst
+    unfolding spell_first
     plain-is = ap (λ (s : List ℕ). s ++ (13 ∷ 10 ∷ [])) (pick-false _ _ e)
 
     pub plain-room : at + length line ≤ length o → at + 6 ≤ length o

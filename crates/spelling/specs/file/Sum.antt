@@ -4,6 +4,6 @@ use Rattle.base.specs.Pick.{pick}
 use Rattle.paper.specs.Words.{word}
 
 -- the amounts of the items' rows that come before any other row
-unfoldable pub itemSum : List (List ℕ) → ℕ
-itemSum [] = 0
-itemSum (r ∷ rs) = pick (eqb (word r 0) 3) (word r 6 + itemSum rs) 0
+unfoldable pub item_sum : List (List ℕ) → ℕ
+item_sum [] = 0
+item_sum (r ∷ rs) = pick (eqb (word r 0) 3) (word r 6 + item_sum rs) 0

@@ -9,22 +9,22 @@ use lib.Dec.{ltb}
 use lib.ListN.{length}
 use borrow.Author.Tests.{lt-ltb, le-ltb}
 use Rattle.base.proofs.Cases.{pick_true, pick-false}
-use Rattle.gpc.specs.Records.{recordsIn, saids}
-use Rattle.gpc.specs.Statements.{Statement, things, recordSpots, Judged as Answer, accepted, refused}
-use Rattle.gpc.specs.Answers.{StatementAnswer, refusedAt, needs, acceptedAs, rowCount, answered, judgeFile, statementAnswer, filled, statementRows}
+use Rattle.gpc.specs.Records.{records_in, saids}
+use Rattle.gpc.specs.Statements.{Statement, things, record_spots, Judged as Answer, accepted, refused}
+use Rattle.gpc.specs.Answers.{StatementAnswer, refused_at, needs, accepted_as, row_count, answered, judge_file, statement_answer, filled, statement_rows}
 use Rattle.gpcexact.proofs.Main.{exact, counted}
 use Rattle.gpcexact.proofs.Named.{file-placed}
 use Rattle.gpcback.proofs.ManySound.{records-sound, things-known}
 use Rattle.statement.specs.declared.run.Judged.{Judged}
 use Rattle.statement.specs.declared.run.Judged.TheVariants as judged
-use Rattle.statement.specs.Forms.{inFile, Putable, PutAll}
+use Rattle.statement.specs.Forms.{in_file, Putable, PutAll}
 use Rattle.statement.specs.run.Follows.{fine, wrong, outcome, Tells}
 use Rattle.statement.specs.reading.Told.{Accepted}
 use Rattle.statement.proofs.Pieces.{file-all, file-puts}
 
 -- ---- `refusal`
 
-pub refusal-told : (n k off : ℕ) → record { number = n; line = k + 1; byte = 130 * k + off; rows = 0; needed = 0 } ≡ refusedAt n k off
+pub refusal-told : (n k off : ℕ) → record { number = n; line = k + 1; byte = 130 * k + off; rows = 0; needed = 0 } ≡ refused_at n k off
 refusal-told n k off = rw (add-one k) refl
 
 -- ---- an outcome is one answer's
@@ -42,39 +42,39 @@ accepted-as (refused m j at) e = absurd (let z : ◌≡◌ {A = ℕ} 0 1 = cc in
 -- ---- `accept`
 
 module _ (f lent : List ℕ) (count : ℕ) (a : Accepted f count) where
-  answer-is : statementAnswer f lent ≡ answered (length lent / 136) (accepted a.statements)
-  unfolding statementAnswer
+  answer-is : statement_answer f lent ≡ answered (length lent / 136) (accepted a.statements)
+  unfolding statement_answer
   answer-is = ap (answered (length lent / 136)) a.judged
 
-  rows_are : statementRows f lent ≡ filled lent (accepted a.statements)
-  unfolding statementRows
+  rows_are : statement_rows f lent ≡ filled lent (accepted a.statements)
+  unfolding statement_rows
   rows_are = ap (filled lent) a.judged
 
   module _ (l : length lent / 136 < count) where
-    tested : ltb (length lent / 136) (rowCount a.statements) ≡ true
-    tested = lt-ltb (length lent / 136) (rowCount a.statements) (omega (arith, l, a.counted))
+    tested : ltb (length lent / 136) (row_count a.statements) ≡ true
+    tested = lt-ltb (length lent / 136) (row_count a.statements) (omega (arith, l, a.counted))
 
-    pub no_room : needs count ≡ statementAnswer f lent
+    pub no_room : needs count ≡ statement_answer f lent
     unfolding answered
     no_room = sym (answer-is ∙ pick_true _ _ tested ∙ ap needs (sym a.counted))
 
-    pub left_alone : lent ≡ statementRows f lent
+    pub left_alone : lent ≡ statement_rows f lent
     unfolding filled
     left_alone = sym (rows_are ∙ pick_true _ _ tested)
 
   module _ (l : count ≤ length lent / 136) where
-    enough : ltb (length lent / 136) (rowCount a.statements) ≡ false
-    enough = le-ltb (length lent / 136) (rowCount a.statements) (omega (arith, l, a.counted))
+    enough : ltb (length lent / 136) (row_count a.statements) ≡ false
+    enough = le-ltb (length lent / 136) (row_count a.statements) (omega (arith, l, a.counted))
 
-    pub has_room : acceptedAs count ≡ statementAnswer f lent
+    pub has_room : accepted_as count ≡ statement_answer f lent
     unfolding answered
-    has_room = sym (answer-is ∙ pick-false _ _ enough ∙ ap acceptedAs (sym a.counted))
+    has_room = sym (answer-is ∙ pick-false _ _ enough ∙ ap accepted_as (sym a.counted))
 
-    said : recordsIn f ≡ saids (things a.statements)
-    unfolding judgeFile
-    said = ((exact recordSpots (recordsIn f) a.statements).0 a.judged).read
+    said : records_in f ≡ saids (things a.statements)
+    unfolding judge_file
+    said = ((exact record_spots (records_in f) a.statements).0 a.judged).read
 
-    pub can-fill : Putable inFile f (length lent)
+    pub can-fill : Putable in_file f (length lent)
     can-fill =
         record {
           things = things a.statements;
@@ -83,7 +83,7 @@ module _ (f lent : List ℕ) (count : ℕ) (a : Accepted f count) where
           room = omega (arith, l, a.counted);
         }
 
-    pub filled-rows : (o : List ℕ) → PutAll inFile f lent o → o ≡ statementRows f lent
+    pub filled-rows : (o : List ℕ) → PutAll in_file f lent o → o ≡ statement_rows f lent
     unfolding filled
     filled-rows o p =
         p.by (things a.statements) (file-all f ∙ said)
@@ -93,27 +93,27 @@ pub ruleset accepting = (no_room, left_alone, has_room, can-fill, filled-rows)
 
 -- ---- `read_statements`: m is what the file was judged to be
 
-module _ (f lent : List ℕ) (m : Judged) (t : Tells (length (recordsIn f)) (judgeFile f) m) where
+module _ (f lent : List ℕ) (m : Judged) (t : Tells (length (records_in f)) (judge_file f) m) where
   module _ (n k off : ℕ) (q : m ≡ judged.Refused n k off) where
-    refused-so : judgeFile f ≡ refused n k off
-    refused-so = refused_as (judgeFile f) n k off (rw q at t)
+    refused-so : judge_file f ≡ refused n k off
+    refused-so = refused_as (judge_file f) n k off (rw q at t)
 
     pub refused-inside : length f < 18446744073709551616 → 130 * k + off < 18446744073709551616
     refused-inside l = omega (arith, file-placed f n k off refused-so)
 
-    pub refused-told : (a : StatementAnswer) → a ≡ refusedAt n k off → a ≡ statementAnswer f lent
-    unfolding statementAnswer answered
+    pub refused-told : (a : StatementAnswer) → a ≡ refused_at n k off → a ≡ statement_answer f lent
+    unfolding statement_answer answered
     refused-told a e = rw (refused-so, e) refl
 
-    pub refused-kept : lent ≡ statementRows f lent
-    unfolding statementRows filled
+    pub refused-kept : lent ≡ statement_rows f lent
+    unfolding statement_rows filled
     refused-kept = rw refused-so refl
 
   pub accepted-told : (count : ℕ) → m ≡ judged.Accepted count → Accepted f count
-  unfolding judgeFile
+  unfolding judge_file
   accepted-told count q =
-      let (n, e) : Tells (length (recordsIn f)) (judgeFile f) (judged.Accepted count) = rw q at t in
-      let (ss, s) = accepted-as (judgeFile f) e in
-      record { statements = ss; judged = s; counted = n ∙ counted recordSpots (recordsIn f) ss s }
+      let (n, e) : Tells (length (records_in f)) (judge_file f) (judged.Accepted count) = rw q at t in
+      let (ss, s) = accepted-as (judge_file f) e in
+      record { statements = ss; judged = s; counted = n ∙ counted record_spots (records_in f) ss s }
 
 pub ruleset answering = (refused-inside, refused-told, refused-kept, accepted-told)

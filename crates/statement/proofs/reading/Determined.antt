@@ -5,9 +5,9 @@ use Rattle.statement.specs.declared.reading.AboStatement.{AboStatement}
 use Rattle.statement.specs.reading.Told.{told}
 
 -- the answer that tells this
-abbrev answerFor : StatementAnswer → AboStatement
-answerFor r = record { number = r.number; line = r.line; byte = r.byte; rows = r.rows; needed = r.needed }
+abbrev answer_for : StatementAnswer → AboStatement
+answer_for r = record { number = r.number; line = r.line; byte = r.byte; rows = r.rows; needed = r.needed }
 
 -- two answers that tell the same are the same
 pub told-one : (a b : AboStatement) → told a ≡ told b → a ≡ b
-told-one a b e = ap answerFor e
+told-one a b e = ap answer_for e

@@ -10,13 +10,13 @@ use Rattle.paper.specs.Entries.{Said, got, no}
 use Rattle.turnover.specs.Counts.{Roomy}
 use Rattle.turnover.proofs.Laws.{room}
 use Rattle.gpc.specs.Turnovers.{most12}
-use Rattle.gpc.specs.Records.{Head, Movement, Record, headIs, movementIs, noRecord}
-use Rattle.gpc.specs.Statements.{Statement, statement, moves_of, Spots as Places, closed, Judged as Answer, accepted, refused, onSaid, with, Stage, top, within, judgeOn}
+use Rattle.gpc.specs.Records.{Head, Movement, Record, head_is, movement_is, no_record}
+use Rattle.gpc.specs.Statements.{Statement, statement, moves_of, Spots as Places, closed, Judged as Answer, accepted, refused, on_said, with, Stage, top, within, judge_on}
 use Rattle.record.specs.declared.HeadFields.{HeadFields}
 use Rattle.record.specs.declared.MovementFields.{MovementFields}
 use Rattle.record.specs.declared.Entry.{Entry}
 use Rattle.record.specs.declared.Entry.TheVariants as entry
-use Rattle.record.specs.Told.{Kept, head_of, movementOf, SmallHead, Small}
+use Rattle.record.specs.Told.{Kept, head_of, movement_of, SmallHead, Small}
 use Rattle.statement.specs.declared.run.Run.{Run}
 use Rattle.statement.specs.declared.run.Closed.{Closed}
 use Rattle.statement.specs.declared.run.Closed.TheVariants as close
@@ -75,8 +75,8 @@ pub ruleset stages = (stood-sized, stood-roomy, old-small, new-small, debit-smal
 -- ---- the record behind k others
 
 module _ (p : Places) (x : Run) (k : ℕ) where
-  strange-at : (st : Stage) (rs : List Record) → outcome (judgeOn p k st (noRecord ∷ rs)) ≡ wrong 50 k 0
-  unfolding judgeOn outcome
+  strange-at : (st : Stage) (rs : List Record) → outcome (judge_on p k st (no_record ∷ rs)) ≡ wrong 50 k 0
+  unfolding judge_on outcome
   strange-at top rs = refl
   strange-at (within j h ms) rs = refl
 
@@ -86,21 +86,21 @@ module _ (p : Places) (x : Run) (k : ℕ) where
 
     -- a movement where no statement is begun
     early-at : (m : Said Movement) (st : Stage) → Follows x st → x.begun ≡ false → (rs : List Record)
-        → outcome (judgeOn p k st (movementIs m ∷ rs)) ≡ wrong 50 k 0
-    unfolding judgeOn outcome
+        → outcome (judge_on p k st (movement_is m ∷ rs)) ≡ wrong 50 k 0
+    unfolding judge_on outcome
     early-at m top f b rs = refl
     early-at m (within j h ms) f b rs = not-both x.begun f.begun b
 
     pub early-movement : (m : MovementFields) → e ≡ entry.Movement m → x.begun ≡ false → Leads p x e k (step.Refused 50 k 0)
-    early-movement m q b = rw q (record { by = λ κ st g rs. early-at (got (movementOf κ m)) st g.follows b rs })
+    early-movement m q b = rw q (record { by = λ κ st g rs. early-at (got (movement_of κ m)) st g.follows b rs })
 
     pub early-refused : (off : ℕ) → e ≡ entry.MovementRefused off → x.begun ≡ false → Leads p x e k (step.Refused 50 k 0)
     early-refused off q b = rw q (record { by = λ κ st g rs. early-at (no 51 off) st g.follows b rs })
 
     -- .. where one is
     refused-at : (off : ℕ) (st : Stage) → Follows x st → x.begun ≡ true → (rs : List Record)
-        → outcome (judgeOn p k st (movementIs (no 51 off) ∷ rs)) ≡ wrong 51 k off
-    unfolding judgeOn outcome onSaid
+        → outcome (judge_on p k st (movement_is (no 51 off) ∷ rs)) ≡ wrong 51 k off
+    unfolding judge_on outcome on_said
     refused-at off top f b rs = not-both x.begun b f.shut
     refused-at off (within j h ms) f b rs = refl
 
@@ -108,11 +108,11 @@ module _ (p : Places) (x : Run) (k : ℕ) where
     movement-refused off q b = rw q (record { by = λ κ st g rs. refused-at off st g.follows b rs })
 
     moved_at : (κ : Kept) (m : MovementFields) (y : Run) (st : Stage) → Follows x st → Few k st → x.begun ≡ true → Moves x m.code m.amount y
-        → Steps p (movementIs (got (movementOf κ m))) k st (step.On y)
-    unfolding judgeOn onSaid
+        → Steps p (movement_is (got (movement_of κ m))) k st (step.On y)
+    unfolding judge_on on_said
     moved_at κ m y top f n b v = not-both x.begun b f.shut
     moved_at κ m y (within j h ms) f n b v =
-        let one = movementOf κ m in (
+        let one = movement_of κ m in (
           within j h (ms ++ (one ∷ [])),
           record { follows = v.by j h ms one refl refl f; few = omega (arith, length-append ms (one ∷ []), n) },
           λ rs. refl,
@@ -124,8 +124,8 @@ module _ (p : Places) (x : Run) (k : ℕ) where
     -- ---- a head where no statement is begun
 
     first-at : (κ : Kept) (h : HeadFields) (y : Run) (st : Stage) → Follows x st → x.begun ≡ false → Opens k h y
-        → Steps p (headIs (got (head_of κ h))) k st (step.On y)
-    unfolding judgeOn onSaid
+        → Steps p (head_is (got (head_of κ h))) k st (step.On y)
+    unfolding judge_on on_said
     first-at κ h y top f b v = (within k (head_of κ h) [], record { follows = v.by κ; few = omega arith }, λ rs. refl)
     first-at κ h y (within j g ms) f b v = not-both x.begun f.begun b
 
@@ -133,8 +133,8 @@ module _ (p : Places) (x : Run) (k : ℕ) where
     head_first h y q b v = rw q (record { by = λ κ st g. first-at κ h y st g.follows b v })
 
     unread-at : (off : ℕ) (st : Stage) → Follows x st → x.begun ≡ false → (rs : List Record)
-        → outcome (judgeOn p k st (headIs (no 51 off) ∷ rs)) ≡ wrong 51 k off
-    unfolding judgeOn outcome onSaid
+        → outcome (judge_on p k st (head_is (no 51 off) ∷ rs)) ≡ wrong 51 k off
+    unfolding judge_on outcome on_said
     unread-at off top f b rs = refl
     unread-at off (within j h ms) f b rs = not-both x.begun f.begun b
 
@@ -145,8 +145,8 @@ module _ (p : Places) (x : Run) (k : ℕ) where
 
     module _ (b : x.begun ≡ true) (c : Closed) (v : Ends p x c) where
       over-at : (h : Said Head) (n at : ℕ) → c ≡ close.Refused n at → (st : Stage) → Follows x st → (rs : List Record)
-          → outcome (judgeOn p k st (headIs h ∷ rs)) ≡ wrong n x.head at
-      unfolding judgeOn outcome onSaid
+          → outcome (judge_on p k st (head_is h ∷ rs)) ≡ wrong n x.head at
+      unfolding judge_on outcome on_said
       over-at h n at q top f rs = not-both x.begun b f.shut
       over-at h n at q (within j g ms) f rs =
           let r : closed p g ms ≡ no n at = rw q at (v.by j g ms f) in
@@ -164,8 +164,8 @@ module _ (p : Places) (x : Run) (k : ℕ) where
         behind s (accepted ss) = refl
         behind s (refused n j off) = refl
 
-        goes_at : (κ : Kept) (h : HeadFields) (y : Run) (st : Stage) → Follows x st → Opens k h y → Steps p (headIs (got (head_of κ h))) k st (step.On y)
-        unfolding judgeOn onSaid
+        goes_at : (κ : Kept) (h : HeadFields) (y : Run) (st : Stage) → Follows x st → Opens k h y → Steps p (head_is (got (head_of κ h))) k st (step.On y)
+        unfolding judge_on on_said
         goes_at κ h y top f w = not-both x.begun b f.shut
         goes_at κ h y (within j g ms) f w =
             let r : closed p g ms ≡ got (statement g ms) = rw d at (v.by j g ms f) in
@@ -174,8 +174,8 @@ module _ (p : Places) (x : Run) (k : ℕ) where
         pub head-goes : (h : HeadFields) (y : Run) → e ≡ entry.Head h → Opens k h y → Leads p x e k (step.On y)
         head-goes h y q w = rw q (record { by = λ κ st g. goes_at κ h y st g.follows w })
 
-        stops_at : (off : ℕ) (st : Stage) → Follows x st → (rs : List Record) → outcome (judgeOn p k st (headIs (no 51 off) ∷ rs)) ≡ wrong 51 k off
-        unfolding judgeOn outcome onSaid with
+        stops_at : (off : ℕ) (st : Stage) → Follows x st → (rs : List Record) → outcome (judge_on p k st (head_is (no 51 off) ∷ rs)) ≡ wrong 51 k off
+        unfolding judge_on outcome on_said with
         stops_at off top f rs = not-both x.begun b f.shut
         stops_at off (within j g ms) f rs =
             let r : closed p g ms ≡ got (statement g ms) = rw d at (v.by j g ms f) in
@@ -189,8 +189,8 @@ pub ruleset leading = (nothing-leads, early-movement, early-refused, movement-re
 -- ---- no record follows
 
 module _ (p : Places) (x : Run) (k : ℕ) where
-  missing_at : (st : Stage) → Follows x st → x.begun ≡ false → outcome (judgeOn p k st []) ≡ wrong 50 k 0
-  unfolding judgeOn outcome
+  missing_at : (st : Stage) → Follows x st → x.begun ≡ false → outcome (judge_on p k st []) ≡ wrong 50 k 0
+  unfolding judge_on outcome
   missing_at top f b = refl
   missing_at (within j h ms) f b = not-both x.begun f.begun b
 
@@ -198,8 +198,8 @@ module _ (p : Places) (x : Run) (k : ℕ) where
   missing b = record { by = λ st f. missing_at st f b }
 
   module _ (b : x.begun ≡ true) (c : Closed) (v : Ends p x c) where
-    ends_at : (n at : ℕ) → c ≡ close.Refused n at → (st : Stage) → Follows x st → outcome (judgeOn p k st []) ≡ wrong n x.head at
-    unfolding judgeOn outcome onSaid
+    ends_at : (n at : ℕ) → c ≡ close.Refused n at → (st : Stage) → Follows x st → outcome (judge_on p k st []) ≡ wrong n x.head at
+    unfolding judge_on outcome on_said
     ends_at n at q top f = not-both x.begun b f.shut
     ends_at n at q (within j g ms) f =
         let r : closed p g ms ≡ no n at = rw q at (v.by j g ms f) in
@@ -208,8 +208,8 @@ module _ (p : Places) (x : Run) (k : ℕ) where
     pub last-over : (n at : ℕ) → c ≡ close.Refused n at → Finishes p x k (judged.Refused n x.head at)
     last-over n at q = record { by = λ st f. ends_at n at q st f }
 
-    fine-at : c ≡ close.Fine → (st : Stage) → Follows x st → outcome (judgeOn p k st []) ≡ fine
-    unfolding judgeOn outcome onSaid
+    fine-at : c ≡ close.Fine → (st : Stage) → Follows x st → outcome (judge_on p k st []) ≡ fine
+    unfolding judge_on outcome on_said
     fine-at q top f = not-both x.begun b f.shut
     fine-at q (within j g ms) f =
         let r : closed p g ms ≡ got (statement g ms) = rw q at (v.by j g ms f) in

@@ -8,7 +8,7 @@ use Rattle.turnover.specs.declared.Turns.{Turns}
 use Rattle.turnover.specs.signed.Told.{said}
 use Rattle.turnover.specs.Counts.{Counts}
 use Rattle.turnover.proofs.Laws.{counts-last}
-use Rattle.gpc.specs.Turnovers.{Moved, moved, isDebit, isCredit, balanced}
+use Rattle.gpc.specs.Turnovers.{Moved, moved, is_debit, is_credit, balanced}
 use Rattle.gpc.specs.Records.{Head, Movement}
 use Rattle.gpc.specs.Statements.{moves_of, Spots as Places, closed}
 use Rattle.record.specs.declared.HeadFields.{HeadFields}
@@ -66,14 +66,14 @@ moving x code amount t f =
 
 -- ---- `close`: d, c and b are what the three tests say
 
-module _ (p : Places) (x : Run) (d : Bool) (fd : (ms : List Moved) → Counts x.turns ms → d ≡ isDebit ms (said x.debit)) where
+module _ (p : Places) (x : Run) (d : Bool) (fd : (ms : List Moved) → Counts x.turns ms → d ≡ is_debit ms (said x.debit)) where
   pub debit-differs : d ≡ false → Ends p x (close.Refused 52 p.debit)
   unfolding closed
   debit-differs e =
       record { by = λ j h ms w. pick-false _ _ (rw (← w.debit) (sym (fd (moves_of ms) w.counts) ∙ e)) }
 
-  module _ (yd : d ≡ true) (c : Bool) (fc : (ms : List Moved) → Counts x.turns ms → c ≡ isCredit ms (said x.credit)) where
-    debits : (j : ℕ) (h : Head) (ms : List Movement) → Within x j h ms → isDebit (moves_of ms) h.debit ≡ true
+  module _ (yd : d ≡ true) (c : Bool) (fc : (ms : List Moved) → Counts x.turns ms → c ≡ is_credit ms (said x.credit)) where
+    debits : (j : ℕ) (h : Head) (ms : List Movement) → Within x j h ms → is_debit (moves_of ms) h.debit ≡ true
     debits j h ms w = rw (← w.debit) (sym (fd (moves_of ms) w.counts) ∙ yd)
 
     pub credit-differs : c ≡ false → Ends p x (close.Refused 52 p.credit)
@@ -84,7 +84,7 @@ module _ (p : Places) (x : Run) (d : Bool) (fd : (ms : List Moved) → Counts x.
         }
 
     module _ (yc : c ≡ true) (b : Bool) (fb : b ≡ balanced (said x.old) (said x.new) (said x.debit) (said x.credit)) where
-      credits : (j : ℕ) (h : Head) (ms : List Movement) → Within x j h ms → isCredit (moves_of ms) h.credit ≡ true
+      credits : (j : ℕ) (h : Head) (ms : List Movement) → Within x j h ms → is_credit (moves_of ms) h.credit ≡ true
       credits j h ms w = rw (← w.credit) (sym (fc (moves_of ms) w.counts) ∙ yc)
 
       balances : (j : ℕ) (h : Head) (ms : List Movement) → Within x j h ms → balanced h.old h.new h.debit h.credit ≡ b

@@ -10,14 +10,14 @@ use lib.ListN.{length, drop}
 use borrow.Author.Tests.{lt-ltb, le-ltb}
 use Rattle.base.proofs.Cases.{either, pick_true, pick-false}
 use Rattle.paper.specs.Bytes.{null}
-use Rattle.paper.specs.Writing.{drafted, WriteAnswer, writtenIn, outputAfter}
-use Rattle.write.specs.Told.{refusedAt, countedAs}
-use Rattle.gpc.specs.Parts.{pieces, piecesOn}
+use Rattle.paper.specs.Writing.{drafted, WriteAnswer, written_in, output_after}
+use Rattle.write.specs.Told.{refused_at, counted_as}
+use Rattle.gpc.specs.Parts.{pieces, pieces_on}
 use Rattle.gpc.specs.Records.{Thing, saids}
-use Rattle.gpc.specs.Statements.{things, rowSpots, refused}
+use Rattle.gpc.specs.Statements.{things, row_spots, refused}
 use Rattle.gpc.specs.Canonical.{canon}
-use Rattle.gpc.specs.StatementRows.{thingsOn, thingsIn, testeds}
-use Rattle.gpc.specs.Answers.{draftOf, judgeRows, statementDraft}
+use Rattle.gpc.specs.StatementRows.{things_on, things_in, testeds}
+use Rattle.gpc.specs.Answers.{draft_of, judge_rows, statement_draft}
 use Rattle.gpcexact.proofs.Main.{exact}
 use Rattle.gpcexact.proofs.Named.{rows_row}
 use Rattle.gpcback.specs.Proper.{AllProper}
@@ -25,7 +25,7 @@ use Rattle.gpcback.proofs.Many.{spells-length}
 use Rattle.gpcback.proofs.ManySound.{rows-tested}
 use Rattle.statement.specs.declared.run.Judged.{Judged}
 use Rattle.statement.specs.declared.run.Judged.TheVariants as judged
-use Rattle.statement.specs.Forms.{inRows, Putable, PutAll}
+use Rattle.statement.specs.Forms.{in_rows, Putable, PutAll}
 use Rattle.statement.specs.run.Follows.{Tells}
 use Rattle.statement.specs.writing.Accepted.{Accepted}
 use Rattle.statement.proofs.Pieces.{rows_all, rows-puts}
@@ -33,18 +33,18 @@ use Rattle.statement.proofs.reading.Answering.{refused_as, accepted-as}
 
 -- ---- there are no more rows than bytes
 
-on-few : (n k : ℕ) (s : List ℕ) → length (piecesOn n k s) ≤ k + 1
-unfolding piecesOn
+on-few : (n k : ℕ) (s : List ℕ) → length (pieces_on n k s) ≤ k + 1
+unfolding pieces_on
 on-few n zero s = either (λ (l : List (List ℕ)). length l ≤ 1) (null s) (λ _. omega arith) (λ _. omega arith)
 on-few n (suc k) s = omega (arith, on-few n k (drop n s))
 
-things-length : (rs : List (List ℕ)) → length (thingsOn rs) ≡ length rs
-unfolding thingsOn
+things-length : (rs : List (List ℕ)) → length (things_on rs) ≡ length rs
+unfolding things_on
 things-length [] = refl
 things-length (r ∷ rs) = ap suc (things-length rs)
 
-few : (rows : List ℕ) → length (thingsIn rows) ≤ length rows / 136 + 1
-unfolding thingsIn pieces
+few : (rows : List ℕ) → length (things_in rows) ≤ length rows / 136 + 1
+unfolding things_in pieces
 few rows = omega (arith, things-length (pieces 136 rows), on-few 136 (length rows / 136) rows)
 
 -- ---- `accept`
@@ -53,43 +53,43 @@ module _ (rows out : List ℕ) (count : ℕ) (a : Accepted rows count) where
   pub bytes_fit : length rows < 18446744073709551616 → 130 * count < 18446744073709551616
   bytes_fit l = omega (arith, a.few)
 
-  held : (thingsIn rows ≡ things a.statements) × AllProper (things a.statements)
-  unfolding judgeRows
-  held = rows-tested rows a.statements ((exact rowSpots (testeds (thingsIn rows)) a.statements).0 a.judged).read
+  held : (things_in rows ≡ things a.statements) × AllProper (things a.statements)
+  unfolding judge_rows
+  held = rows-tested rows a.statements ((exact row_spots (testeds (things_in rows)) a.statements).0 a.judged).read
 
-  said : testeds (thingsIn rows) ≡ saids (things a.statements)
-  unfolding judgeRows
-  said = ((exact rowSpots (testeds (thingsIn rows)) a.statements).0 a.judged).read
+  said : testeds (things_in rows) ≡ saids (things a.statements)
+  unfolding judge_rows
+  said = ((exact row_spots (testeds (things_in rows)) a.statements).0 a.judged).read
 
   long : length (canon a.statements) ≡ 130 * count
   unfolding canon
   long = spells-length (things a.statements) held.1 ∙ omega (arith, a.counted)
 
-  draft-is : statementDraft rows ≡ drafted (canon a.statements)
-  unfolding statementDraft draftOf
+  draft-is : statement_draft rows ≡ drafted (canon a.statements)
+  unfolding statement_draft draft_of
   draft-is = rw a.judged refl
 
   module _ (l : length out < 130 * count) where
     short : ltb (length out) (length (canon a.statements)) ≡ true
     short = lt-ltb (length out) (length (canon a.statements)) (omega (arith, l, long))
 
-    pub no_room : (b : WriteAnswer) → b ≡ countedAs 16 (130 * count) → b ≡ writtenIn (length out) (statementDraft rows)
-    unfolding writtenIn
+    pub no_room : (b : WriteAnswer) → b ≡ counted_as 16 (130 * count) → b ≡ written_in (length out) (statement_draft rows)
+    unfolding written_in
     no_room b e = e ∙ rw (draft-is, ← long) (sym (pick_true _ _ short))
 
-    pub left_alone : out ≡ outputAfter out (statementDraft rows)
-    unfolding outputAfter
+    pub left_alone : out ≡ output_after out (statement_draft rows)
+    unfolding output_after
     left_alone = rw draft-is (sym (pick_true _ _ short))
 
   module _ (l : 130 * count ≤ length out) where
     enough : ltb (length out) (length (canon a.statements)) ≡ false
     enough = le-ltb (length out) (length (canon a.statements)) (omega (arith, l, long))
 
-    pub has_room : (b : WriteAnswer) → b ≡ countedAs 0 (130 * count) → b ≡ writtenIn (length out) (statementDraft rows)
-    unfolding writtenIn
+    pub has_room : (b : WriteAnswer) → b ≡ counted_as 0 (130 * count) → b ≡ written_in (length out) (statement_draft rows)
+    unfolding written_in
     has_room b e = e ∙ rw (draft-is, ← long) (sym (pick-false _ _ enough))
 
-    pub can-fill : Putable inRows rows (length out)
+    pub can-fill : Putable in_rows rows (length out)
     can-fill =
         record {
           things = things a.statements;
@@ -98,8 +98,8 @@ module _ (rows out : List ℕ) (count : ℕ) (a : Accepted rows count) where
           room = omega (arith, l, a.counted);
         }
 
-    pub filled-file : (o : List ℕ) → PutAll inRows rows out o → o ≡ outputAfter out (statementDraft rows)
-    unfolding outputAfter canon
+    pub filled-file : (o : List ℕ) → PutAll in_rows rows out o → o ≡ output_after out (statement_draft rows)
+    unfolding output_after canon
     filled-file o p =
         let same : 130 * length (things a.statements) ≡ length (canon a.statements) = omega (arith, long, a.counted) in
         p.by (things a.statements) (rows_all rows ∙ said)
@@ -109,28 +109,28 @@ pub ruleset accepting = (bytes_fit, no_room, left_alone, has_room, can-fill, fil
 
 -- ---- `write_statements`: m is what the rows were judged to be
 
-module _ (rows out : List ℕ) (m : Judged) (t : Tells (length (thingsIn rows)) (judgeRows rows) m) where
+module _ (rows out : List ℕ) (m : Judged) (t : Tells (length (things_in rows)) (judge_rows rows) m) where
   module _ (n k off : ℕ) (q : m ≡ judged.Refused n k off) where
-    refused-so : judgeRows rows ≡ refused n k off
-    refused-so = refused_as (judgeRows rows) n k off (rw q at t)
+    refused-so : judge_rows rows ≡ refused n k off
+    refused-so = refused_as (judge_rows rows) n k off (rw q at t)
 
     pub refused-inside : length rows < 18446744073709551616 → k + 1 < 18446744073709551616
     refused-inside l = omega (arith, rows_row rows n k off refused-so, few rows)
 
-    pub refused-told : (b : WriteAnswer) → b ≡ refusedAt n (k + 1) off → b ≡ writtenIn (length out) (statementDraft rows)
-    unfolding statementDraft draftOf writtenIn
+    pub refused-told : (b : WriteAnswer) → b ≡ refused_at n (k + 1) off → b ≡ written_in (length out) (statement_draft rows)
+    unfolding statement_draft draft_of written_in
     refused-told b e = e ∙ rw (refused-so, add-one k) refl
 
-    pub refused-kept : out ≡ outputAfter out (statementDraft rows)
-    unfolding statementDraft draftOf outputAfter
+    pub refused-kept : out ≡ output_after out (statement_draft rows)
+    unfolding statement_draft draft_of output_after
     refused-kept = rw refused-so refl
 
   pub accepted-told : (count : ℕ) → m ≡ judged.Accepted count → Accepted rows count
-  unfolding judgeRows
+  unfolding judge_rows
   accepted-told count q =
-      let (n, e) : Tells (length (thingsIn rows)) (judgeRows rows) (judged.Accepted count) = rw q at t in
-      let (ss, s) = accepted-as (judgeRows rows) e in
-      let (h, p) = rows-tested rows ss ((exact rowSpots (testeds (thingsIn rows)) ss).0 s).read in
+      let (n, e) : Tells (length (things_in rows)) (judge_rows rows) (judged.Accepted count) = rw q at t in
+      let (ss, s) = accepted-as (judge_rows rows) e in
+      let (h, p) = rows-tested rows ss ((exact row_spots (testeds (things_in rows)) ss).0 s).read in
       record { statements = ss; judged = s; counted = n ∙ ap (λ (l : List Thing). length l) h; few = omega (arith, n, few rows) }
 
 pub ruleset answering = (refused-inside, refused-told, refused-kept, accepted-told)

@@ -5,39 +5,39 @@ use Prim.Native.Nat.{ℕ, ◌+◌, ◌-◌, ◌≤◌, ◌<◌}
 use native.Mathlib.Omega.{arith}
 use lib.ListN.{length, take, drop}
 use Rattle.base.specs.Put.{Wrote}
-use Rattle.gpc.specs.Records.{spell, spellHead, spellMovement}
-use Rattle.gpc.specs.StatementRows.{thingIn, tested}
+use Rattle.gpc.specs.Records.{spell, spell_head, spell_movement}
+use Rattle.gpc.specs.StatementRows.{thing_in, tested}
 use Rattle.gpcback.proofs.Records.{spell-length}
 use Rattle.record.specs.declared.HeadFields.{HeadFields}
 use Rattle.record.specs.declared.MovementFields.{MovementFields}
 use Rattle.record.specs.declared.Entry.{Entry}
 use Rattle.record.specs.declared.Entry.TheVariants as entry
-use Rattle.record.specs.Told.{told, head_of, movementOf, FitsHead, FitsMovement, Fits, in_row as keptInRow}
-use Rattle.statement.specs.Forms.{inRows, Puts, Putable, PutAll, Putting}
+use Rattle.record.specs.Told.{told, head_of, movement_of, FitsHead, FitsMovement, Fits, in_row as kept_in_row}
+use Rattle.statement.specs.Forms.{in_rows, Puts, Putable, PutAll, Putting}
 use Rattle.statement.proofs.Pieces.{rows_short}
 use Rattle.statement.proofs.Putting.{Sane, putting-first, putting-length, putting-inside, putting-room, putting-on, putting-end, head_puts, movement-puts, refused-head-puts, refused-movement-puts, nothing-puts}
 
 -- ---- `put_record`
 
-module _ (o : List ℕ) (at : ℕ) (s : List ℕ) (e : Entry) (q : told (keptInRow s) e ≡ tested (thingIn s)) where
-  pub head-put : (x : HeadFields) (o1 : List ℕ) (r : ℕ) → e ≡ entry.Head x → Wrote o at (spellHead (head_of (keptInRow s) x)) o1 r → Puts inRows o at s o1 r
+module _ (o : List ℕ) (at : ℕ) (s : List ℕ) (e : Entry) (q : told (kept_in_row s) e ≡ tested (thing_in s)) where
+  pub head-put : (x : HeadFields) (o1 : List ℕ) (r : ℕ) → e ≡ entry.Head x → Wrote o at (spell_head (head_of (kept_in_row s) x)) o1 r → Puts in_rows o at s o1 r
   unfolding spell
-  head-put x o1 r h w = head_puts inRows o at s _ e q x o1 r h w
+  head-put x o1 r h w = head_puts in_rows o at s _ e q x o1 r h w
 
-  pub movement-put : (x : MovementFields) (o1 : List ℕ) (r : ℕ) → e ≡ entry.Movement x → Wrote o at (spellMovement (movementOf (keptInRow s) x)) o1 r
-      → Puts inRows o at s o1 r
+  pub movement-put : (x : MovementFields) (o1 : List ℕ) (r : ℕ) → e ≡ entry.Movement x → Wrote o at (spell_movement (movement_of (kept_in_row s) x)) o1 r
+      → Puts in_rows o at s o1 r
   unfolding spell
-  movement-put x o1 r h w = movement-puts inRows o at s _ e q x o1 r h w
+  movement-put x o1 r h w = movement-puts in_rows o at s _ e q x o1 r h w
 
-  pub no-head-put : (off : ℕ) → e ≡ entry.HeadRefused off → Puts inRows o at s o at
-  no-head-put off h = refused-head-puts inRows o at s _ e q off h
+  pub no-head-put : (off : ℕ) → e ≡ entry.HeadRefused off → Puts in_rows o at s o at
+  no-head-put off h = refused-head-puts in_rows o at s _ e q off h
 
-  pub no-movement-put : (off : ℕ) → e ≡ entry.MovementRefused off → Puts inRows o at s o at
-  no-movement-put off h = refused-movement-puts inRows o at s _ e q off h
+  pub no-movement-put : (off : ℕ) → e ≡ entry.MovementRefused off → Puts in_rows o at s o at
+  no-movement-put off h = refused-movement-puts in_rows o at s _ e q off h
 
-  pub none-put : e ≡ entry.Nothing → at + 130 ≤ length o → Puts inRows o at s o at
+  pub none-put : e ≡ entry.Nothing → at + 130 ≤ length o → Puts in_rows o at s o at
   unfolding spell
-  none-put h l = nothing-puts inRows o at s _ e q refl h (omega (arith, l))
+  none-put h l = nothing-puts in_rows o at s _ e q refl h (omega (arith, l))
 
 -- accounts fit their digits
 module _ (e : Entry) (f : Fits e) where
@@ -71,30 +71,30 @@ pub ruleset recordputs = (head-prefix, head-base, movement-prefix, movement-base
 
 -- ---- `fill_file`
 
-sane : Sane inRows
+sane : Sane in_rows
 sane = record { some = omega arith; short = rows_short; sized = spell-length }
 
 module _ (s o : List ℕ) where
-  pub fill-first : Putable inRows s (length o) → Putting inRows s o 0 0 o
-  fill-first h = putting-first inRows sane s o h
+  pub fill-first : Putable in_rows s (length o) → Putting in_rows s o 0 0 o
+  fill-first h = putting-first in_rows sane s o h
 
-  module _ (at next : ℕ) (o1 : List ℕ) (d : Putting inRows s o at next o1) where
+  module _ (at next : ℕ) (o1 : List ℕ) (d : Putting in_rows s o at next o1) where
     pub fill-length : length o1 ≡ length o
-    fill-length = putting-length inRows sane s o at next o1 d
+    fill-length = putting-length in_rows sane s o at next o1 d
 
     module _ (l : at < length s) where
       pub fill-inside : at + 136 ≤ length s
-      fill-inside = putting-inside inRows sane s o at next o1 d l
+      fill-inside = putting-inside in_rows sane s o at next o1 d l
 
       pub fill-room : next + 130 ≤ length o1
-      fill-room = putting-room inRows sane s o at next o1 d l
+      fill-room = putting-room in_rows sane s o at next o1 d l
 
-      pub fill_on : (o2 : List ℕ) (r : ℕ) → Puts inRows o1 next (take (at + 136 - at) (drop at s)) o2 r → Putting inRows s o (at + 136) r o2
+      pub fill_on : (o2 : List ℕ) (r : ℕ) → Puts in_rows o1 next (take (at + 136 - at) (drop at s)) o2 r → Putting in_rows s o (at + 136) r o2
       fill_on o2 r u =
           let n : at + 136 - at ≡ 136 = omega arith in
-          putting-on inRows sane s o at next o1 d l o2 r (rw n at u)
+          putting-on in_rows sane s o at next o1 d l o2 r (rw n at u)
 
-    pub fill_end : length s ≤ at → PutAll inRows s o o1
-    fill_end h = putting-end inRows sane s o at next o1 d h
+    pub fill_end : length s ≤ at → PutAll in_rows s o o1
+    fill_end h = putting-end in_rows sane s o at next o1 d h
 
 pub ruleset filling = (fill-first, fill-length, fill-inside, fill-room, fill_on, fill_end)

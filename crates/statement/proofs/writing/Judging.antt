@@ -5,16 +5,16 @@ use Prim.Native.Nat.{ℕ, suc, ◌+◌, ◌-◌, ◌*◌, ◌≤◌, ◌<◌}
 use native.Mathlib.Omega.{arith}
 use lib.ListN.{length, take, drop}
 use Rattle.gpc.specs.Records.{Thing, Record}
-use Rattle.gpc.specs.StatementRows.{thingIn, thingsIn, tested, testeds}
-use Rattle.gpc.specs.Statements.{rowSpots, top, judge}
-use Rattle.gpc.specs.Answers.{judgeRows}
+use Rattle.gpc.specs.StatementRows.{thing_in, things_in, tested, testeds}
+use Rattle.gpc.specs.Statements.{row_spots, top, judge}
+use Rattle.gpc.specs.Answers.{judge_rows}
 use Rattle.record.specs.declared.Entry.{Entry}
-use Rattle.record.specs.Told.{told, in_row as keptInRow}
+use Rattle.record.specs.Told.{told, in_row as kept_in_row}
 use Rattle.statement.specs.declared.run.Run.{Run}
 use Rattle.statement.specs.declared.run.Step.{Step}
 use Rattle.statement.specs.declared.run.Step.TheVariants as step
 use Rattle.statement.specs.declared.run.Judged.{Judged}
-use Rattle.statement.specs.Forms.{inRows, read_all, Passed}
+use Rattle.statement.specs.Forms.{in_rows, read_all, Passed}
 use Rattle.statement.specs.run.Follows.{Sized, Follows, Stood, wrong, outcome, Leads, Tells, Finishes}
 use Rattle.statement.proofs.run.Leading.{stood-sized}
 use Rattle.statement.proofs.Pieces.{rows_all, rows_short}
@@ -26,22 +26,22 @@ testeds-length [] = refl
 testeds-length (t ∷ ts) = ap suc (testeds-length ts)
 
 module _ (s : List ℕ) where
-  judged : judge rowSpots (read_all inRows s) ≡ judgeRows s
-  unfolding judgeRows
-  judged = ap (judge rowSpots) (rows_all s)
+  judged : judge row_spots (read_all in_rows s) ≡ judge_rows s
+  unfolding judge_rows
+  judged = ap (judge row_spots) (rows_all s)
 
-  counted : length (read_all inRows s) ≡ length (thingsIn s)
-  counted = ap (λ (l : List Record). length l) (rows_all s) ∙ testeds-length (thingsIn s)
+  counted : length (read_all in_rows s) ≡ length (things_in s)
+  counted = ap (λ (l : List Record). length l) (rows_all s) ∙ testeds-length (things_in s)
 
-  pub rows-first : (x : Run) → Follows x top → Passed inRows rowSpots s x 0 0
-  rows-first x h = passed_first inRows (omega arith) rowSpots s x h
+  pub rows-first : (x : Run) → Follows x top → Passed in_rows row_spots s x 0 0
+  rows-first x h = passed_first in_rows (omega arith) row_spots s x h
 
-  module _ (x : Run) (at k : ℕ) (d : Passed inRows rowSpots s x at k) where
+  module _ (x : Run) (at k : ℕ) (d : Passed in_rows row_spots s x at k) where
     pub rows_inside : at ≤ length s
     rows_inside = d.inside
 
     pub rows-stood : Stood x k
-    rows-stood = passed-stood inRows (omega arith) rowSpots s x at k d
+    rows-stood = passed-stood in_rows (omega arith) row_spots s x at k d
 
     pub rows-sized : Sized x
     rows-sized = stood-sized x k rows-stood
@@ -49,22 +49,22 @@ module _ (s : List ℕ) where
     pub rows_few : 136 ≤ length s - at → length s < 18446744073709551616 → 130 * k + 130 ≤ 18446744073709551615
     rows_few h l = omega (arith, d.place, d.inside)
 
-    module _ (h : 136 ≤ length s - at) (e : Entry) (q : told (keptInRow (take (at + 136 - at) (drop at s))) e ≡ tested (thingIn (take (at + 136 - at) (drop at s))))
-        (m : Step) (v : Leads rowSpots x e k m) where
+    module _ (h : 136 ≤ length s - at) (e : Entry) (q : told (kept_in_row (take (at + 136 - at) (drop at s))) e ≡ tested (thing_in (take (at + 136 - at) (drop at s))))
+        (m : Step) (v : Leads row_spots x e k m) where
       size : at + 136 - at ≡ 136
       size = omega arith
 
-      pub rows-refused : (n j off : ℕ) → m ≡ step.Refused n j off → outcome (judgeRows s) ≡ wrong n j off
+      pub rows-refused : (n j off : ℕ) → m ≡ step.Refused n j off → outcome (judge_rows s) ≡ wrong n j off
       rows-refused n j off r =
-          rw (← judged) (passed-refused inRows (omega arith) rowSpots s x at k d (omega (arith, h, d.inside)) _ e (rw size at q) m v n j off r)
+          rw (← judged) (passed-refused in_rows (omega arith) row_spots s x at k d (omega (arith, h, d.inside)) _ e (rw size at q) m v n j off r)
 
-      pub rows_on : (y : Run) → m ≡ step.On y → Passed inRows rowSpots s y (at + 136) (k + 1)
-      rows_on y r = passed_on inRows (omega arith) rowSpots s x at k d (omega (arith, h, d.inside)) _ e (rw size at q) m v y r
+      pub rows-on : (y : Run) → m ≡ step.On y → Passed in_rows row_spots s y (at + 136) (k + 1)
+      rows-on y r = passed_on in_rows (omega arith) row_spots s x at k d (omega (arith, h, d.inside)) _ e (rw size at q) m v y r
 
-    pub rows_left : at < length s → length s - at < 136 → outcome (judgeRows s) ≡ wrong 50 k 0
-    rows_left l h = rw (← judged) (passed-left inRows (omega arith) rowSpots s x at k d l (omega (arith, h, d.inside)) rows_short)
+    pub rows_left : at < length s → length s - at < 136 → outcome (judge_rows s) ≡ wrong 50 k 0
+    rows_left l h = rw (← judged) (passed-left in_rows (omega arith) row_spots s x at k d l (omega (arith, h, d.inside)) rows_short)
 
-    pub rows_end : (r : Judged) → length s ≤ at → Finishes rowSpots x k r → Tells (length (thingsIn s)) (judgeRows s) r
-    rows_end r h g = rw (← judged, ← counted) (passed-end inRows (omega arith) rowSpots s x at k d r h g)
+    pub rows_end : (r : Judged) → length s ≤ at → Finishes row_spots x k r → Tells (length (things_in s)) (judge_rows s) r
+    rows_end r h g = rw (← judged, ← counted) (passed-end in_rows (omega arith) row_spots s x at k d r h g)
 
-pub ruleset judging = (rows-first, rows_inside, rows-stood, rows-sized, rows_few, rows-refused, rows_on, rows_left, rows_end)
+pub ruleset judging = (rows-first, rows_inside, rows-stood, rows-sized, rows_few, rows-refused, rows-on, rows_left, rows_end)

@@ -1,7 +1,7 @@
 -- What reading statements tells its caller, and what its second pass is given and leaves. Document 02, W-204. Assumes nothing.
 use Rattle.std.specs.Prelude.{ℕ, ◌≡◌, List}
 use Rattle.gpc.specs.Statements.{Statement, accepted}
-use Rattle.gpc.specs.Answers.{StatementAnswer, rowCount, judgeFile}
+use Rattle.gpc.specs.Answers.{StatementAnswer, row_count, judge_file}
 use Rattle.statement.specs.declared.reading.AboStatement.{AboStatement}
 
 -- the number, its line and byte, the count of rows, the rows needed
@@ -11,5 +11,5 @@ told a = record { number = a.number; line = a.line; byte = a.byte; rows = a.rows
 -- the file was judged and accepted, with so many records
 pub record Accepted (f : List ℕ) (count : ℕ) : Type 0 where
   pub statements : List Statement
-  pub judged : judgeFile f ≡ accepted statements
-  pub counted : count ≡ rowCount statements
+  pub judged : judge_file f ≡ accepted statements
+  pub counted : count ≡ row_count statements

@@ -5,7 +5,7 @@ use Rattle.paper.specs.Entries.{got, no}
 use Rattle.turnover.specs.signed.Told.{said}
 use Rattle.turnover.specs.Counts.{Counts}
 use Rattle.gpc.specs.Records.{Head, Movement, Record}
-use Rattle.gpc.specs.Statements.{statement, moves_of, Spots as Places, closed, Judged as Answer, accepted, refused, Stage, top, within, judgeOn}
+use Rattle.gpc.specs.Statements.{statement, moves_of, Spots as Places, closed, Judged as Answer, accepted, refused, Stage, top, within, judge_on}
 use Rattle.record.specs.declared.HeadFields.{HeadFields}
 use Rattle.record.specs.declared.Entry.{Entry}
 use Rattle.record.specs.Told.{Kept, head_of, told}
@@ -19,8 +19,8 @@ use Rattle.statement.specs.declared.run.Judged.{Judged}
 use Rattle.statement.specs.declared.run.Judged.TheVariants as judged
 
 -- the places of a head's fields
-abbrev pub spotsOf : Spots → Places
-spotsOf p = record { new = p.new; debit = p.debit; credit = p.credit }
+abbrev pub spots_of : Spots → Places
+spots_of p = record { new = p.new; debit = p.debit; credit = p.credit }
 
 -- balances and turnovers of at most fourteen digits
 pub record Sized (x : Run) : Type 0 where
@@ -95,8 +95,8 @@ outcome (refused n k off) = wrong n k off
 -- the record r behind k others leads on to a stage from which all comes to the same; or it ends the judging
 abbrev pub Steps : Places → Record → ℕ → Stage → Step → Type 0
 Steps p r k st (step.On x) =
-    (next : Stage) × Going x (suc k) next × ((rs : List Record) → outcome (judgeOn p k st (r ∷ rs)) ≡ outcome (judgeOn p (suc k) next rs))
-Steps p r k st (step.Refused n j off) = (rs : List Record) → outcome (judgeOn p k st (r ∷ rs)) ≡ wrong n j off
+    (next : Stage) × Going x (suc k) next × ((rs : List Record) → outcome (judge_on p k st (r ∷ rs)) ≡ outcome (judge_on p (suc k) next rs))
+Steps p r k st (step.Refused n j off) = (rs : List Record) → outcome (judge_on p k st (r ∷ rs)) ≡ wrong n j off
 
 -- .. from the stage that x stands for; what is kept of the record does not matter
 pub record Leads (p : Places) (x : Run) (e : Entry) (k : ℕ) (r : Step) : Type 0 where
@@ -109,4 +109,4 @@ Tells k a (judged.Refused n j off) = outcome a ≡ wrong n j off
 
 -- .. at the end of k records, from the stage that x stands for
 pub record Finishes (p : Places) (x : Run) (k : ℕ) (r : Judged) : Type 0 where
-  pub by : (st : Stage) → Follows x st → Tells k (judgeOn p k st []) r
+  pub by : (st : Stage) → Follows x st → Tells k (judge_on p k st []) r

@@ -4,7 +4,7 @@ use Prim.Native.Nat.{ℕ, ◌≤◌}
 use native.Mathlib.Omega.{arith}
 use Rattle.paper.specs.Proper as paper
 use Rattle.roundtrip.proofs.flat.Few.{few-top, few-rows}
-use Rattle.rows.specs.walk.Walks.{beforeOf}
+use Rattle.rows.specs.walk.Walks.{before_of}
 use Rattle.survey.specs.declared.state.State.{State}
 use Rattle.survey.specs.state.Stands.{Starts}
 use Rattle.survey.specs.state.Low.{Low}
@@ -27,5 +27,5 @@ pub record Limits (k : ℕ) (st : State) : Type 0 where
 module _ (k : ℕ) (st : State) (low : Low k st) where
   pub limits : Limits k st
   limits =
-      let few : low.n ≤ 200000000 = few-rows (beforeOf st.before) low.n low.few in
+      let few : low.n ≤ 200000000 = few-rows (before_of st.before) low.n low.few in
       record { row = omega (arith, low.row); bytes = omega (arith, low.bytes) }

@@ -7,50 +7,50 @@ use lib.ListN.{length}
 use Rattle.base.proofs.Cases.{pick_true, pick-false}
 use Rattle.paper.specs.Proper.{Verdict, wrong}
 use Rattle.paper.specs.Numerals.{decimal}
-use Rattle.roundtrip.specs.flat.Count.{groupClosing, fileClosing}
+use Rattle.roundtrip.specs.flat.Count.{group_closing, file_closing}
 use Rattle.rows.specs.declared.read.Check.{Check}
 use Rattle.rows.specs.declared.read.Check.TheVariants as check
 use Rattle.rows.specs.declared.walk.Stage.{Stage}
 use Rattle.rows.specs.declared.walk.Stage.TheVariants as stage
-use Rattle.rows.specs.walk.Walks.{stageOf}
+use Rattle.rows.specs.walk.Walks.{stage_of}
 use Rattle.survey.specs.declared.state.Found.{Found}
 use Rattle.survey.specs.state.Stands.{kept, Tests}
 
 -- ---- bytes that close what is open
 
 module _ (st : Stage) (sum : ℕ) where
-  pub file-closing-top : st ≡ stage.NeedFile → 0 ≡ fileClosing (stageOf st) sum
-  unfolding fileClosing
+  pub file-closing-top : st ≡ stage.NeedFile → 0 ≡ file_closing (stage_of st) sum
+  unfolding file_closing
   file-closing-top e = rw e
 
-  pub file-closing-empty : st ≡ stage.NeedGroup → 0 ≡ fileClosing (stageOf st) sum
-  unfolding fileClosing
+  pub file-closing-empty : st ≡ stage.NeedGroup → 0 ≡ file_closing (stage_of st) sum
+  unfolding file_closing
   file-closing-empty e = rw e
 
-  pub group-closing-top : st ≡ stage.NeedFile → 0 ≡ groupClosing (stageOf st) sum
-  unfolding groupClosing
+  pub group-closing-top : st ≡ stage.NeedFile → 0 ≡ group_closing (stage_of st) sum
+  unfolding group_closing
   group-closing-top e = rw e
 
-  pub group-closing-empty : st ≡ stage.NeedGroup → 0 ≡ groupClosing (stageOf st) sum
-  unfolding groupClosing
+  pub group-closing-empty : st ≡ stage.NeedGroup → 0 ≡ group_closing (stage_of st) sum
+  unfolding group_closing
   group-closing-empty e = rw e
 
   -- w is how many digits the open group's total has
   module _ (w : ℕ) (width : w ≡ length (decimal sum)) where
-    pub file-closing-bare : st ≡ stage.NeedItem → w ≡ fileClosing (stageOf st) sum
-    unfolding fileClosing
+    pub file-closing-bare : st ≡ stage.NeedItem → w ≡ file_closing (stage_of st) sum
+    unfolding file_closing
     file-closing-bare e = rw (e, width)
 
-    pub file-closing-open : st ≡ stage.Any → w + 10 ≡ fileClosing (stageOf st) sum
-    unfolding fileClosing
+    pub file-closing-open : st ≡ stage.Any → w + 10 ≡ file_closing (stage_of st) sum
+    unfolding file_closing
     file-closing-open e = rw (e, width)
 
-    pub group-closing-bare : st ≡ stage.NeedItem → w ≡ groupClosing (stageOf st) sum
-    unfolding groupClosing
+    pub group-closing-bare : st ≡ stage.NeedItem → w ≡ group_closing (stage_of st) sum
+    unfolding group_closing
     group-closing-bare e = rw (e, width)
 
-    pub group-closing-open : st ≡ stage.Any → w + 5 ≡ groupClosing (stageOf st) sum
-    unfolding groupClosing
+    pub group-closing-open : st ≡ stage.Any → w + 5 ≡ group_closing (stage_of st) sum
+    unfolding group_closing
     group-closing-open e = rw (e, width)
 
 -- ---- what was found

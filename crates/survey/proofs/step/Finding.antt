@@ -7,14 +7,14 @@ use native.Mathlib.Omega.{arith}
 use lib.Dec.{ltb, eqb}
 use Rattle.sheet.specs.declared.Sheet.{Sheet}
 use Rattle.sheet.specs.declared.Limits.{Limits}
-use Rattle.sheet.specs.Sheets.{kindAllowed, LimitsOf}
-use Rattle.paper.specs.Days.{dueAllowed}
-use Rattle.paper.specs.Terms.{dayHere, bankDue}
+use Rattle.sheet.specs.Sheets.{kind_allowed, LimitsOf}
+use Rattle.paper.specs.Days.{due_allowed}
+use Rattle.paper.specs.Terms.{day_here, bank_due}
 use Rattle.paper.specs.Accounts.{Account}
-use Rattle.paper.specs.FileLine.{numberAllowed}
-use Rattle.paper.specs.Batch.{Item, Header, Thing, aFile, aGroup, anItem}
+use Rattle.paper.specs.FileLine.{number_allowed}
+use Rattle.paper.specs.Batch.{Item, Header, Thing, a_file, a_group, an_item}
 use Rattle.paper.specs.Proper.{Verdict, wrong, check}
-use Rattle.paper.specs.Carried.{Place, itemCarried, rowsCarried}
+use Rattle.paper.specs.Carried.{Place, item_carried, rows_carried}
 use Rattle.calendar.specs.declared.term.Banks.{Banks}
 use Rattle.calendar.specs.declared.term.Banks.TheVariants as which
 use Rattle.calendar.specs.term.Allows.{allows}
@@ -61,28 +61,28 @@ module _ (sh : Sheet) (k : ℕ) (st : State) where
   module _ (none : st.found.row ≤ 0) (d : Check) (g : Found) (tests : Tests k d g) where
     pub file-finds : (from to : ℕ) (seen : List ℕ) (kind number : ℕ)
         → ((h : Header) (l : List ℕ) → h.from ≡ from → h.to ≡ to → Holds seen l → (k : ℕ) (rest : Verdict)
-        → after k d rest ≡ check k 1 (kindAllowed sh kind) (check k 2 (numberAllowed sh.interval h l number) rest))
-        → (today : ℕ) (h : Header) (p : Place) → h.from ≡ from → h.to ≡ to → Holds seen p.seen → Finds sh today h p k st (aFile kind number) g
-    unfolding rowsCarried
+        → after k d rest ≡ check k 1 (kind_allowed sh kind) (check k 2 (number_allowed sh.interval h l number) rest))
+        → (today : ℕ) (h : Header) (p : Place) → h.from ≡ from → h.to ≡ to → Holds seen p.seen → Finds sh today h p k st (a_file kind number) g
+    unfolding rows_carried
     file-finds from to seen kind number carried today h p f t holds =
         record { same = λ ts. tests.same _ ∙ (carried h p.seen f t holds k _ ∙ sym (kept-none st.found _ none)) }
 
     pub group-finds : (today kind date : ℕ)
-        → ((k : ℕ) (rest : Verdict) → after k d rest ≡ check k 1 (dueAllowed (dayHere sh kind) sh.early sh.ahead today date) rest)
-        → (payer : Account) (h : Header) (p : Place) → p.kind ≡ kind → Finds sh today h p k st (aGroup date payer) g
-    unfolding rowsCarried
+        → ((k : ℕ) (rest : Verdict) → after k d rest ≡ check k 1 (due_allowed (day_here sh kind) sh.early sh.ahead today date) rest)
+        → (payer : Account) (h : Header) (p : Place) → p.kind ≡ kind → Finds sh today h p k st (a_group date payer) g
+    unfolding rows_carried
     group-finds today kind date carried payer h p e =
-        let here : (k : ℕ) (rest : Verdict) → after k d rest ≡ check k 1 (dueAllowed (dayHere sh p.kind) sh.early sh.ahead today date) rest = rw e carried in
+        let here : (k : ℕ) (rest : Verdict) → after k d rest ≡ check k 1 (due_allowed (day_here sh p.kind) sh.early sh.ahead today date) rest = rw e carried in
         record { same = λ ts. tests.same _ ∙ (here k _ ∙ sym (kept-none st.found _ none)) }
 
     pub item-finds : (all : ℕ) (banks : Banks) (x : Item)
         → ((k : ℕ) (rest : Verdict)
-        → after k d rest ≡ check k 0 (ltb all sh.fileitems) (check k 5 (allows banks sh.bank x.bank) (itemCarried sh k x rest)))
-        → (today : ℕ) (h : Header) (p : Place) → p.items ≡ all → Due sh today banks p.kind p.date → Finds sh today h p k st (anItem x) g
-    unfolding rowsCarried
+        → after k d rest ≡ check k 0 (ltb all sh.fileitems) (check k 5 (allows banks sh.bank x.bank) (item_carried sh k x rest)))
+        → (today : ℕ) (h : Header) (p : Place) → p.items ≡ all → Due sh today banks p.kind p.date → Finds sh today h p k st (an_item x) g
+    unfolding rows_carried
     item-finds all banks x carried today h p e due =
         let here : (k : ℕ) (rest : Verdict)
-        → after k d rest ≡ check k 0 (ltb p.items sh.fileitems) (check k 5 (bankDue sh today p.kind p.date x.bank) (itemCarried sh k x rest)) = rw (e, ← due x.bank) carried in
+        → after k d rest ≡ check k 0 (ltb p.items sh.fileitems) (check k 5 (bank_due sh today p.kind p.date x.bank) (item_carried sh k x rest)) = rw (e, ← due x.bank) carried in
         record { same = λ ts. tests.same _ ∙ (here k _ ∙ sym (kept-none st.found _ none)) }
 
 pub ruleset finding = (file-finds, group-finds, item-finds)

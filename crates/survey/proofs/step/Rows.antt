@@ -5,8 +5,8 @@ use Prim.Native.Nat.{ℕ, ◌+◌, ◌/◌}
 use native.Mathlib.Omega.{arith}
 use Rattle.sheet.specs.declared.Sheet.{Sheet}
 use Rattle.paper.specs.Accounts.{Account, account}
-use Rattle.paper.specs.Batch.{Header, Thing, aFile, aGroup, anItem}
-use Rattle.paper.specs.Rows.{thingIn}
+use Rattle.paper.specs.Batch.{Header, Thing, a_file, a_group, an_item}
+use Rattle.paper.specs.Rows.{thing_in}
 use Rattle.paper.specs.Carried.{Place}
 use Rattle.calendar.specs.declared.term.Banks.{Banks}
 use Rattle.rows.specs.declared.walk.Before.{Before}
@@ -15,7 +15,7 @@ use Rattle.rows.specs.declared.walk.Walk.TheVariants.{On, Wrong}
 use Rattle.rows.specs.declared.read.ItemRow.{ItemRow}
 use Rattle.rows.specs.declared.read.RowRead.{RowRead}
 use Rattle.rows.specs.declared.read.RowRead.TheVariants as row
-use Rattle.rows.specs.read.Told.{told, item_of, toldItem}
+use Rattle.rows.specs.read.Told.{told, item_of, told_item}
 use Rattle.rows.specs.walk.Walks.{Walks}
 use Rattle.rows.proofs.walk.Passed.{file-passed, item-told, walks-on}
 use Rattle.fileline.specs.seen.Bits.{Holds}
@@ -39,33 +39,33 @@ module _ (sh : Sheet) (k : ℕ) (st : State) (t : Thing) (r : Walk) (walks : Wal
 -- ---- each kind of row, and the state behind it
 
 module _ (sh : Sheet) (k : ℕ) (st next : State) (low : Low (k + 1) next) where
-  pub steps-file : (kind number : ℕ) (r : Walk) → Walks st.before (aFile kind number) r → (b : Before) → r ≡ On b → (from to : ℕ) (seen : List ℕ)
-      → ((today : ℕ) (h : Header) (p : Place) → h.from ≡ from → h.to ≡ to → Holds seen p.seen → Behind sh today h p k st (aFile kind number) next)
-      → (today all before : ℕ) (banks : Banks) → Steps sh today from to all before banks seen k st (aFile kind number) (step.File next kind (number / 1000))
+  pub steps-file : (kind number : ℕ) (r : Walk) → Walks st.before (a_file kind number) r → (b : Before) → r ≡ On b → (from to : ℕ) (seen : List ℕ)
+      → ((today : ℕ) (h : Header) (p : Place) → h.from ≡ from → h.to ≡ to → Holds seen p.seen → Behind sh today h p k st (a_file kind number) next)
+      → (today all before : ℕ) (banks : Banks) → Steps sh today from to all before banks seen k st (a_file kind number) (step.File next kind (number / 1000))
   steps-file kind number r w b e from to seen behind today all before banks =
       let passed = file-passed st.before b kind number (walks-on st.before _ r w b e) in
       record {
         low = (low, omega (arith, passed.small));
-        goes = λ h p f t known. passed_on sh today h p k st (aFile kind number) next (behind today h p f t known.earlier);
+        goes = λ h p f t known. passed_on sh today h p k st (a_file kind number) next (behind today h p f t known.earlier);
       }
 
   pub steps-group : (kind date : ℕ) (payer : Account) (today : ℕ)
-      → ((h : Header) (p : Place) → p.kind ≡ kind → Behind sh today h p k st (aGroup date payer) next)
-      → (from to all : ℕ) (banks : Banks) (seen : List ℕ) → Steps sh today from to all kind banks seen k st (aGroup date payer) (step.Group next date)
+      → ((h : Header) (p : Place) → p.kind ≡ kind → Behind sh today h p k st (a_group date payer) next)
+      → (from to all : ℕ) (banks : Banks) (seen : List ℕ) → Steps sh today from to all kind banks seen k st (a_group date payer) (step.Group next date)
   steps-group kind date payer today b from to all banks seen =
-      record { low = low; goes = λ h p f t known. passed_on sh today h p k st (aGroup date payer) next (b h p known.within) }
+      record { low = low; goes = λ h p f t known. passed_on sh today h p k st (a_group date payer) next (b h p known.within) }
 
-  pub steps-item : (texts : List ℕ) (x : ItemRow) (r : Walk) → Walks st.before (toldItem texts x) r → (b : Before) → r ≡ On b → (all : ℕ) (banks : Banks)
-      → ((today : ℕ) (h : Header) (p : Place) → p.items ≡ all → Due sh today banks p.kind p.date → Behind sh today h p k st (anItem (item_of texts x)) next)
-      → (today from to kind : ℕ) (seen : List ℕ) → Steps sh today from to all kind banks seen k st (toldItem texts x) (step.Item next)
+  pub steps-item : (texts : List ℕ) (x : ItemRow) (r : Walk) → Walks st.before (told_item texts x) r → (b : Before) → r ≡ On b → (all : ℕ) (banks : Banks)
+      → ((today : ℕ) (h : Header) (p : Place) → p.items ≡ all → Due sh today banks p.kind p.date → Behind sh today h p k st (an_item (item_of texts x)) next)
+      → (today from to kind : ℕ) (seen : List ℕ) → Steps sh today from to all kind banks seen k st (told_item texts x) (step.Item next)
   steps-item texts x r w b e all banks behind today from to kind seen =
       rw (item-told st.before b texts x (walks-on st.before _ r w b e))
-      (record { low = low; goes = λ h p f t known. passed_on sh today h p k st (anItem (item_of texts x)) next (behind today h p known.items known.due) })
+      (record { low = low; goes = λ h p f t known. passed_on sh today h p k st (an_item (item_of texts x)) next (behind today h p known.items known.due) })
 
 pub ruleset stepping = (steps-wrong, steps-file, steps-group, steps-item)
 
 -- an item's row that leads on is that of an item
-pub item-walks : (b : Before) (texts : List ℕ) (x : ItemRow) (r : Walk) → Walks b (toldItem texts x) r → (next : Before) → r ≡ On next → Walks b (anItem (item_of texts x)) (On next)
+pub item-walks : (b : Before) (texts : List ℕ) (x : ItemRow) (r : Walk) → Walks b (told_item texts x) r → (next : Before) → r ≡ On next → Walks b (an_item (item_of texts x)) (On next)
 item-walks b texts x r w next e =
     let on = walks-on b _ r w next e in
     rw (item-told b next texts x on) at on
@@ -74,17 +74,17 @@ item-walks b texts x r w next e =
 
 module _ (texts : List ℕ) (r : RowRead) (sh : Sheet) (k : ℕ) (st : State) (s : Step) where
   pub row-file : (kind number : ℕ) → r ≡ row.File kind number → (from to : ℕ) (seen : List ℕ)
-      → ((today all before : ℕ) (banks : Banks) → Steps sh today from to all before banks seen k st (aFile kind number) s)
+      → ((today all before : ℕ) (banks : Banks) → Steps sh today from to all before banks seen k st (a_file kind number) s)
       → (today all before : ℕ) (banks : Banks) → StepsRead sh today from to all before banks seen k st texts r s
   row-file kind number e from to seen p today all before banks = record { steps = rw e (p today all before banks) }
 
   pub row-group : (date prefix base : ℕ) → r ≡ row.Group date prefix base → (today kind : ℕ)
-      → ((from to all : ℕ) (banks : Banks) (seen : List ℕ) → Steps sh today from to all kind banks seen k st (aGroup date (account prefix base)) s)
+      → ((from to all : ℕ) (banks : Banks) (seen : List ℕ) → Steps sh today from to all kind banks seen k st (a_group date (account prefix base)) s)
       → (from to all : ℕ) (banks : Banks) (seen : List ℕ) → StepsRead sh today from to all kind banks seen k st texts r s
   row-group date prefix base e today kind p from to all banks seen = record { steps = rw e (p from to all banks seen) }
 
   pub row-item : (x : ItemRow) → r ≡ row.Item x → (all : ℕ) (banks : Banks)
-      → ((today from to kind : ℕ) (seen : List ℕ) → Steps sh today from to all kind banks seen k st (toldItem texts x) s)
+      → ((today from to kind : ℕ) (seen : List ℕ) → Steps sh today from to all kind banks seen k st (told_item texts x) s)
       → (today from to kind : ℕ) (seen : List ℕ) → StepsRead sh today from to all kind banks seen k st texts r s
   row-item x e all banks p today from to kind seen = record { steps = rw e (p today from to kind seen) }
 
@@ -97,8 +97,8 @@ pub ruleset rows = (row-file, row-group, row-item, row-strange)
 
 -- what it was read as is what its words say
 pub stepped : {sh : Sheet} {today from to all kind : ℕ} {banks : Banks} {seen : List ℕ} {k : ℕ} {st : State} {texts : List ℕ} {r : RowRead} {s : Step}
-    → StepsRead sh today from to all kind banks seen k st texts r s → (words : List ℕ) → ((t : List ℕ) → told t r ≡ thingIn t words)
-    → LowStep k s × ((h : Header) (p : Place) → h.from ≡ from → h.to ≡ to → Known sh today all kind banks seen p → Goes sh today h p k st (thingIn texts words) s)
+    → StepsRead sh today from to all kind banks seen k st texts r s → (words : List ℕ) → ((t : List ℕ) → told t r ≡ thing_in t words)
+    → LowStep k s × ((h : Header) (p : Place) → h.from ≡ from → h.to ≡ to → Known sh today all kind banks seen p → Goes sh today h p k st (thing_in texts words) s)
 stepped {sh} {today} {from} {to} {all} {kind} {banks} {seen} {k} {st} {texts} {r} {s} p words read =
-    let q : Steps sh today from to all kind banks seen k st (thingIn texts words) s = rw (read texts) at p.steps in
+    let q : Steps sh today from to all kind banks seen k st (thing_in texts words) s = rw (read texts) at p.steps in
     (q.low, q.goes)

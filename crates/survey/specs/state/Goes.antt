@@ -2,19 +2,19 @@
 use Rattle.std.specs.Prelude.{ℕ, ◌+◌, ◌≡◌, List, ◌∷◌}
 use Rattle.sheet.specs.declared.Sheet.{Sheet}
 use Rattle.paper.specs.Batch.{Header, Thing}
-use Rattle.paper.specs.Carried.{Place, behindGroup, behindItem}
+use Rattle.paper.specs.Carried.{Place, behind_group, behind_item}
 use Rattle.survey.specs.declared.state.State.{State}
 use Rattle.survey.specs.declared.state.Step.{Step}
 use Rattle.survey.specs.declared.state.Step.TheVariants as step
 use Rattle.survey.specs.state.Stands.{improper, resume}
 
 -- behind an account file whose number has these first three digits
-abbrev pub behindSeries : Place → ℕ → ℕ → Place
-behindSeries p kind first = record { items = p.items; seen = first ∷ p.seen; kind = kind; date = 0 }
+abbrev pub behind_series : Place → ℕ → ℕ → Place
+behind_series p kind first = record { items = p.items; seen = first ∷ p.seen; kind = kind; date = 0 }
 
 -- row k is t and stands at p, and whatever rows follow, the outcome from it on is that of the step
 abbrev pub Goes : Sheet → ℕ → Header → Place → ℕ → State → Thing → Step → Type 0
-Goes sh today h p k st t (step.Item next) = (ts : List Thing) → resume sh today h (k + 1) (behindItem p) next ts ≡ resume sh today h k p st (t ∷ ts)
-Goes sh today h p k st t (step.Group next date) = (ts : List Thing) → resume sh today h (k + 1) (behindGroup p date) next ts ≡ resume sh today h k p st (t ∷ ts)
-Goes sh today h p k st t (step.File next kind first) = (ts : List Thing) → resume sh today h (k + 1) (behindSeries p kind first) next ts ≡ resume sh today h k p st (t ∷ ts)
+Goes sh today h p k st t (step.Item next) = (ts : List Thing) → resume sh today h (k + 1) (behind_item p) next ts ≡ resume sh today h k p st (t ∷ ts)
+Goes sh today h p k st t (step.Group next date) = (ts : List Thing) → resume sh today h (k + 1) (behind_group p date) next ts ≡ resume sh today h k p st (t ∷ ts)
+Goes sh today h p k st t (step.File next kind first) = (ts : List Thing) → resume sh today h (k + 1) (behind_series p kind first) next ts ≡ resume sh today h k p st (t ∷ ts)
 Goes sh today h p k st t (step.Wrong field) = (ts : List Thing) → improper k field ≡ resume sh today h k p st (t ∷ ts)

@@ -2,7 +2,7 @@
 use Rattle.std.specs.Prelude.{ℕ, suc, ◌+◌, ◌*◌, ◌≤◌, ◌<◌, ◌≡◌}
 use Rattle.paper.specs.Batch.{most14}
 use Rattle.roundtrip.specs.flat.Few.{Few}
-use Rattle.rows.specs.walk.Walks.{beforeOf}
+use Rattle.rows.specs.walk.Walks.{before_of}
 use Rattle.survey.specs.declared.state.State.{State}
 use Rattle.survey.specs.declared.state.Step.{Step}
 use Rattle.survey.specs.declared.state.Step.TheVariants as step
@@ -11,7 +11,7 @@ use Rattle.survey.specs.declared.state.Step.TheVariants as step
 pub record Low (k : ℕ) (st : State) : Type 0 where
   pub n : ℕ
   pub row : k ≡ suc n
-  pub few : Few (beforeOf st.before) n
+  pub few : Few (before_of st.before) n
   pub bytes : st.bytes ≤ 500 * n
   pub sum : st.before.sum ≤ most14
 

@@ -4,11 +4,11 @@ use Rattle.base.specs.Pick.{pick}
 use Rattle.sheet.specs.declared.Sheet.{Sheet}
 use Rattle.paper.specs.Batch.{Header, Thing}
 use Rattle.paper.specs.Proper as paper
-use Rattle.paper.specs.Carried.{Place, rowsCarried}
+use Rattle.paper.specs.Carried.{Place, rows_carried}
 use Rattle.roundtrip.specs.flat.Count.{count}
 use Rattle.rows.specs.declared.read.Check.{Check}
 use Rattle.rows.specs.read.After.{after}
-use Rattle.rows.specs.walk.Walks.{beforeOf}
+use Rattle.rows.specs.walk.Walks.{before_of}
 use Rattle.survey.specs.declared.state.Found.{Found}
 use Rattle.survey.specs.declared.state.State.{State}
 
@@ -22,7 +22,7 @@ pub record Tests (k : ℕ) (c : Check) (f : Found) : Type 0 where
 
 -- before the first row
 pub record Starts (st : State) : Type 0 where
-  pub before : beforeOf st.before ≡ paper.atTop
+  pub before : before_of st.before ≡ paper.at_top
   pub bytes : st.bytes ≡ 0
   pub found : st.found.row ≡ 0
 
@@ -33,15 +33,15 @@ pub data Outcome : Type 0 where
   fits : ℕ → Outcome
 
 -- 20 comes before 21, wherever they are
-unfoldable pub surveyOf : paper.Verdict → paper.Verdict → ℕ → Outcome
-surveyOf (paper.wrong row field) v n = improper row field
-surveyOf paper.fine (paper.wrong row field) n = unfit row field
-surveyOf paper.fine paper.fine n = fits n
+unfoldable pub survey_of : paper.Verdict → paper.Verdict → ℕ → Outcome
+survey_of (paper.wrong row field) v n = improper row field
+survey_of paper.fine (paper.wrong row field) n = unfit row field
+survey_of paper.fine paper.fine n = fits n
 
 -- the outcome from row k on, where rows stand at p
 unfoldable pub resume : Sheet → ℕ → Header → ℕ → Place → State → List Thing → Outcome
 resume sh today h k p st ts =
-    surveyOf
-    (paper.rowsProper k (beforeOf st.before) ts)
-    (kept st.found (rowsCarried sh today h k p ts))
-    (st.bytes + count sh (beforeOf st.before).stage st.before.sum ts)
+    survey_of
+    (paper.rows_proper k (before_of st.before) ts)
+    (kept st.found (rows_carried sh today h k p ts))
+    (st.bytes + count sh (before_of st.before).stage st.before.sum ts)

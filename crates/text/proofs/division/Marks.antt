@@ -102,11 +102,11 @@ bar-some (x ∷ s) (suc k) h =
     (λ e. simp e (ap suc (bar-some s k (omega (arith, simp e at h)))))
 
 module _ (s : List ℕ) (from : ℕ) where
-  abbrev pub toMark : ℕ
-  toMark = from + seek mark (drop from s)
+  abbrev pub to_mark : ℕ
+  to_mark = from + seek mark (drop from s)
 
-  abbrev pub toBar : ℕ
-  toBar = from + seek bar (drop from s)
+  abbrev pub to_bar : ℕ
+  to_bar = from + seek bar (drop from s)
 
   -- the message
   same-message : drop from (unnamed s from) ≡ take (seek mark (drop from s)) (drop from s)
@@ -114,11 +114,11 @@ module _ (s : List ℕ) (from : ℕ) where
       let e : from + seek mark (drop from s) - from ≡ seek mark (drop from s) = omega arith in
       drop-take from (from + seek mark (drop from s)) s ∙ rw e
 
-  pub mark-first : toMark ≤ toBar → toMark ≡ from + seek bar (drop from (unnamed s from))
+  pub mark-first : to_mark ≤ to_bar → to_mark ≡ from + seek bar (drop from (unnamed s from))
   mark-first h = rw (same-message, bar-none (drop from s) (seek mark (drop from s)) (seek-le mark (drop from s)) (omega arith))
 
-  pub bar-first : toBar ≤ toMark → toBar ≡ from + seek bar (drop from (unnamed s from))
+  pub bar-first : to_bar ≤ to_mark → to_bar ≡ from + seek bar (drop from (unnamed s from))
   bar-first h = rw (same-message, bar-some (drop from s) (seek mark (drop from s)) (omega arith))
 
-  pub unnamed-long : from ≤ length s → length (unnamed s from) ≡ toMark
+  pub unnamed-long : from ≤ length s → length (unnamed s from) ≡ to_mark
   unnamed-long h = omega (arith, length-take (from + seek mark (drop from s)) s, seek-le mark (drop from s), length-drop from s)

@@ -16,27 +16,27 @@ use Rattle.base.proofs.Cases.{by-lt, pick-both, both-pick, pick_true, pick-false
 use Rattle.base.proofs.Seek.{never, all_head, all_tail, all_cons, seek-le, seek-here, seek-next, seek-within, starts-long}
 use Rattle.scan.proofs.find.Turns.{starts-byte}
 use Rattle.paper.specs.Bytes.{bar, mark}
-use Rattle.scan.specs.block.Blocks.{isOther, Skips}
+use Rattle.scan.specs.block.Blocks.{is_other, Skips}
 use Rattle.scan.proofs.block.Turns.{is-other, skip-none, skip-then, near-one}
 use Rattle.text.specs.declared.span.Part.{Part}
-use Rattle.text.specs.span.Places.{partTo, part_at, ended}
+use Rattle.text.specs.span.Places.{part_to, part_at, ended}
 use Rattle.text.proofs.span.Turns as places
 use Rattle.text.proofs.span.Turns.{part-bar, part_none, part-next, part-upto, part-near}
 use Rattle.text.specs.division.Unnamed.{unnamed, is_plain}
-use Rattle.text.proofs.division.Marks.{all-between, sought, found-starts, found-byte, found-room, toMark, toBar, mark-first, bar-first, unnamed-long, starts-bytes}
+use Rattle.text.proofs.division.Marks.{all-between, sought, found-starts, found-byte, found-room, to_mark, to_bar, mark-first, bar-first, unnamed-long, starts-bytes}
 
 -- ---- bytes that end no part
 
 -- all_plain: t and u are what all_other answered
-both-plain : (s : List ℕ) → all (isOther 124) s ≡ true → all (isOther 58) s ≡ true → all is_plain s ≡ true
+both-plain : (s : List ℕ) → all (is_other 124) s ≡ true → all (is_other 58) s ≡ true → all is_plain s ≡ true
 unfolding all is_plain
 both-plain [] h i = refl
 both-plain (x ∷ s) h i =
-    all_cons is_plain x s (both-pick (isOther 124 x) (isOther 58 x) (all_head (isOther 124) x s h) (all_head (isOther 58) x s i))
-    (both-plain s (all_tail (isOther 124) x s h) (all_tail (isOther 58) x s i))
+    all_cons is_plain x s (both-pick (is_other 124 x) (is_other 58 x) (all_head (is_other 124) x s h) (all_head (is_other 58) x s i))
+    (both-plain s (all_tail (is_other 124) x s h) (all_tail (is_other 58) x s i))
 
 module _ (s : List ℕ) where
-  pub plain-yes : (t u : Bool) → (t ≡ true → all (isOther 124) s ≡ true) → t ≡ true → (u ≡ true → all (isOther 58) s ≡ true) → u ≡ true → all is_plain s ≡ true
+  pub plain-yes : (t u : Bool) → (t ≡ true → all (is_other 124) s ≡ true) → t ≡ true → (u ≡ true → all (is_other 58) s ≡ true) → u ≡ true → all is_plain s ≡ true
   plain-yes t u h e i f = both-plain s (h e) (i f)
 
   pub plain-not : false ≡ true → all is_plain s ≡ true
@@ -52,7 +52,7 @@ skip-size s at n t r l h e =
 
 plain_byte : (x : ℕ) → (x ≡ 124 → ⊥) → (x ≡ 58 → ⊥) → is_plain x ≡ true
 unfolding is_plain
-plain_byte x n m = both-pick (isOther 124 x) (isOther 58 x) (is-other 124 x n) (is-other 58 x m)
+plain_byte x n m = both-pick (is_other 124 x) (is_other 58 x) (is-other 124 x n) (is-other 58 x m)
 
 -- find_stop
 pub skip-one : (s : List ℕ) (at i : ℕ) → Skips is_plain s at i → i < length s → (get_or s i 0 ≡ 124 → ⊥) → (get_or s i 0 ≡ 58 → ⊥) → Skips is_plain s at (i + 1)
@@ -66,8 +66,8 @@ pub ruleset halves = (skip-none, skip-size, skip-then, skip-one)
 pub record Open (s : List ℕ) (from i : ℕ) : Type 0 where
   pub after : from ≤ i
   pub inside : i ≤ length s
-  pub bars : i ≤ toBar s from
-  pub marks : i ≤ toMark s from + 3
+  pub bars : i ≤ to_bar s from
+  pub marks : i ≤ to_mark s from + 3
 
 not-bar : is_plain 124 ≡ false
 unfolding is_plain pick
@@ -95,35 +95,35 @@ module _ (s : List ℕ) (from : ℕ) where
   open-first h = record { after = omega arith; inside = h; bars = omega arith; marks = omega arith }
 
   -- the bytes of the first mark, and of the first bar
-  colon : toMark s from < length s → get_or s (toMark s from + 3) 0 ≡ 58
+  colon : to_mark s from < length s → get_or s (to_mark s from + 3) 0 ≡ 58
   colon h = found-byte mark s from h 3 (omega arith)
 
-  bar-there : toBar s from < length s → get_or s (toBar s from) 0 ≡ 124
-  bar-there h = let z : toBar s from + 0 ≡ toBar s from = omega arith in rw z at (found-byte bar s from h 0 (omega arith))
+  bar-there : to_bar s from < length s → get_or s (to_bar s from) 0 ≡ 124
+  bar-there h = let z : to_bar s from + 0 ≡ to_bar s from = omega arith in rw z at (found-byte bar s from h 0 (omega arith))
 
   pub end-within : from ≤ length s → from + seek bar (drop from (unnamed s from)) ≤ length s
   end-within h =
-      omega (arith, seek-le bar (drop from (unnamed s from)), length-drop from (unnamed s from), length-take (toMark s from) s)
+      omega (arith, seek-le bar (drop from (unnamed s from)), length-drop from (unnamed s from), length-take (to_mark s from) s)
 
   -- e is what find_stop answered
   module _ (i e : ℕ) (o : Open s from i) (k : Skips is_plain s i e) where
-    over-bars : e ≤ toBar s from
+    over-bars : e ≤ to_bar s from
     over-bars =
-        by-lt (toBar s from) e
+        by-lt (to_bar s from) e
         (λ l.
         let a = o.bars in
         let b = k.inside in
-        let p = all-between is_plain s i (e - i) k.between (toBar s from) (omega arith) (omega arith) (omega arith) in
+        let p = all-between is_plain s i (e - i) k.between (to_bar s from) (omega arith) (omega arith) (omega arith) in
         never (sym (rw (bar-there (omega arith)) at p) ∙ not-bar))
         (λ l. l)
 
-    over-marks : e ≤ toMark s from + 3
+    over-marks : e ≤ to_mark s from + 3
     over-marks =
-        by-lt (toMark s from + 3) e
+        by-lt (to_mark s from + 3) e
         (λ l.
         let a = o.marks in
         let b = k.inside in
-        let p = all-between is_plain s i (e - i) k.between (toMark s from + 3) (omega arith) (omega arith) (omega arith) in
+        let p = all-between is_plain s i (e - i) k.between (to_mark s from + 3) (omega arith) (omega arith) (omega arith) in
         never (sym (rw (colon (omega arith)) at p) ∙ not-colon))
         (λ l. l)
 
@@ -139,8 +139,8 @@ module _ (s : List ℕ) (from : ℕ) where
     -- nothing ends the part but the line
     pub open-end : e ≡ length s → e ≡ from + seek bar (drop from (unnamed s from))
     open-end z =
-        let m : toMark s from ≡ e =
-        by-lt (toMark s from) (length s) (λ l. absurd (omega (arith, over-marks, found-room mark s from l)))
+        let m : to_mark s from ≡ e =
+        by-lt (to_mark s from) (length s) (λ l. absurd (omega (arith, over-marks, found-room mark s from l)))
         (λ l. omega (arith, stop-after, seek-within mark s from (omega (arith, stop-after)))) in
         sym m ∙ mark-first s from (omega (arith, over-bars))
 
@@ -149,19 +149,19 @@ module _ (s : List ℕ) (from : ℕ) where
       l = by-lt e (length s) (λ m. m) (λ m. absurd (other (omega (arith, stop-inside))))
 
       -- a `|` does
-      past-mark : get_or s e 0 ≡ 124 → e ≤ toMark s from
+      past-mark : get_or s e 0 ≡ 124 → e ≤ to_mark s from
       past-mark g =
-          by-lt (toMark s from) e
+          by-lt (to_mark s from) e
           (λ m.
-          let z : toMark s from + (e - toMark s from) ≡ e = omega arith in
+          let z : to_mark s from + (e - to_mark s from) ≡ e = omega arith in
           let f = over-marks in
-          let b = found-byte mark s from (omega (arith, l)) (e - toMark s from) (omega arith) in
-          absurd (mark-bars (e - toMark s from) (omega arith) (sym (rw z at b) ∙ g)))
+          let b = found-byte mark s from (omega (arith, l)) (e - to_mark s from) (omega arith) in
+          absurd (mark-bars (e - to_mark s from) (omega arith) (sym (rw z at b) ∙ g)))
           (λ m. m)
 
       pub open-bar : get_or s e 0 ≡ 124 → e ≡ from + seek bar (drop from (unnamed s from))
       open-bar g =
-          let b : toBar s from ≡ e = sought bar s from e stop-after over-bars ∙ seek-here bar s e l (bar-here s e l g) in
+          let b : to_bar s from ≡ e = sought bar s from e stop-after over-bars ∙ seek-here bar s e l (bar-here s e l g) in
           sym b ∙ bar-first s from (omega (arith, past-mark g))
 
       -- t is what ends_mark answered
@@ -177,17 +177,17 @@ module _ (s : List ℕ) (from : ℕ) where
           open-mark =
               let a = leb-true 3 (e - from) mark-there.0 in
               let f = over-marks in
-              let m : toMark s from ≡ e - 3 = sought mark s from (e - 3) (omega arith) (omega arith) ∙ seek-here mark s (e - 3) (omega (arith, l)) mark-there.1 in
+              let m : to_mark s from ≡ e - 3 = sought mark s from (e - 3) (omega arith) (omega arith) ∙ seek-here mark s (e - 3) (omega (arith, l)) mark-there.1 in
               sym m ∙ mark-first s from (omega (arith, over-bars))
 
         -- nothing does
         module _ (n : t ≡ false) (g : get_or s e 0 ≡ 124 → ⊥) where
-          more-marks : e + 1 ≤ toMark s from + 3
+          more-marks : e + 1 ≤ to_mark s from + 3
           more-marks =
-              by-lt (toMark s from + 3) (e + 1)
+              by-lt (to_mark s from + 3) (e + 1)
               (λ m.
               let f = over-marks in
-              let z : toMark s from ≡ e - 3 = omega arith in
+              let z : to_mark s from ≡ e - 3 = omega arith in
               let b = found-starts mark s from (omega (arith, l)) in
               never (sym (both-pick (leb 3 (e - from)) (starts mark (drop (e - 3) s)) (le-leb 3 (e - from) (omega arith)) (rw z at b)) ∙ sym q ∙ n))
               (λ m. m)
@@ -208,7 +208,7 @@ pub ruleset opens = (open-first, stop-after, stop-inside, stop-later, open-end, 
 
 -- what no `|` ends goes to the end
 pub last-next : (m : List ℕ) (i : ℕ) (p : Part) → p ≡ part_at m i → i ≤ length m → ended p ≡ 0 → p.next ≡ length m
-unfolding partTo pick
+unfolding part_to pick
 last-next m i p g h z =
     by-lt (i + seek bar (drop i m)) (length m)
     (λ l. absurd (let e = g ∙ sym (part-bar m i (i + seek bar (drop i m)) refl l) in omega (arith, rw e at z)))
@@ -240,8 +240,8 @@ module _ (s : List ℕ) (from e : ℕ) (h : from ≤ length s) (g : e ≡ from +
       before-mark =
           by-lt e (length (unnamed s from)) (λ l. l)
           (λ l.
-          let m : toMark s from ≡ e = omega (arith, unnamed-long s from h, seek-within bar (unnamed s from) from (omega (arith, unnamed-long s from h))) in
-          let z : toMark s from + 0 ≡ e = omega arith in
+          let m : to_mark s from ≡ e = omega (arith, unnamed-long s from h, seek-within bar (unnamed s from) from (omega (arith, unnamed-long s from h))) in
+          let z : to_mark s from + 0 ≡ e = omega arith in
           let b = found-byte mark s from (omega (arith, part-before)) 0 (omega arith) in
           absurd (mark-bars 0 (omega arith) (sym (rw z at b) ∙ bar-stands)))
 
@@ -254,8 +254,8 @@ module _ (s : List ℕ) (from e : ℕ) (h : from ≤ length s) (g : e ≡ from +
         (λ l.
         let z : from + seek bar (drop from (unnamed s from)) + 0 ≡ e = omega arith in
         let b = found-byte bar (unnamed s from) from (omega arith) 0 (omega arith) in
-        let c = get_or-take (toMark s from) s e 0 (omega (arith, unnamed-long s from h)) in
-        never (sym (bar-here s e (omega (arith, length-take (toMark s from) s)) (sym c ∙ (rw z at b))) ∙ sym q ∙ n))
+        let c = get_or-take (to_mark s from) s e 0 (omega (arith, unnamed-long s from h)) in
+        never (sym (bar-here s e (omega (arith, length-take (to_mark s from) s)) (sym c ∙ (rw z at b))) ∙ sym q ∙ n))
         (λ l. places.part-last (unnamed s from) from e g l)
 
 pub ruleset firsts = (part-within, part-begins, part-before, part_room, part-ended, part-last)
@@ -270,7 +270,7 @@ module _ (s : List ℕ) (p : Part) (h : p.at ≤ length s) (g : p ≡ part_at (u
   next-near = part-next (unnamed s p.at) p.at p g at-within
 
   pub next-within : p.next ≤ length s
-  next-within = omega (arith, next-near, length-take (toMark s p.at) s)
+  next-within = omega (arith, next-near, length-take (to_mark s p.at) s)
 
   pub next-upto : p.at + p.len ≤ p.next
   next-upto = part-upto (unnamed s p.at) p.at p g
@@ -294,7 +294,7 @@ module _ (s : List ℕ) (p : Part) (h : p.at ≤ length s) (g : p ≡ part_at (u
 -- the part r behind p is one of the same message
 module _ (s : List ℕ) (p : Part) (h : p.at ≤ length s) (g : p ≡ part_at (unnamed s p.at) p.at) (r : Part) (e : r ≡ part_at (unnamed s p.at) p.next) where
   follow-at : r.at ≡ p.next
-  unfolding partTo
+  unfolding part_to
   follow-at = ap (λ (x : Part). x.at) e
 
   pub follow-same : unnamed s r.at ≡ unnamed s p.at

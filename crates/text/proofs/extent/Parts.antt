@@ -10,7 +10,7 @@ use borrow.Author.Tests.{ne_eqb}
 use Rattle.base.specs.Pick.{pick}
 use Rattle.base.proofs.Seek.{never}
 use Rattle.paper.specs.Bytes.{null, av, np, mark}
-use Rattle.paper.specs.Texts.{joinOn, joined, trim, keep, spellName, spellMarked, noText}
+use Rattle.paper.specs.Texts.{join_on, joined, trim, keep, spell_name, spell_marked, no_text}
 use Rattle.paper.proofs.Lists.{empty-null}
 use Rattle.text.specs.extent.Four.{four}
 
@@ -29,7 +29,7 @@ keep-last [] h = absurd (h refl)
 keep-last (x ∷ p) h = refl
 
 pub keep_one : (p : List ℕ) → joined (keep p []) ≡ p
-unfolding keep joined joinOn
+unfolding keep joined join_on
 keep_one [] = refl
 keep_one (x ∷ p) = refl
 
@@ -77,28 +77,28 @@ pub ruleset nones = (none-four, none-three, none-two, none-one)
 
 -- no_text: t is what no_parts answered
 module _ (ps : List (List ℕ)) (n : List ℕ) (t : Bool) (g : t ≡ null (trim ps)) where
-  pub text-none : t ≡ true → eqb (length n) 0 ≡ noText ps n
-  unfolding noText pick
+  pub text-none : t ≡ true → eqb (length n) 0 ≡ no_text ps n
+  unfolding no_text pick
   text-none e = rw (← g, e) (empty-null n)
 
-  pub text-some : t ≡ false → false ≡ noText ps n
-  unfolding noText pick
+  pub text-some : t ≡ false → false ≡ no_text ps n
+  unfolding no_text pick
   text-some e = rw (← g, e)
 
 pub ruleset untexts = (text-none, text-some)
 
 -- a text with and without parts, told by the same test
-pub only-is : (qs : List (List ℕ)) (n : List ℕ) → null qs ≡ true → spellMarked qs n ≡ np ++ n
-unfolding spellMarked null
+pub only-is : (qs : List (List ℕ)) (n : List ℕ) → null qs ≡ true → spell_marked qs n ≡ np ++ n
+unfolding spell_marked null
 only-is [] n e = refl
 only-is (q ∷ qs) n e = never (sym e)
 
-pub marked-is : (qs : List (List ℕ)) (n : List ℕ) → null qs ≡ false → spellMarked qs n ≡ av ++ (joined qs ++ spellName n)
-unfolding spellMarked null joined
+pub marked-is : (qs : List (List ℕ)) (n : List ℕ) → null qs ≡ false → spell_marked qs n ≡ av ++ (joined qs ++ spell_name n)
+unfolding spell_marked null joined
 marked-is [] n e = never e
 marked-is (q ∷ qs) n e = refl
 
-pub name-some : (n : List ℕ) → (length n ≡ 0 → ⊥) → spellName n ≡ mark ++ n
-unfolding spellName
+pub name-some : (n : List ℕ) → (length n ≡ 0 → ⊥) → spell_name n ≡ mark ++ n
+unfolding spell_name
 name-some [] h = absurd (h refl)
 name-some (x ∷ n) h = refl

@@ -11,8 +11,8 @@ use Rattle.base.specs.Pick.{pick}
 use Rattle.base.specs.Seek.{all, starts, seek, Free}
 use Rattle.base.proofs.Cases.{by-test, pick_true, pick-false}
 use Rattle.base.proofs.Seek.{never, free-starts, free-tail, free-cons}
-use Rattle.paper.specs.Bytes.{isText, bar, mark}
-use Rattle.paper.specs.Texts.{lacks, nameProper}
+use Rattle.paper.specs.Bytes.{is_text, bar, mark}
+use Rattle.paper.specs.Texts.{lacks, name_proper}
 
 -- a text without the byte q does not begin with a pattern that holds q
 starts-not : (q : ℕ) (ps s : List ℕ) → all (λ p. not (eqb p q)) ps ≡ false → Free (q ∷ []) s → starts ps s ≡ false
@@ -46,12 +46,12 @@ bar-found s from r h e =
 
 -- name_proper: by the length of what stands from a place on
 module _ (s : List ℕ) (from : ℕ) where
-  pub name-long : 35 < length s - from → false ≡ nameProper (drop from s)
-  unfolding nameProper
+  pub name-long : 35 < length s - from → false ≡ name_proper (drop from s)
+  unfolding name_proper
   name-long l = sym (pick_true _ _ (lt-ltb 35 (length (drop from s)) (omega (arith, length-drop from s))))
 
-  pub name-short : length s - from ≤ 35 → (r : Bool) → r ≡ all isText (drop from s) → r ≡ nameProper (drop from s)
-  unfolding nameProper
+  pub name-short : length s - from ≤ 35 → (r : Bool) → r ≡ all is_text (drop from s) → r ≡ name_proper (drop from s)
+  unfolding name_proper
   name-short l r e = e ∙ sym (pick-false _ _ (le-ltb 35 (length (drop from s)) (omega (arith, length-drop from s))))
 
 pub ruleset lengths = (name-long, name-short)

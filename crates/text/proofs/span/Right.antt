@@ -1,4 +1,4 @@
--- The bytes at the places that `fourFrom` gives are the message's parts and the name, cut. Assumes nothing.
+-- The bytes at the places that `four_from` gives are the message's parts and the name, cut. Assumes nothing.
 use mathlib.Core.Path.{◌≡◌, refl, sym, ap, ◌∙◌}
 use mathlib.Core.Bool.{Bool, true, false}
 use mathlib.Core.List.{List, [], ◌∷◌, ◌++◌, map}
@@ -13,12 +13,12 @@ use Rattle.base.specs.Seek.{starts, seek, before}
 use Rattle.base.proofs.Cases.{by-test, by-lt}
 use Rattle.base.proofs.Seek.{seek-le, seek-within}
 use Rattle.base.proofs.Lists.{drop-take}
-use Rattle.paper.specs.Warnings.{Warning, longPart, longName, Notice}
+use Rattle.paper.specs.Warnings.{Warning, long_part, long_name, Notice}
 use Rattle.paper.specs.Bytes.{bar, null}
 use Rattle.paper.specs.Texts.{Piece, piece, Texts, others, divide, cut, over, overs, cuts, pad}
-use Rattle.text.specs.span.Held.{piece_at, textsAt, Within, Held}
-use Rattle.text.specs.Told.{countTexts}
-use Rattle.text.specs.span.Places.{partTo, part_at, placed, longer, found_at, fourFrom}
+use Rattle.text.specs.span.Held.{piece_at, texts_at, Within, Held}
+use Rattle.text.specs.Told.{count_texts}
+use Rattle.text.specs.span.Places.{part_to, part_at, placed, longer, found_at, four_from}
 use Rattle.text.proofs.span.Turns.{part-next}
 
 -- bytes within the beginning m of s
@@ -74,7 +74,7 @@ unfolding pad overs over pick
 overs-pad zero [] h = refl
 overs-pad zero (p ∷ ps) h = absurd (omega arith)
 overs-pad (suc n) [] h = overs-pad n [] (omega arith)
-overs-pad (suc n) (p ∷ ps) h = ap (λ (l : List Notice). over longPart p ++ l) (overs-pad n ps (omega arith))
+overs-pad (suc n) (p ∷ ps) h = ap (λ (l : List Notice). over long_part p ++ l) (overs-pad n ps (omega arith))
 
 -- an empty part at the end counts as a missing one
 cut-last : (n k : ℕ) → map cut (pad n (piece k [] ∷ [])) ≡ map cut (pad n [])
@@ -107,7 +107,7 @@ others-last at (x ∷ s) h =
 -- The rest of the parts, however many are wanted, begins at the next place: for what does not see the place of an empty part.
 module _ {A : Type 0} (f : List Piece → A) (n : ℕ) (last : (k : ℕ) → f (pad n (piece k [] ∷ [])) ≡ f (pad n [])) where
   pad-next : (m : List ℕ) (a : ℕ) → a ≤ length m → f (pad n (others a (drop a m))) ≡ f (pad n (divide (part_at m a).next (drop (part_at m a).next m)))
-  unfolding partTo pick seek others
+  unfolding part_to pick seek others
   pad-next m a h =
       by-lt (a + seek bar (drop a m)) (length m)
       (λ l.
@@ -127,20 +127,20 @@ next-within m i h = part-next m i (part_at m i) refl h
 
 module _ (s m : List ℕ) (e : ℕ) (g : m ≡ take e s) (i : ℕ) (h : i ≤ length m) where
   part-inside : (part_at m i).at + (part_at m i).len ≤ length s
-  unfolding partTo
+  unfolding part_to
   part-inside = omega (arith, seek-within bar m i h, ap length g, length-take e s)
 
-  part_bytes : piece_at s (placed (part_at m i).at (part_at m i).len) ≡ cut (part m i)
-  unfolding partTo
-  part_bytes =
+  part-bytes : piece_at s (placed (part_at m i).at (part_at m i).len) ≡ cut (part m i)
+  unfolding part_to
+  part-bytes =
       let k : i + seek bar (drop i m) - i ≡ seek bar (drop i m) = omega arith in
       let b : take (i + seek bar (drop i m) - i) (drop i s) ≡ before bar (drop i m) = rw k (sym (within s m e i (seek bar (drop i m)) g (seek-within bar m i h))) in
       placed-bytes s i (i + seek bar (drop i m) - i) part-inside ∙ ap cut (same-piece i b)
 
-part-longer : (m : List ℕ) (i : ℕ) → longer (part_at m i).len ≡ length (over longPart (part m i))
-unfolding partTo
+part-longer : (m : List ℕ) (i : ℕ) → longer (part_at m i).len ≡ length (over long_part (part m i))
+unfolding part_to
 part-longer m i =
-    longer-over longPart i (before bar (drop i m)) (i + seek bar (drop i m) - i) (omega (arith, length-take (seek bar (drop i m)) (drop i m), seek-le bar (drop i m)))
+    longer-over long_part i (before bar (drop i m)) (i + seek bar (drop i m) - i) (omega (arith, length-take (seek bar (drop i m)) (drop i m), seek-le bar (drop i m)))
 
 same-texts : {ps qs : List Piece} {n k : Piece} {v w : ℕ} → ps ≡ qs → n ≡ k → v ≡ w
     → ◌≡◌ {A = Texts ℕ} (record { parts = ps; name = n; warnings = v }) (record { parts = qs; name = k; warnings = w })
@@ -186,40 +186,40 @@ module _ (s m : List ℕ) (e : ℕ) (g : m ≡ take e s) (from : ℕ) (h : from 
       rw (pad-next (map cut) 3 (cut-last 3) m from h, pad-next (map cut) 2 (cut-last 2) m i2 h2, pad-next (map cut) 1 (cut-last 1) m i3 h3)
 
   total : length (divide from (drop from m)) ≤ 4
-      → overs (divide from (drop from m)) ≡ over longPart (part m from) ++ (over longPart (part m i2) ++ (over longPart (part m i3) ++ (over longPart (part m i4) ++ [])))
+      → overs (divide from (drop from m)) ≡ over long_part (part m from) ++ (over long_part (part m i2) ++ (over long_part (part m i3) ++ (over long_part (part m i4) ++ [])))
   unfolding overs pad i2 i3 i4
   total l =
       overs-pad 4 (divide from (drop from m)) l
       ∙ rw (pad-next overs 3 (overs-last 3) m from h, pad-next overs 2 (overs-last 2) m i2 h2, pad-next overs 1 (overs-last 1) m i3 h3)
 
-  pub warned : length (divide from (drop from m)) ≤ 4 → (fourFrom m from at len).warnings ≡ length (cuts (divide from (drop from m)) (piece at (take len (drop at s))))
-  unfolding fourFrom found_at i2 i3 i4
+  pub warned : length (divide from (drop from m)) ≤ 4 → (four_from m from at len).warnings ≡ length (cuts (divide from (drop from m)) (piece at (take len (drop at s))))
+  unfolding four_from found_at i2 i3 i4
   warned l =
-      let name = over longName (piece at (take len (drop at s))) in
+      let name = over long_name (piece at (take len (drop at s))) in
       omega (
         arith,
         ap (λ (w : List Notice). length (w ++ name)) (total l),
-        five-long (over longPart (part m from)) (over longPart (part m i2)) (over longPart (part m i3)) (over longPart (part m i4)) name,
+        five-long (over long_part (part m from)) (over long_part (part m i2)) (over long_part (part m i3)) (over long_part (part m i4)) name,
         part-longer m from,
         part-longer m i2,
         part-longer m i3,
         part-longer m i4,
-        longer-over longName at (take len (drop at s)) len (omega (arith, length-take len (drop at s), length-drop at s)),
+        longer-over long_name at (take len (drop at s)) len (omega (arith, length-take len (drop at s), length-drop at s)),
       )
 
   pub found_right : length (divide from (drop from m)) ≤ 4
-      → textsAt s (fourFrom m from at len)
-      ≡ countTexts (record { parts = pad 4 (map cut (divide from (drop from m))); name = cut (piece at (take len (drop at s))); warnings = cuts (divide from (drop from m)) (piece at (take len (drop at s))) })
-  unfolding fourFrom found_at i2 i3 i4
+      → texts_at s (four_from m from at len)
+      ≡ count_texts (record { parts = pad 4 (map cut (divide from (drop from m))); name = cut (piece at (take len (drop at s))); warnings = cuts (divide from (drop from m)) (piece at (take len (drop at s))) })
+  unfolding four_from found_at i2 i3 i4
   found_right l =
       same-texts
-      (rw (part_bytes s m e g from h, part_bytes s m e g i2 h2, part_bytes s m e g i3 h3, part_bytes s m e g i4 h4)
+      (rw (part-bytes s m e g from h, part-bytes s m e g i2 h2, part-bytes s m e g i3 h3, part-bytes s m e g i4 h4)
       (sym (pad-cut 4 (divide from (drop from m)) ∙ four)))
       (placed-bytes s at len room)
       (warned l)
 
-  pub found-held : Held s (fourFrom m from at len)
-  unfolding fourFrom found_at i2 i3 i4
+  pub found-held : Held s (four_from m from at len)
+  unfolding four_from found_at i2 i3 i4
   found-held =
       record {
         first = placed-within s _ _ (part-inside s m e g from h);

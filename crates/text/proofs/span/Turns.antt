@@ -13,7 +13,7 @@ use Rattle.base.proofs.Cases.{by-test, either}
 use Rattle.base.proofs.Seek.{seek-end, seek-within}
 use Rattle.paper.specs.Bytes.{bar}
 use Rattle.paper.specs.Texts.{others}
-use Rattle.text.specs.span.Places.{span, partTo, part_at, placed, longer, cuts_of, found_at, one_at, fourFrom}
+use Rattle.text.specs.span.Places.{span, part_to, part_at, placed, longer, cuts_of, found_at, one_at, four_from}
 use Rattle.text.specs.declared.span.Span.{Span}
 use Rattle.text.specs.declared.span.Part.{Part}
 use Rattle.text.specs.declared.span.Spans.{Spans}
@@ -55,11 +55,11 @@ module _ (s : List ℕ) (from n k r : ℕ) (c : Counted s from n k) (g : r ≡ k
 -- part_at
 module _ (m : List ℕ) (a e : ℕ) (g : e ≡ a + seek bar (drop a m)) where
   pub part-bar : e < length m → record { at = a; len = e - a; next = e + 1 } ≡ part_at m a
-  unfolding partTo pick
+  unfolding part_to pick
   part-bar h = rw (← g, lt-ltb e (length m) h)
 
   pub part-last : length m ≤ e → record { at = a; len = e - a; next = e } ≡ part_at m a
-  unfolding partTo pick
+  unfolding part_to pick
   part-last h = rw (← g, le-ltb e (length m) h)
 
 pub part_none : (m : List ℕ) (a : ℕ) → a ≡ length m → record { at = a; len = 0; next = a } ≡ part_at m a
@@ -71,7 +71,7 @@ pub ruleset pieces = (part-bar, part-last, part_none)
 
 -- the next part begins within the text
 pub part-next : (m : List ℕ) (from : ℕ) (p : Part) → p ≡ part_at m from → from ≤ length m → p.next ≤ length m
-unfolding partTo
+unfolding part_to
 part-next m from p g h =
     rw g
     (either (λ (n : ℕ). n ≤ length m) (ltb (from + seek bar (drop from m)) (length m))
@@ -79,12 +79,12 @@ part-next m from p g h =
 
 -- .. right behind the part, or behind its `|`
 pub part-upto : (m : List ℕ) (from : ℕ) (p : Part) → p ≡ part_at m from → p.at + p.len ≤ p.next
-unfolding partTo
+unfolding part_to
 part-upto m from p g =
     rw g (either (λ (n : ℕ). from + (from + seek bar (drop from m) - from) ≤ n) (ltb (from + seek bar (drop from m)) (length m)) (λ e. omega arith) (λ e. omega arith))
 
 pub part-near : (m : List ℕ) (from : ℕ) (p : Part) → p ≡ part_at m from → p.next ≤ p.at + p.len + 1
-unfolding partTo
+unfolding part_to
 part-near m from p g =
     rw g (either (λ (n : ℕ). n ≤ from + (from + seek bar (drop from m) - from) + 1) (ltb (from + seek bar (drop from m)) (length m)) (λ e. omega arith) (λ e. omega arith))
 
@@ -111,11 +111,11 @@ one-four from size q at len = let z : longer size + longer len ≡ longer size +
 
 -- the parts of a text: one after another, or one alone
 module _ (m : List ℕ) (from at len : ℕ) (r : Spans) where
-  pub four-found : (a b c d : Part) → a ≡ part_at m from → b ≡ part_at m a.next → c ≡ part_at m b.next → d ≡ part_at m c.next → r ≡ found_at a b c d at len → r ≡ fourFrom m from at len
-  unfolding fourFrom
+  pub four-found : (a b c d : Part) → a ≡ part_at m from → b ≡ part_at m a.next → c ≡ part_at m b.next → d ≡ part_at m c.next → r ≡ found_at a b c d at len → r ≡ four_from m from at len
+  unfolding four_from
   four-found a b c d ea eb ec ed er = er ∙ rw (ed, ec, eb, ea)
 
-  pub one_found : (e : ℕ) → e ≡ from + seek bar (drop from m) → from ≤ length m → length m ≤ e → r ≡ one_at from (e - from) at len → r ≡ fourFrom m from at len
+  pub one_found : (e : ℕ) → e ≡ from + seek bar (drop from m) → from ≤ length m → length m ≤ e → r ≡ one_at from (e - from) at len → r ≡ four_from m from at len
   one_found e g h l k =
       let n = part_none m e (omega (arith, seek-within bar m from h)) in
       four-found _ _ _ _ (part-last m from e g l) n n n (k ∙ one-four from (e - from) e at len)

@@ -11,7 +11,7 @@ use Rattle.base.specs.Seek.{all, starts, before, Free}
 use Rattle.base.proofs.Cases.{by-test, either}
 use Rattle.base.proofs.Seek.{never, free-tail, free-starts, seek-join}
 use Rattle.paper.specs.Bytes.{bar, null}
-use Rattle.paper.specs.Texts.{Piece, piece, others, divide, cut, pad, keep, trim, joinOn}
+use Rattle.paper.specs.Texts.{Piece, piece, others, divide, cut, pad, keep, trim, join_on}
 use Rattle.text.specs.wording.Wording.{bytes_of}
 
 -- of each part
@@ -130,8 +130,8 @@ others-join at (x ∷ s) t h =
     (λ e. never (simp e at (free-starts bar x s h)))
     (λ e. simp e (others-join (at + 1) s t (free-tail bar x s h)))
 
-pub divide-join : (at : ℕ) (p : List ℕ) {qs : List (List ℕ)} → Free bar p → Every (Free bar) qs → bytes_of (divide at (joinOn p qs)) ≡ p ∷ qs
-unfolding joinOn all
+pub divide-join : (at : ℕ) (p : List ℕ) {qs : List (List ℕ)} → Free bar p → Every (Free bar) qs → bytes_of (divide at (join_on p qs)) ≡ p ∷ qs
+unfolding join_on all
 divide-join at p h none = rw (h, others-free at p h, take-length p)
 divide-join at p h (more {p = q} {ps = qs} i t) =
-    rw (seek-join 124 [] refl p (joinOn q qs) h, others-join at p (joinOn q qs) h, take-append_seam, divide-join 0 q i t)
+    rw (seek-join 124 [] refl p (join_on q qs) h, others-join at p (join_on q qs) h, take-append_seam, divide-join 0 q i t)

@@ -3,7 +3,7 @@ use Rattle.std.specs.Prelude.{ℕ, ◌+◌, Bool, false, List, take, drop}
 use Rattle.base.specs.Pick.{pick}
 use Rattle.base.specs.Seek.{seek}
 use Rattle.paper.specs.Bytes.{mark}
-use Rattle.scan.specs.block.Blocks.{isOther}
+use Rattle.scan.specs.block.Blocks.{is_other}
 
 -- the line s up to the first ` NP:` at or after `from`
 abbrev pub unnamed : List ℕ → ℕ → List ℕ
@@ -11,4 +11,4 @@ unnamed s from = take (from + seek mark (drop from s)) s
 
 -- neither `|` nor `:`
 unfoldable pub is_plain : ℕ → Bool
-is_plain b = pick (isOther 124 b) (isOther 58 b) false
+is_plain b = pick (is_other 124 b) (is_other 58 b) false

@@ -9,8 +9,8 @@ abbrev pub piece_at : List ℕ → Span → Piece
 piece_at s p = piece p.at (take p.len (drop p.at s))
 
 -- four parts, a name and the count of those that were cut
-abbrev pub textsAt : List ℕ → Spans → Texts ℕ
-textsAt s f =
+abbrev pub texts_at : List ℕ → Spans → Texts ℕ
+texts_at s f =
     record {
       parts = piece_at s f.part1 ∷ piece_at s f.part2 ∷ piece_at s f.part3 ∷ piece_at s f.part4 ∷ [];
       name = piece_at s f.name;

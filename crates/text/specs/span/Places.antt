@@ -11,12 +11,12 @@ abbrev pub span : ℕ → ℕ → Span
 span at len = record { at = at; len = len }
 
 -- a part of a text of n bytes that begins at a and ends at e; the next one begins behind the `|`, or at the end if there is none
-unfoldable pub partTo : ℕ → ℕ → ℕ → Part
-partTo n a e = record { at = a; len = e - a; next = pick (ltb e n) (e + 1) e }
+unfoldable pub part_to : ℕ → ℕ → ℕ → Part
+part_to n a e = record { at = a; len = e - a; next = pick (ltb e n) (e + 1) e }
 
 -- the part of m that begins at a
 abbrev pub part_at : List ℕ → ℕ → Part
-part_at m a = partTo (length m) a (a + seek bar (drop a m))
+part_at m a = part_to (length m) a (a + seek bar (drop a m))
 
 -- 1 for a part that a `|` ends
 abbrev pub ended : Part → ℕ
@@ -58,8 +58,8 @@ one_at from size at len =
     }
 
 -- the parts one after another, each told where to begin by the one before
-unfoldable pub fourFrom : List ℕ → ℕ → ℕ → ℕ → Spans
-fourFrom m from at len = one (part_at m from)
+unfoldable pub four_from : List ℕ → ℕ → ℕ → ℕ → Spans
+four_from m from at len = one (part_at m from)
   where
     four : Part → Part → Part → Part → Spans
     four a b c d = found_at a b c d at len

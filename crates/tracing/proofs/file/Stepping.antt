@@ -15,14 +15,14 @@ use Rattle.scan.specs.line.Cutting.{Cuts}
 use Rattle.judge.specs.declared.group.Counts.{Counts}
 use Rattle.judge.specs.declared.group.Shelf.{Shelf}
 use Rattle.judge.specs.declared.group.Held.{Held}
-use Rattle.judge.specs.group.Stands.{lineIn, Begun}
+use Rattle.judge.specs.group.Stands.{line_in, Begun}
 use Rattle.why.specs.declared.Finding.{Finding}
 use Rattle.why.specs.Finding.{blame}
 use Rattle.course.specs.declared.Course.{Course}
 use Rattle.course.specs.declared.Stage.TheVariants as stage
 use Rattle.course.specs.declared.Move.{Move}
 use Rattle.course.specs.declared.Move.TheVariants as move
-use Rattle.course.specs.Stands.{LowMove, Stands, Leads, atGroup, atItem}
+use Rattle.course.specs.Stands.{LowMove, Stands, Leads, at_group, at_item}
 use Rattle.tracing.specs.declared.file.Outcome.{Outcome}
 use Rattle.tracing.specs.declared.file.Outcome.TheVariants as outcome
 use Rattle.tracing.specs.declared.file.Ahead.{Ahead}
@@ -58,7 +58,7 @@ module _ (sh : Sheet) (today : ℕ) (f : List ℕ) (at : ℕ) (cut : Cut) (k : �
   halt-to = omega (arith, met.cuts.to, met.cuts.inside)
 
   pub halt-found : Sane sh → (z : Finding)
-      → ((st : State) → Stands x after st → z ≡ blame sh today f k (lineIn f at cut.stop) (kind_of (lineIn f at cut.stop).bytes) st)
+      → ((st : State) → Stands x after st → z ≡ blame sh today f k (line_in f at cut.stop) (kind_of (line_in f at cut.stop).bytes) st)
       → Comes sh today f (outcome.Found z)
   halt-found sane = reached-halt sh today f at k x met.before met.reached cut met.cuts after move.Halt met.leads sane refl
 
@@ -66,7 +66,7 @@ pub ruleset halts = (halt-from, halt-to, halt-found)
 
 -- ---- the lines of a group: r is how far a pass comes along them
 
-module _ (sh : Sheet) (today : ℕ) (f : List ℕ) (at k from to : ℕ) (x : Held) (words : List ℕ) (reached : Reached sh today f at k (atItem from to x) words) where
+module _ (sh : Sheet) (today : ℕ) (f : List ℕ) (at k from to : ℕ) (x : Held) (words : List ℕ) (reached : Reached sh today f at k (at_item from to x) words) where
   -- a group does not begin the file
   pub reached-begun : Begun f at k x
   reached-begun =
@@ -81,13 +81,13 @@ module _ (sh : Sheet) (today : ℕ) (f : List ℕ) (at k from to : ℕ) (x : Hel
     goes : (v : Far) → r ≡ v → Goes sh today f at from to words v
     goes v e = rw e at (through from to words reached)
 
-    pub far-closed : (next j : ℕ) (c : Counts) (s : Shelf) → r ≡ far.Closed next j c s → (v : Ahead) → v ≡ ahead.On next j (atGroup from to c s) → Steps sh today f at words v
+    pub far-closed : (next j : ℕ) (c : Counts) (s : Shelf) → r ≡ far.Closed next j c s → (v : Ahead) → v ≡ ahead.On next j (at_group from to c s) → Steps sh today f at words v
     far-closed next j c s e v q = rw q (goes (far.Closed next j c s) e)
 
-    pub far-halt : (there : ℕ) (cut : Cut) (j : ℕ) (y : Held) → r ≡ far.Halt there cut j y → (x : Course) → x ≡ atItem from to y → Met sh today f there cut j x words move.Halt
+    pub far-halt : (there : ℕ) (cut : Cut) (j : ℕ) (y : Held) → r ≡ far.Halt there cut j y → (x : Course) → x ≡ at_item from to y → Met sh today f there cut j x words move.Halt
     far-halt there cut j y e x q = rw q (goes (far.Halt there cut j y) e)
 
-    pub far-end : (there j : ℕ) (y : Held) → r ≡ far.Ended there j y → (x : Course) → x ≡ atItem from to y → (o : Outcome) → AtEnd f j x o → Steps sh today f at words (ahead.Over o)
+    pub far-end : (there j : ℕ) (y : Held) → r ≡ far.Ended there j y → (x : Course) → x ≡ at_item from to y → (o : Outcome) → AtEnd f j x o → Steps sh today f at words (ahead.Over o)
     far-end there j y e x q o end = let (h, long) = goes (far.Ended there j y) e in end sh today there words long (rw q h)
 
 -- the file is over
@@ -99,10 +99,10 @@ pub ruleset fars = (reached-begun, far-closed, far-halt, far-end, over)
 -- ---- a line where the pass stands at x, whose stage was found to be s
 
 module _ (sh : Sheet) (today : ℕ) (f : List ℕ) (at k : ℕ) (x : Course) (words : List ℕ) (reached : Reached sh today f at k x words) where
-  pub in-stage : (y : Held) → x.stage ≡ stage.Item y → Reached sh today f at k (atItem x.from x.to y) words
+  pub in-stage : (y : Held) → x.stage ≡ stage.Item y → Reached sh today f at k (at_item x.from x.to y) words
   in-stage y e = rw e at reached
 
-  pub met-line : (cut : Cut) → Cuts f at cut → (after : List ℕ) (m : Move) → Leads sh today k (lineIn f at cut.stop) x words after m → LowMove m → Met sh today f at cut k x after m
+  pub met-line : (cut : Cut) → Cuts f at cut → (after : List ℕ) (m : Move) → Leads sh today k (line_in f at cut.stop) x words after m → LowMove m → Met sh today f at cut k x after m
   met-line cut cuts after m leads low = record { before = words; reached = reached; cuts = cuts; leads = leads; low = low }
 
 -- ---- a step of the loop: r is where it led

@@ -9,7 +9,7 @@ use Rattle.base.proofs.Cases.{by-test, pick_true, pick-false}
 use Rattle.base.proofs.Seek.{never}
 use Rattle.sheet.specs.declared.Sheet.{Sheet}
 use Rattle.sheet.proofs.Laws.{Sane}
-use Rattle.paper.specs.Judge.{totalBroken}
+use Rattle.paper.specs.Judge.{total_broken}
 use Rattle.scan.specs.declared.line.Cut.{Cut}
 use Rattle.scan.specs.line.Cutting.{Cuts}
 use Rattle.calendar.specs.declared.term.Banks.{Banks}
@@ -20,10 +20,10 @@ use Rattle.judge.specs.declared.group.Turn.{Turn}
 use Rattle.judge.specs.declared.group.Turn.TheVariants as turn
 use Rattle.judge.specs.declared.group.GroupEnd.{GroupEnd}
 use Rattle.judge.specs.declared.group.GroupEnd.TheVariants as end
-use Rattle.judge.specs.group.Stands.{lineIn, heldMore, Banked, Turns, closedAs, LowItem}
+use Rattle.judge.specs.group.Stands.{line_in, held_more, Banked, Turns, closed_as, LowItem}
 use Rattle.judge.proofs.group.Going.{Going, going-low}
 use Rattle.course.specs.declared.Move.TheVariants as move
-use Rattle.course.specs.Stands.{atGroup, atItem}
+use Rattle.course.specs.Stands.{at_group, at_item}
 use Rattle.course.proofs.line.Leading.{item-more, item-stops, item-closes, closes-low, item-broken}
 use Rattle.tracing.specs.declared.group.Far.{Far}
 use Rattle.tracing.specs.declared.group.Far.TheVariants as far
@@ -33,7 +33,7 @@ use Rattle.tracing.proofs.file.Reaching.{reached-on}
 
 -- a pass that has come to line j, which starts at `start`, in the group, comes to line k
 pub record Carries (sh : Sheet) (today : ℕ) (f : List ℕ) (start j : ℕ) (x₀ : Held) (at k : ℕ) (x : Held) : Type 0 where
-  pub comes : (from to : ℕ) (words : List ℕ) → Reached sh today f start j (atItem from to x₀) words → Reached sh today f at k (atItem from to x) words
+  pub comes : (from to : ℕ) (words : List ℕ) → Reached sh today f start j (at_item from to x₀) words → Reached sh today f at k (at_item from to x) words
 
 pub carries-start : (sh : Sheet) (today : ℕ) (f : List ℕ) (at k : ℕ) (x : Held) → Carries sh today f at k x at k x
 carries-start sh today f at k x = record { comes = λ from to words reached. reached }
@@ -49,15 +49,15 @@ abbrev line_of : GroupEnd → ℕ
 line_of (end.Closed at k c s) = k
 line_of (end.Stop n k byte) = 0
 
-abbrev isClosed : GroupEnd → Bool
-isClosed (end.Closed at k c s) = true
-isClosed (end.Stop n k byte) = false
+abbrev is_closed : GroupEnd → Bool
+is_closed (end.Closed at k c s) = true
+is_closed (end.Stop n k byte) = false
 
-closed-place : (strict : Bool) (at k : ℕ) (x : Held) (at' k' : ℕ) (c : Counts) (s : Shelf) → end.Closed at' k' c s ≡ closedAs strict at k x → (at' ≡ at) × (k' ≡ k)
-unfolding closedAs
+closed-place : (strict : Bool) (at k : ℕ) (x : Held) (at' k' : ℕ) (c : Counts) (s : Shelf) → end.Closed at' k' c s ≡ closed_as strict at k x → (at' ≡ at) × (k' ≡ k)
+unfolding closed_as
 closed-place strict at k x at' k' c s e =
-    by-test (totalBroken strict x.opened.total x.opened.sum)
-    (λ b. never (ap isClosed (e ∙ pick_true _ _ b)))
+    by-test (total_broken strict x.opened.total x.opened.sum)
+    (λ b. never (ap is_closed (e ∙ pick_true _ _ b)))
     (λ b. let q = e ∙ pick-false _ _ b in (ap place_of q, ap line_of q))
 
 module _ (at : ℕ) (cut : Cut) (k : ℕ) (x : Held) (g : GroupEnd) where
@@ -68,7 +68,7 @@ module _ (at : ℕ) (cut : Cut) (k : ℕ) (x : Held) (g : GroupEnd) where
       let leads = item-closes sh today f at cut.stop x turn.Close closing.turns refl cut.next (k + 1) g closing.comes at' k' c s e from to k words in
       let low = closes-low sh today f at cut.stop x turn.Close closing.turns refl cut.next (k + 1) g closing.comes sane closing.low at' k' c s e in
       rw (a, b) (
-        reached-on sh today f at k (atItem from to x) words reached cut closing.cuts words (move.On (atGroup from to c s)) leads (atGroup from to c s) refl low,
+        reached-on sh today f at k (at_item from to x) words reached cut closing.cuts words (move.On (at_group from to c s)) leads (at_group from to c s) refl low,
         closing.cuts.ahead,
       )
 
@@ -96,24 +96,24 @@ further sh today f start at on from to words (far.Ended at' k x) ended = ended
 module _ (sh : Sheet) (today : ℕ) (banks : Banks) (f : List ℕ) (start j : ℕ) (x₀ : Held) (at k : ℕ) (x : Held)
     (going : Going sh today banks f start j x₀ at k x) (carries : Carries sh today f start j x₀ at k x) where
   -- behind `start`
-  onward : (r : Far) → ((from to : ℕ) (words : List ℕ) → Reached sh today f at k (atItem from to x) words → Goes sh today f start from to words r) → Through sh today f start j x₀ r
+  onward : (r : Far) → ((from to : ℕ) (words : List ℕ) → Reached sh today f at k (at_item from to x) words → Goes sh today f start from to words r) → Through sh today f start j x₀ r
   onward r goes from to words reached = goes from to words (carries.comes from to words reached)
 
   pub along-end : length f ≤ at → Through sh today f start j x₀ (far.Ended at k x)
   along-end e = onward (far.Ended at k x) λ from to words reached. (reached, e)
 
-  module _ (cut : Cut) (cuts : Cuts f at cut) (r : Turn) (turns : (day : ℕ) → Banked sh day banks x → Turns sh day (lineIn f at cut.stop) x r) where
-    says : Turns sh today (lineIn f at cut.stop) x r
+  module _ (cut : Cut) (cuts : Cuts f at cut) (r : Turn) (turns : (day : ℕ) → Banked sh day banks x → Turns sh day (line_in f at cut.stop) x r) where
+    says : Turns sh today (line_in f at cut.stop) x r
     says = turns today going.banked
 
-    pub along-item : Sane sh → (amount warnings : ℕ) → r ≡ turn.Item amount warnings → (y : Held) → y ≡ heldMore x amount warnings
+    pub along-item : Sane sh → (amount warnings : ℕ) → r ≡ turn.Item amount warnings → (y : Held) → y ≡ held_more x amount warnings
         → Carries sh today f start j x₀ cut.next (k + 1) y
     along-item sane amount warnings e y q =
         let low : LowItem y = rw q (going-low sh today banks f start j x₀ at k x going cut cuts r turns sane amount warnings e) in
         record {
           comes = λ from to words reached.
-              reached-on sh today f at k (atItem from to x) words (carries.comes from to words reached) cut cuts words (move.On (atItem from to y))
-              (item-more sh today f at cut.stop x r says from to amount warnings e y q k words) (atItem from to y) refl low;
+              reached-on sh today f at k (at_item from to x) words (carries.comes from to words reached) cut cuts words (move.On (at_item from to y))
+              (item-more sh today f at cut.stop x r says from to amount warnings e y q k words) (at_item from to y) refl low;
         }
 
     pub along-stop : (n byte : ℕ) → r ≡ turn.Stop n byte → Through sh today f start j x₀ (far.Halt at cut k x)
@@ -122,7 +122,7 @@ module _ (sh : Sheet) (today : ℕ) (banks : Banks) (f : List ℕ) (start j : �
         record { before = words; reached = reached; cuts = cuts; low = tt; leads = item-stops sh today f at cut.stop x r says from to n byte e k words }
 
     -- the group's end is g, and v is where that leads from its line on
-    pub along-close : Sane sh → r ≡ turn.Close → (g : GroupEnd) → g ≡ closedAs sh.strict cut.next (k + 1) x → (v : Far)
+    pub along-close : Sane sh → r ≡ turn.Close → (g : GroupEnd) → g ≡ closed_as sh.strict cut.next (k + 1) x → (v : Far)
         → ((sh : Sheet) (today : ℕ) (f : List ℕ) → Sane sh → Closing sh today f at cut k x g → Through sh today f at k x v) → Through sh today f start j x₀ v
     along-close sane e g q v ends =
         let closing : Closing sh today f at cut k x g = record { cuts = cuts; low = going.begun.low; turns = rw e at says; comes = q } in

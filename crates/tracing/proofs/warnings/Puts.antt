@@ -6,15 +6,15 @@ use Prim.Native.Nat.{ℕ, suc, ◌+◌, ◌≤◌}
 use native.Mathlib.Omega.{arith}
 use lib.ListN.{length}
 use Rattle.sheet.specs.declared.Sheet.{Sheet}
-use Rattle.paper.specs.Accounts.{account, isNobody}
+use Rattle.paper.specs.Accounts.{account, is_nobody}
 use Rattle.paper.specs.Batch.{most14}
 use Rattle.paper.specs.Lines.{Line, lines_from}
-use Rattle.paper.specs.Entries.{file, plain, counted, groupLine, kind_of}
-use Rattle.paper.specs.Terms.{dayHere}
-use Rattle.paper.specs.FileLine.{readFile}
-use Rattle.paper.specs.GroupLine.{readGroup}
-use Rattle.paper.specs.ItemLine.{readItem}
-use Rattle.paper.specs.Rows.{accepted, singleAfter, singleBehind}
+use Rattle.paper.specs.Entries.{file, plain, counted, group_line, kind_of}
+use Rattle.paper.specs.Terms.{day_here}
+use Rattle.paper.specs.FileLine.{read_file}
+use Rattle.paper.specs.GroupLine.{read_group}
+use Rattle.paper.specs.ItemLine.{read_item}
+use Rattle.paper.specs.Rows.{accepted, single_after, single_behind}
 use Rattle.paper.specs.Judge.{State, context_of, step, run}
 use Rattle.paper.proofs.Starts.{kind-long}
 use Rattle.scan.specs.declared.kind.LineKind.{LineKind}
@@ -23,21 +23,21 @@ use Rattle.scan.specs.kind.Told as kinds
 use Rattle.scan.specs.declared.line.Cut.{Cut}
 use Rattle.scan.specs.line.Cutting.{Cuts}
 use Rattle.numeral.specs.counted.Counted.{Counted}
-use Rattle.numeral.specs.placed.Said.{isSaid}
+use Rattle.numeral.specs.placed.Said.{is_said}
 use Rattle.fileline.specs.declared.take.File.{File}
-use Rattle.fileline.specs.take.Any.{anyNumber}
+use Rattle.fileline.specs.take.Any.{any_number}
 use Rattle.groupline.specs.declared.take.Group.{Group}
 use Rattle.groupline.specs.take.Taken.{Opens}
-use Rattle.itemline.specs.Walk.{anyBank}
+use Rattle.itemline.specs.Walk.{any_bank}
 use Rattle.exact.proofs.Moves.{Moves, Next, on, halted, stays, next}
 use Rattle.why.specs.Finding.{accepts}
 use Rattle.why.specs.declared.Finding.{Finding}
-use Rattle.why.specs.Warned.{ahead, lineWarned}
+use Rattle.why.specs.Warned.{ahead, line_warned}
 use Rattle.listing.specs.declared.Telling.{Telling}
 use Rattle.listing.specs.Listed.{listed}
-use Rattle.listing.specs.group.Warned.{groupWarned, cut as bytesIn, lineIn}
+use Rattle.listing.specs.group.Warned.{group_warned, cut as bytes_in, line_in}
 use Rattle.listing.specs.group.Ahead.{ItemsSaid}
-use Rattle.listing.specs.item.Warned.{itemWarned}
+use Rattle.listing.specs.item.Warned.{item_warned}
 use Rattle.listing.proofs.Putting.{none-put}
 use Rattle.tracing.specs.declared.warnings.Step.{Step}
 use Rattle.tracing.specs.warnings.Passing.{Keeps, Stands, Passes, Passed, Puts}
@@ -45,32 +45,32 @@ use Rattle.tracing.proofs.warnings.Ahead.{unbroken}
 use Rattle.tracing.proofs.warnings.Says.{Says, says}
 
 -- a group that was taken is single where its payer is nobody
-pub single-is : (sh : Sheet) (today : ℕ) (s : List ℕ) (g : Group) → Opens (readGroup sh today (dayHere sh 0) s) g
-    → (b : Bool) → b ≡ isNobody (account g.prefix g.base) → b ≡ singleBehind false (counted (readGroup sh today (dayHere sh 0) s))
-unfolding counted singleBehind singleAfter
+pub single-is : (sh : Sheet) (today : ℕ) (s : List ℕ) (g : Group) → Opens (read_group sh today (day_here sh 0) s) g
+    → (b : Bool) → b ≡ is_nobody (account g.prefix g.base) → b ≡ single_behind false (counted (read_group sh today (day_here sh 0) s))
+unfolding counted single_behind single_after
 single-is sh today s g o b e = rw o.says e
 
 -- a group's line has two bytes or more
-pub group-long : (s : List ℕ) → kind_of s ≡ groupLine → 2 ≤ length s
-group-long s e = kind-long s groupLine e
+pub group-long : (s : List ℕ) → kind_of s ≡ group_line → 2 ≤ length s
+group-long s e = kind-long s group_line e
 
 -- what is put by the sum that was found is put by the exact one
-pub group-exact : (t : Telling) (f : List ℕ) (at : ℕ) (cut : Cut) (k kind : ℕ) (b : Bool) (here : Bool) → here ≡ dayHere t.sheet kind
+pub group-exact : (t : Telling) (f : List ℕ) (at : ℕ) (cut : Cut) (k kind : ℕ) (b : Bool) (here : Bool) → here ≡ day_here t.sheet kind
     → (exact : ℕ) → ((today : ℕ) → ahead t.sheet today (accepted b) (lines_from f cut.next) ≤ most14 → exact ≡ ahead t.sheet today (accepted b) (lines_from f cut.next))
     → ahead t.sheet t.today (accepted b) (lines_from f cut.next) ≤ most14
-    → (o o' : List ℕ) (to r : ℕ) → Counted o to (listed t f (groupWarned t.sheet t.today k (lineIn f at cut.stop) here exact)) o' r
-    → Counted o to (listed t f (groupWarned t.sheet t.today k (lineIn f at cut.stop) (dayHere t.sheet kind) (ahead t.sheet t.today (accepted b) (lines_from f cut.next)))) o' r
+    → (o o' : List ℕ) (to r : ℕ) → Counted o to (listed t f (group_warned t.sheet t.today k (line_in f at cut.stop) here exact)) o' r
+    → Counted o to (listed t f (group_warned t.sheet t.today k (line_in f at cut.stop) (day_here t.sheet kind) (ahead t.sheet t.today (accepted b) (lines_from f cut.next)))) o' r
 group-exact t f at cut k kind b here e exact q low o o' to r w = rw (e, q t.today low) at w
 
 module _ (t : Telling) (f : List ℕ) (at : ℕ) (cut : Cut) (cuts : Cuts f at cut) (k : ℕ) (x : Step) where
   abbrev here : Line
-  here = lineIn f at cut.stop
+  here = line_in f at cut.stop
 
   abbrev later : List Line
   later = lines_from f cut.next
 
   abbrev behind : State → State
-  behind st = step t.sheet t.today k (lineIn f at cut.stop) st
+  behind st = step t.sheet t.today k (line_in f at cut.stop) st
 
   abbrev Good : State → Type 0
   Good new = accepts (run t.sheet t.today (length f) (suc k) (lines_from f cut.next) new) ≡ true
@@ -86,21 +86,21 @@ module _ (t : Telling) (f : List ℕ) (at : ℕ) (cut : Cut) (cuts : Cuts f at c
   moves st new (halted {n = n} {l = l} {p = p} b) keeps a = unbroken t.sheet t.today (length f) (suc k) later n l p a
   moves st new stays keeps a = absurd keeps
 
-  pub moved : (st : State) → Stands t f at k x st → Moves t.sheet t.today k (lineIn f at cut.stop) st (step t.sheet t.today k (lineIn f at cut.stop) st)
+  pub moved : (st : State) → Stands t f at k x st → Moves t.sheet t.today k (line_in f at cut.stop) st (step t.sheet t.today k (line_in f at cut.stop) st)
   moved st s = moves st (behind st) (next t.sheet t.today (length f) k here later st) s.keeps (good st s)
 
   -- what it warns of is put, and y is kept
   passed : (st : State) → Stands t f at k x st → (o o' : List ℕ) (y : Step) → Keeps y (behind st) → (fs : List Finding)
-      → lineWarned t.sheet t.today k here later (context_of st) ≡ fs → Counted o x.next (listed t f fs) o' y.next → Passed t f at cut k x st o o' y
+      → line_warned t.sheet t.today k here later (context_of st) ≡ fs → Counted o x.next (listed t f fs) o' y.next → Passed t f at cut k x st o o' y
   passed st s o o' y keeps fs e w =
       let one : suc k ≡ k + 1 = omega arith in
       record { put = rw e w; stands = record { keeps = keeps; accepted = rw one at (good st s) } }
 
   -- r is the kind that was found
-  module _ (r : LineKind) (tells : kinds.told r ≡ kind_of (bytesIn f at cut.stop)) where
+  module _ (r : LineKind) (tells : kinds.told r ≡ kind_of (bytes_in f at cut.stop)) where
     says_of : (v : LineKind) → r ≡ v → (st : State) → Stands t f at k x st → Says t.sheet t.today k here later x (kinds.told v) st (behind st)
     says_of v e st s =
-        let kind : kind_of (bytesIn f at cut.stop) ≡ kinds.told v = sym tells ∙ ap kinds.told e in
+        let kind : kind_of (bytes_in f at cut.stop) ≡ kinds.told v = sym tells ∙ ap kinds.told e in
         rw kind at (says t.sheet t.today k here later x (length f) st (behind st) (moved st s) s.keeps (good st s))
 
     -- ---- the first line, and both that close
@@ -117,10 +117,10 @@ module _ (t : Telling) (f : List ℕ) (at : ℕ) (cut : Cut) (cuts : Cuts f at c
     -- ---- an account file's line
 
     module _ (e : r ≡ found.File) where
-      pub file-read : Passes t f at k x → isSaid (readFile t.sheet anyNumber (bytesIn f at cut.stop)) ≡ true
+      pub file-read : Passes t f at k x → is_said (read_file t.sheet any_number (bytes_in f at cut.stop)) ≡ true
       file-read p = (says_of found.File e p.state p.stands).ready
 
-      pub file-put : (a : File) → plain (file a.kind a.number) ≡ readFile t.sheet anyNumber (bytesIn f at cut.stop) → (o : List ℕ)
+      pub file-put : (a : File) → plain (file a.kind a.number) ≡ read_file t.sheet any_number (bytes_in f at cut.stop) → (o : List ℕ)
           → Puts t f at cut k x o o (record { next = x.next; kind = a.kind; single = x.single })
       file-put a q o st s =
           let z = says_of found.File e st s in
@@ -130,13 +130,13 @@ module _ (t : Telling) (f : List ℕ) (at : ℕ) (cut : Cut) (cuts : Cuts f at c
     -- ---- a group's line
 
     module _ (e : r ≡ found.Group) where
-      pub group-kind : kind_of (bytesIn f at cut.stop) ≡ groupLine
+      pub group-kind : kind_of (bytes_in f at cut.stop) ≡ group_line
       group-kind = sym tells ∙ ap kinds.told e
 
-      pub group-read : Passes t f at k x → isSaid (readGroup t.sheet t.today (dayHere t.sheet 0) (bytesIn f at cut.stop)) ≡ true
+      pub group-read : Passes t f at k x → is_said (read_group t.sheet t.today (day_here t.sheet 0) (bytes_in f at cut.stop)) ≡ true
       group-read p = (says_of found.Group e p.state p.stands).ready
 
-      module _ (b : Bool) (is : b ≡ singleBehind false (counted (readGroup t.sheet t.today (dayHere t.sheet 0) (bytesIn f at cut.stop)))) where
+      module _ (b : Bool) (is : b ≡ single_behind false (counted (read_group t.sheet t.today (day_here t.sheet 0) (bytes_in f at cut.stop)))) where
         pub group-items : Passes t f at k x → ItemsSaid t.sheet b (lines_from f cut.next)
         group-items p = rw is (says_of found.Group e p.state p.stands).items
 
@@ -144,7 +144,7 @@ module _ (t : Telling) (f : List ℕ) (at : ℕ) (cut : Cut) (cuts : Cuts f at c
         group-low p = rw is (says_of found.Group e p.state p.stands).low
 
         pub group-put : (o o' : List ℕ) (n : ℕ)
-            → Counted o x.next (listed t f (groupWarned t.sheet t.today k (lineIn f at cut.stop) (dayHere t.sheet x.kind) (ahead t.sheet t.today (accepted b) (lines_from f cut.next)))) o' n
+            → Counted o x.next (listed t f (group_warned t.sheet t.today k (line_in f at cut.stop) (day_here t.sheet x.kind) (ahead t.sheet t.today (accepted b) (lines_from f cut.next)))) o' n
             → Puts t f at cut k x o o' (record { next = n; kind = x.kind; single = b })
         group-put o o' n w st s =
             let z = says_of found.Group e st s in
@@ -154,10 +154,10 @@ module _ (t : Telling) (f : List ℕ) (at : ℕ) (cut : Cut) (cuts : Cuts f at c
     -- ---- an item's line
 
     module _ (e : r ≡ found.Item) where
-      pub item-read : Passes t f at k x → isSaid (readItem t.sheet anyBank x.single (bytesIn f at cut.stop)) ≡ true
+      pub item-read : Passes t f at k x → is_said (read_item t.sheet any_bank x.single (bytes_in f at cut.stop)) ≡ true
       item-read p = (says_of found.Item e p.state p.stands).ready
 
-      pub item-put : (o o' : List ℕ) (n : ℕ) → Counted o x.next (listed t f (itemWarned t.sheet t.today k (lineIn f at cut.stop) x.single)) o' n
+      pub item-put : (o o' : List ℕ) (n : ℕ) → Counted o x.next (listed t f (item_warned t.sheet t.today k (line_in f at cut.stop) x.single)) o' n
           → Puts t f at cut k x o o' (record { next = n; kind = x.kind; single = x.single })
       item-put o o' n w st s =
           let z = says_of found.Item e st s in

@@ -3,8 +3,8 @@ use Rattle.std.specs.Prelude.{ℕ, ◌+◌, ◌-◌, ◌≤◌, min, ◌≡◌, 
 use Rattle.sheet.specs.declared.Sheet.{Sheet}
 use Rattle.paper.specs.Batch.{Batch, Header, things}
 use Rattle.paper.specs.Lines.{lines_of, lines_from}
-use Rattle.paper.specs.Judge.{Refused, Accepted, State, atFirst, run, judge}
-use Rattle.why.specs.Finding.{haltOn, foundIn}
+use Rattle.paper.specs.Judge.{Refused, Accepted, State, at_first, run, judge}
+use Rattle.why.specs.Finding.{halt_on, found_in}
 use Rattle.course.specs.declared.Course.{Course}
 use Rattle.course.specs.declared.Stage.TheVariants as stage
 use Rattle.course.specs.Stands.{Low, Stands}
@@ -17,19 +17,19 @@ pub record Passes (sh : Sheet) (today : ℕ) (f : List ℕ) (rows warnings : ℕ
   pub batch : Batch
   pub judged : judge sh today f ≡ Accepted header batch warnings
   pub counted : length (things batch) ≡ rows
-  pub rows-low : rows ≤ 199999001
-  pub warnings-low : warnings ≤ 799992001
+  pub rows_low : rows ≤ 199999001
+  pub warnings_low : warnings ≤ 799992001
 
 -- a refused file: what is found in it has the refusal's number, line and byte
 abbrev pub Comes : Sheet → ℕ → List ℕ → Outcome → Type 0
-Comes sh today f (outcome.Found x) = (x ≡ foundIn sh today f) × (judge sh today f ≡ Refused x.number x.line x.byte)
+Comes sh today f (outcome.Found x) = (x ≡ found_in sh today f) × (judge sh today f ≡ Refused x.number x.line x.byte)
 Comes sh today f (outcome.Passed rows warnings) = Passes sh today f rows warnings
 
 -- A pass over f has come to line k, which starts at `at`, and stands at x, where the judge's state is st: where judging halts, and what it answers,
 -- is the same from here on.
 pub record At (sh : Sheet) (today : ℕ) (f : List ℕ) (at k : ℕ) (x : Course) (words : List ℕ) (st : State) : Type 0 where
   pub stands : Stands x words st
-  pub halts : haltOn sh today 1 (lines_of 0 f) atFirst ≡ haltOn sh today k (lines_from f at) st
+  pub halts : halt_on sh today 1 (lines_of 0 f) at_first ≡ halt_on sh today k (lines_from f at) st
   pub runs : judge sh today f ≡ run sh today (length f) k (lines_from f at) st
   pub low : Low x.stage
   pub inside : at ≤ length f

@@ -3,7 +3,7 @@ use Rattle.std.specs.Prelude.{ℕ, ◌<◌, List}
 use Rattle.sheet.specs.declared.Sheet.{Sheet}
 use Rattle.scan.specs.declared.line.Cut.{Cut}
 use Rattle.scan.specs.line.Cutting.{Cuts}
-use Rattle.judge.specs.group.Stands.{lineIn}
+use Rattle.judge.specs.group.Stands.{line_in}
 use Rattle.course.specs.declared.Course.{Course}
 use Rattle.course.specs.declared.Move.{Move}
 use Rattle.course.specs.Stands.{LowMove, Leads}
@@ -21,5 +21,5 @@ pub record Met (sh : Sheet) (today : ℕ) (f : List ℕ) (at : ℕ) (cut : Cut) 
   pub before : List ℕ
   pub reached : Reached sh today f at k x before
   pub cuts : Cuts f at cut
-  pub leads : Leads sh today k (lineIn f at cut.stop) x before after m
+  pub leads : Leads sh today k (line_in f at cut.stop) x before after m
   pub low : LowMove m

@@ -6,9 +6,9 @@ use Rattle.scan.specs.line.Cutting.{Cuts}
 use Rattle.judge.specs.declared.group.Held.{Held}
 use Rattle.judge.specs.declared.group.Turn.TheVariants as turn
 use Rattle.judge.specs.declared.group.GroupEnd.{GroupEnd}
-use Rattle.judge.specs.group.Stands.{LowItem, lineIn, Turns, closedAs}
+use Rattle.judge.specs.group.Stands.{LowItem, line_in, Turns, closed_as}
 use Rattle.course.specs.declared.Move.TheVariants as move
-use Rattle.course.specs.Stands.{atGroup, atItem}
+use Rattle.course.specs.Stands.{at_group, at_item}
 use Rattle.tracing.specs.declared.group.Far.{Far}
 use Rattle.tracing.specs.declared.group.Far.TheVariants as far
 use Rattle.tracing.specs.file.Comes.{Reached}
@@ -16,17 +16,17 @@ use Rattle.tracing.specs.file.Steps.{Met}
 
 -- a pass over f that was at `start`, in a group, has come to r: behind the group, to a line where judging halts, or to the file's end
 abbrev pub Goes : Sheet → ℕ → List ℕ → ℕ → ℕ → ℕ → List ℕ → Far → Type 0
-Goes sh today f start from to words (far.Closed at k c s) = Reached sh today f at k (atGroup from to c s) words × (start < at)
-Goes sh today f start from to words (far.Halt at cut k x) = Met sh today f at cut k (atItem from to x) words move.Halt
-Goes sh today f start from to words (far.Ended at k x) = Reached sh today f at k (atItem from to x) words × (length f ≤ at)
+Goes sh today f start from to words (far.Closed at k c s) = Reached sh today f at k (at_group from to c s) words × (start < at)
+Goes sh today f start from to words (far.Halt at cut k x) = Met sh today f at cut k (at_item from to x) words move.Halt
+Goes sh today f start from to words (far.Ended at k x) = Reached sh today f at k (at_item from to x) words × (length f ≤ at)
 
 -- r is where the group's lines lead from line k on, which starts at `at`, whatever the interval and the earlier numbers are
 abbrev pub Through : Sheet → ℕ → List ℕ → ℕ → ℕ → Held → Far → Type 0
-Through sh today f at k x r = (from to : ℕ) (words : List ℕ) → Reached sh today f at k (atItem from to x) words → Goes sh today f at from to words r
+Through sh today f at k x r = (from to : ℕ) (words : List ℕ) → Reached sh today f at k (at_item from to x) words → Goes sh today f at from to words r
 
 -- line k, cut off f at `at`, closes the group by its own bytes, and `end` is what that comes to with its total
 pub record Closing (sh : Sheet) (today : ℕ) (f : List ℕ) (at : ℕ) (cut : Cut) (k : ℕ) (x : Held) (end : GroupEnd) : Type 0 where
   pub cuts : Cuts f at cut
   pub low : LowItem x
-  pub turns : Turns sh today (lineIn f at cut.stop) x turn.Close
-  pub comes : end ≡ closedAs sh.strict cut.next (k + 1) x
+  pub turns : Turns sh today (line_in f at cut.stop) x turn.Close
+  pub comes : end ≡ closed_as sh.strict cut.next (k + 1) x

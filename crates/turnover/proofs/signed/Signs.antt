@@ -2,7 +2,7 @@
 use Rattle.std.proofs.Common.{◌≡◌, ℕ, ◌+◌, ◌%◌, ◌^◌, ◌<◌, ◌≤◌, Bool, true, false, eqb, sym, ◌∙◌, arith, le-ltb, lt-ltb, eq-eqb, ne_eqb}
 use Rattle.base.specs.Pick.{pick}
 use Rattle.base.proofs.Cases.{pick_true, pick-false}
-use Rattle.gpc.specs.Signed.{Signed, signed, side, negative, signedWord, wordSigned}
+use Rattle.gpc.specs.Signed.{Signed, signed, side, negative, signed_word, word_signed}
 use Rattle.gpc.specs.Turnovers.{balanced}
 
 abbrev pub number : Bool → ℕ → Signed
@@ -29,21 +29,21 @@ unfolding negative
 taken-off r n h k e = omega arith
 
 module _ (x : Signed) (r : ℕ) where
-  pub word-minus : x.minus ≡ true → r ≡ negative x.size → r ≡ signedWord x
-  unfolding signedWord
+  pub word-minus : x.minus ≡ true → r ≡ negative x.size → r ≡ signed_word x
+  unfolding signed_word
   word-minus e f = f ∙ sym (pick_true _ _ e)
 
-  pub word-plus : x.minus ≡ false → r ≡ x.size → r ≡ signedWord x
-  unfolding signedWord
+  pub word-plus : x.minus ≡ false → r ≡ x.size → r ≡ signed_word x
+  unfolding signed_word
   word-plus e f = f ∙ sym (pick-false _ _ e)
 
 module _ (w : ℕ) where
-  pub in-plus : w < 9223372036854775808 → number false w ≡ wordSigned w
-  unfolding wordSigned
+  pub in-plus : w < 9223372036854775808 → number false w ≡ word_signed w
+  unfolding word_signed
   in-plus h = sym (pick_true _ _ (lt-ltb w 9223372036854775808 h))
 
-  pub in-minus : (r : ℕ) → 9223372036854775808 ≤ w → w < 18446744073709551616 → r ≡ negative w → number true r ≡ wordSigned w
-  unfolding wordSigned negative
+  pub in-minus : (r : ℕ) → 9223372036854775808 ≤ w → w < 18446744073709551616 → r ≡ negative w → number true r ≡ word_signed w
+  unfolding word_signed negative
   in-minus r h k e =
       let some : r ≡ 0 → ⊥ = λ z. omega (arith, e) in
       read_some true r some ∙ rw e (sym (pick-false _ _ (le-ltb w 9223372036854775808 h)))

@@ -14,21 +14,21 @@ use Rattle.base.specs.Pick.{pick}
 use Rattle.base.proofs.Cases.{either}
 use Rattle.sheet.specs.declared.Sheet.{Sheet}
 use Rattle.sheet.specs.declared.Known.TheVariants as known
-use Rattle.sheet.specs.Sheets.{sheets, sheetOf}
+use Rattle.sheet.specs.Sheets.{sheets, sheet_of}
 use Rattle.paper.specs.Bytes.{bytes}
-use Rattle.paper.specs.Days.{realDay}
+use Rattle.paper.specs.Days.{real_day}
 use Rattle.paper.specs.Batch.{Batch, Header}
 use Rattle.paper.specs.Spells.{Spells}
 use Rattle.paper.specs.Judge.{Answer, Refused, Accepted, judge}
-use Rattle.paper.specs.Reading.{readWith}
+use Rattle.paper.specs.Reading.{read_with}
 use Rattle.tally.specs.Short.{brief}
 use Rattle.tally.proofs.Short.{tally-is}
 use Rattle.exact.proofs.Main.{exact}
 use Rattle.exact.proofs.named.Main.{judge-named}
 use Rattle.why.specs.Finding.{accepts}
 use Rattle.verdict.specs.declared.Verdict.{Verdict}
-use Rattle.verdict.specs.Sheets.{acceptedWords, refusedWords, verdictWords, sheetLine, acceptingOn, accepting}
-use Rattle.verdict.proofs.Laws.{inBrief, day-verdict}
+use Rattle.verdict.specs.Sheets.{accepted_words, refused_words, verdict_words, sheet_line, accepting_on, accepting}
+use Rattle.verdict.proofs.Laws.{in_brief, day-verdict}
 use Rattle.verdict.proofs.sheets.Following.{follow, number, others, sheets-follow, here}
 use borrow.Author.Tests.{ne_eqb}
 
@@ -39,45 +39,45 @@ SpellsSome sh today f = (h : Header) × (b : Batch) × (w : ℕ) × Spells sh to
 -- ---- the line
 
 -- `Sheet K: accepted, warnings W.` and LF
-abbrev pub acceptedOn : Sheet → ℕ → List ℕ
-acceptedOn sh w = bytes "Sheet " ++ (sh.letter ∷ acceptedWords w)
+abbrev pub accepted_on : Sheet → ℕ → List ℕ
+accepted_on sh w = bytes "Sheet " ++ (sh.letter ∷ accepted_words w)
 
 -- the line of a sheet
-abbrev pub lineOn : Sheet → ℕ → List ℕ → List ℕ
-lineOn sh today f = sheetLine sh.letter (readWith (known.Sheet sh) today f (length f))
+abbrev pub line_on : Sheet → ℕ → List ℕ → List ℕ
+line_on sh today f = sheet_line sh.letter (read_with (known.Sheet sh) today f (length f))
 
 module _ (sh : Sheet) (today : ℕ) (f : List ℕ) where
-  module _ (real : realDay today ≡ true) where
-    line-is : (a : Answer) → judge sh today f ≡ a → lineOn sh today f ≡ bytes "Sheet " ++ (sh.letter ∷ verdictWords (inBrief (brief a)))
-    unfolding sheetLine
+  module _ (real : real_day today ≡ true) where
+    line-is : (a : Answer) → judge sh today f ≡ a → line_on sh today f ≡ bytes "Sheet " ++ (sh.letter ∷ verdict_words (in_brief (brief a)))
+    unfolding sheet_line
     line-is a e =
-        ap (λ (v : Verdict). bytes "Sheet " ++ (sh.letter ∷ verdictWords v))
-        (day-verdict sh today f real ∙ ap inBrief (tally-is sh today f) ∙ ap (λ (x : Answer). inBrief (brief x)) e)
+        ap (λ (v : Verdict). bytes "Sheet " ++ (sh.letter ∷ verdict_words v))
+        (day-verdict sh today f real ∙ ap in_brief (tally-is sh today f) ∙ ap (λ (x : Answer). in_brief (brief x)) e)
 
-    accepted-is : (h : Header) (b : Batch) (w : ℕ) → judge sh today f ≡ Accepted h b w → lineOn sh today f ≡ acceptedOn sh w
-    unfolding verdictWords brief pick
+    accepted-is : (h : Header) (b : Batch) (w : ℕ) → judge sh today f ≡ Accepted h b w → line_on sh today f ≡ accepted_on sh w
+    unfolding verdict_words brief pick
     accepted-is h b w e = line-is (Accepted h b w) e
 
-    refused-is : (n l p : ℕ) → judge sh today f ≡ Refused n l p → lineOn sh today f ≡ bytes "Sheet " ++ (sh.letter ∷ refusedWords n l p)
-    unfolding verdictWords brief pick
+    refused-is : (n l p : ℕ) → judge sh today f ≡ Refused n l p → line_on sh today f ≡ bytes "Sheet " ++ (sh.letter ∷ refused_words n l p)
+    unfolding verdict_words brief pick
     refused-is n l p e =
         line-is (Refused n l p) e ∙ rw (ne_eqb n 0 (λ z. omega (arith, (judge-named sh today f n l p e).0)))
 
     -- the tenth byte tells them apart
-    apart : (w n l p : ℕ) → bytes "Sheet " ++ (sh.letter ∷ refusedWords n l p) ≡ acceptedOn sh w → ⊥
-    unfolding acceptedWords refusedWords
+    apart : (w n l p : ℕ) → bytes "Sheet " ++ (sh.letter ∷ refused_words n l p) ≡ accepted_on sh w → ⊥
+    unfolding accepted_words refused_words
     apart w n l p e = let z : ◌≡◌ {A = ℕ} 114 97 = ap (λ (s : List ℕ). get_or s 9 0) e in omega (arith, z)
 
-    told : (w : ℕ) (a : Answer) → judge sh today f ≡ a → lineOn sh today f ≡ acceptedOn sh w → SpellsSome sh today f
+    told : (w : ℕ) (a : Answer) → judge sh today f ≡ a → line_on sh today f ≡ accepted_on sh w → SpellsSome sh today f
     told w (Refused n l p) e z = absurd (apart w n l p (sym (refused-is n l p e) ∙ z))
     told w (Accepted h b w') e z = (h, b, w', (exact sh today f h b w').0 e)
 
     -- A file that spells a batch with w warnings is said to be accepted with w warnings,
-    pub spelled-said : (h : Header) (b : Batch) (w : ℕ) → Spells sh today f h b w → lineOn sh today f ≡ acceptedOn sh w
+    pub spelled-said : (h : Header) (b : Batch) (w : ℕ) → Spells sh today f h b w → line_on sh today f ≡ accepted_on sh w
     spelled-said h b w s = accepted-is h b w ((exact sh today f h b w).1 s)
 
     -- and no other file is said to be accepted.
-    pub every-sheet : ((w : ℕ) × (lineOn sh today f ≡ acceptedOn sh w)) ↔ SpellsSome sh today f
+    pub every-sheet : ((w : ℕ) × (line_on sh today f ≡ accepted_on sh w)) ↔ SpellsSome sh today f
     every-sheet = (λ s. told s.0 (judge sh today f) refl s.1, λ s. (s.2, spelled-said s.0 s.1 s.2 s.3))
 
 -- ---- the bit
@@ -110,8 +110,8 @@ module _ (today : ℕ) (f : List ℕ) where
   bits [] = 0
   bits (sh ∷ shs) = digit (judge sh today f) + 2 * bits shs
 
-  weights : (j : ℕ) (shs : List Sheet) → follow (suc j) shs ≡ true → acceptingOn today f shs ≡ bits shs * 2 ^ j
-  unfolding bits acceptingOn
+  weights : (j : ℕ) (shs : List Sheet) → follow (suc j) shs ≡ true → accepting_on today f shs ≡ bits shs * 2 ^ j
+  unfolding bits accepting_on
   weights j [] w = omega arith
   weights j (a ∷ shs) w =
       let place : a.number - 1 ≡ j = omega (arith, number a shs (suc j) w) in
@@ -136,10 +136,10 @@ module _ (today : ℕ) (f : List ℕ) where
       ap (λ (k : ℕ). k % 2) up ∙ nth-bit i shs rest sh e
 
   -- Bit n is set exactly if the file spells some batch on the sheet n + 1.
-  pub every-bit : (n : ℕ) (sh : Sheet) → sheetOf (n + 1) ≡ known.Sheet sh → accepting today f / 2 ^ n % 2 ≡ 1 ↔ SpellsSome sh today f
+  pub every-bit : (n : ℕ) (sh : Sheet) → sheet_of (n + 1) ≡ known.Sheet sh → accepting today f / 2 ^ n % 2 ≡ 1 ↔ SpellsSome sh today f
   unfolding accepting
   every-bit n sh named =
       let all : accepting today f ≡ bits sheets = omega (arith, weights 0 sheets sheets-follow) in
       let bit : accepting today f / 2 ^ n % 2 ≡ digit (judge sh today f) =
-      ap (λ (k : ℕ). k / 2 ^ n % 2) all ∙ nth-bit n sheets _ sh (here n (sheetOf (n + 1)) refl sh named).rest in
+      ap (λ (k : ℕ). k / 2 ^ n % 2) all ∙ nth-bit n sheets _ sh (here n (sheet_of (n + 1)) refl sh named).rest in
       (λ z. one sh today f (judge sh today f) refl (sym bit ∙ z), λ s. bit ∙ one-also sh today f s)

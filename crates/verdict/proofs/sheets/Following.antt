@@ -12,7 +12,7 @@ use Rattle.base.proofs.Cases.{both, pick_true, pick-false}
 use Rattle.sheet.specs.declared.Sheet.{Sheet}
 use Rattle.sheet.specs.declared.Known.{Known}
 use Rattle.sheet.specs.declared.Known.TheVariants as known
-use Rattle.sheet.specs.Sheets.{sheets, firstNamed, sheetOf}
+use Rattle.sheet.specs.Sheets.{sheets, first_named, sheet_of}
 
 -- ---- the sheets of a list whose numbers follow each other
 
@@ -28,7 +28,7 @@ pub record Next (i n : ℕ) (shs : List Sheet) (sh : Sheet) : Type 0 where
   pub few : i < length shs
 
 abbrev at : ℕ → List Sheet → Known
-at n shs = firstNamed (λ (x : Sheet). x.number) n shs
+at n shs = first_named (λ (x : Sheet). x.number) n shs
 
 module _ (a : Sheet) (shs : List Sheet) (k : ℕ) (w : follow k (a ∷ shs) ≡ true) where
   pub number : a.number ≡ k
@@ -88,14 +88,14 @@ pub left-all : left 0 ≡ sheets
 unfolding left
 left-all = refl
 
-module _ (k : ℕ) (r : Known) (g : r ≡ sheetOf (k + 1)) where
+module _ (k : ℕ) (r : Known) (g : r ≡ sheet_of (k + 1)) where
   pub left-none : r ≡ known.Nothing → left k ≡ []
-  unfolding sheetOf left
+  unfolding sheet_of left
   left-none e = ended k 1 sheets sheets-follow (sym g ∙ e)
 
   module _ (sh : Sheet) (e : r ≡ known.Sheet sh) where
     pub here : Next k (k + 1) sheets sh
-    unfolding sheetOf
+    unfolding sheet_of
     here = following k 1 sheets sh sheets-follow (sym g ∙ e)
 
     pub left-next : left k ≡ sh ∷ left (k + 1)
@@ -113,5 +113,5 @@ module _ (k : ℕ) (r : Known) (g : r ≡ sheetOf (k + 1)) where
     pub turn-less : many - (k + 1) < many - k
     turn-less = omega (arith, next-few)
 
-    pub next_known : sheetOf (k + 1) ≡ known.Sheet sh
+    pub next_known : sheet_of (k + 1) ≡ known.Sheet sh
     next_known = sym g ∙ e

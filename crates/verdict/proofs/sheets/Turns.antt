@@ -15,11 +15,11 @@ use Rattle.base.proofs.Cases.{either}
 use Rattle.sheet.specs.declared.Sheet.{Sheet}
 use Rattle.sheet.specs.declared.Known.{Known}
 use Rattle.sheet.specs.declared.Known.TheVariants as known
-use Rattle.sheet.specs.Sheets.{sheetOf}
+use Rattle.sheet.specs.Sheets.{sheet_of}
 use Rattle.paper.specs.Bytes.{bytes}
-use Rattle.paper.specs.Days.{realDay}
+use Rattle.paper.specs.Days.{real_day}
 use Rattle.paper.specs.Judge.{Answer, Refused, Accepted, judge}
-use Rattle.paper.specs.Reading.{readWith}
+use Rattle.paper.specs.Reading.{read_with}
 use Rattle.tally.specs.Short.{brief}
 use Rattle.tally.proofs.Short.{tally-is}
 use Rattle.exact.proofs.named.Main.{judge-named}
@@ -27,14 +27,14 @@ use Rattle.numeral.specs.counted.Counted.{Counted}
 use Rattle.numeral.proofs.counted.Laws.{counted-nothing, ◌counted-then◌}
 use Rattle.why.specs.Finding.{accepts}
 use Rattle.verdict.specs.declared.Verdict.{Verdict}
-use Rattle.verdict.specs.Told.{verdictOf}
-use Rattle.verdict.specs.Sheets.{verdictWords, sheetLine, linesOn, sheetLines, acceptingOn, accepting}
-use Rattle.verdict.proofs.Laws.{inBrief, day-verdict}
+use Rattle.verdict.specs.Told.{verdict_of}
+use Rattle.verdict.specs.Sheets.{verdict_words, sheet_line, lines_on, sheet_lines, accepting_on, accepting}
+use Rattle.verdict.proofs.Laws.{in_brief, day-verdict}
 use Rattle.verdict.proofs.sheets.Following.{left, many, many-few, left-all, left-none, left-next, next-number, next-few, next_known, turn-less}
 
 -- the sheet of the number k + 1 has the verdict v
-module _ (today : ℕ) (f : List ℕ) (k : ℕ) (r : Known) (g : r ≡ sheetOf (k + 1)) (sh : Sheet) (e : r ≡ known.Sheet sh) (v : Verdict) where
-  whose : v ≡ verdictOf (readWith (sheetOf (k + 1)) today f (length f)) → v ≡ verdictOf (readWith (known.Sheet sh) today f (length f))
+module _ (today : ℕ) (f : List ℕ) (k : ℕ) (r : Known) (g : r ≡ sheet_of (k + 1)) (sh : Sheet) (e : r ≡ known.Sheet sh) (v : Verdict) where
+  whose : v ≡ verdict_of (read_with (sheet_of (k + 1)) today f (length f)) → v ≡ verdict_of (read_with (known.Sheet sh) today f (length f))
   whose h = h ∙ rw (next_known k r g sh e)
 
 -- ---- lines
@@ -43,25 +43,25 @@ module _ (today : ℕ) (f : List ℕ) (k : ℕ) (r : Known) (g : r ≡ sheetOf (
 pub record Said (today : ℕ) (f o : List ℕ) (at k : ℕ) (o1 : List ℕ) (e : ℕ) : Type 0 where
   pub few : k ≤ many
   pub long : length o1 ≡ length o
-  pub all : (o2 : List ℕ) (r : ℕ) → Counted o1 e (linesOn today f (left k)) o2 r → Counted o at (sheetLines today f) o2 r
+  pub all : (o2 : List ℕ) (r : ℕ) → Counted o1 e (lines_on today f (left k)) o2 r → Counted o at (sheet_lines today f) o2 r
 
 module _ (today : ℕ) (f o : List ℕ) (at : ℕ) where
   pub said-none : Said today f o at 0 o at
-  unfolding sheetLines
+  unfolding sheet_lines
   said-none = record { few = omega arith; long = refl; all = λ o2 r w. rw left-all at w }
 
   pub said-next : (k : ℕ) (o1 : List ℕ) (e : ℕ) → Said today f o at k o1 e → k + 1 < 2 ^ 64
   said-next k o1 e s = omega (arith, s.few, many-few)
 
-  module _ (k : ℕ) (o1 : List ℕ) (e : ℕ) (s : Said today f o at k o1 e) (r : Known) (g : r ≡ sheetOf (k + 1)) where
-    pub said_all : r ≡ known.Nothing → Counted o at (sheetLines today f) o1 e
-    unfolding linesOn
+  module _ (k : ℕ) (o1 : List ℕ) (e : ℕ) (s : Said today f o at k o1 e) (r : Known) (g : r ≡ sheet_of (k + 1)) where
+    pub said_all : r ≡ known.Nothing → Counted o at (sheet_lines today f) o1 e
+    unfolding lines_on
     said_all z = s.all o1 e (rw (left-none k r g z) counted-nothing)
 
     module _ (sh : Sheet) (z : r ≡ known.Sheet sh) where
-      pub said_more : (v : Verdict) → v ≡ verdictOf (readWith (sheetOf (k + 1)) today f (length f)) → (o2 : List ℕ) (e2 : ℕ)
-          → Counted o1 e (bytes "Sheet " ++ (sh.letter ∷ verdictWords v)) o2 e2 → Said today f o at (k + 1) o2 e2
-      unfolding linesOn sheetLine
+      pub said_more : (v : Verdict) → v ≡ verdict_of (read_with (sheet_of (k + 1)) today f (length f)) → (o2 : List ℕ) (e2 : ℕ)
+          → Counted o1 e (bytes "Sheet " ++ (sh.letter ∷ verdict_words v)) o2 e2 → Said today f o at (k + 1) o2 e2
+      unfolding lines_on sheet_line
       said_more v h o2 e2 w =
           record {
             few = omega (arith, next-few k r g sh z);
@@ -76,18 +76,18 @@ pub record Marks (today : ℕ) (f : List ℕ) (set bit k : ℕ) : Type 0 where
   pub few : k ≤ many
   pub power : bit ≡ 2 ^ k
   pub below : set < bit
-  pub all : set + acceptingOn today f (left k) ≡ accepting today f
+  pub all : set + accepting_on today f (left k) ≡ accepting today f
 
 -- a verdict has the number 0 exactly if the file is accepted
-judged-accepts : (sh : Sheet) (today : ℕ) (f : List ℕ) (a : Answer) → judge sh today f ≡ a → eqb (inBrief (brief a)).number 0 ≡ accepts a
+judged-accepts : (sh : Sheet) (today : ℕ) (f : List ℕ) (a : Answer) → judge sh today f ≡ a → eqb (in_brief (brief a)).number 0 ≡ accepts a
 unfolding brief accepts
 judged-accepts sh today f (Refused n l p) e = ne_eqb n 0 (λ z. omega (arith, (judge-named sh today f n l p e).0))
 judged-accepts sh today f (Accepted h b w) e = refl
 
-pub verdict-accepts : (sh : Sheet) (today : ℕ) (f : List ℕ) → realDay today ≡ true
-    → eqb (verdictOf (readWith (known.Sheet sh) today f (length f))).number 0 ≡ accepts (judge sh today f)
+pub verdict-accepts : (sh : Sheet) (today : ℕ) (f : List ℕ) → real_day today ≡ true
+    → eqb (verdict_of (read_with (known.Sheet sh) today f (length f))).number 0 ≡ accepts (judge sh today f)
 verdict-accepts sh today f real =
-    ap (λ (v : Verdict). eqb v.number 0) (day-verdict sh today f real ∙ ap inBrief (tally-is sh today f)) ∙ judged-accepts sh today f (judge sh today f) refl
+    ap (λ (v : Verdict). eqb v.number 0) (day-verdict sh today f real ∙ ap in_brief (tally-is sh today f)) ∙ judged-accepts sh today f (judge sh today f) refl
 
 module _ (today : ℕ) (f : List ℕ) where
   pub marks-none : Marks today f 0 1 0
@@ -98,9 +98,9 @@ module _ (today : ℕ) (f : List ℕ) where
     pub marks-next : k + 1 < 2 ^ 64
     marks-next = omega (arith, m.few, many-few)
 
-    module _ (r : Known) (g : r ≡ sheetOf (k + 1)) where
+    module _ (r : Known) (g : r ≡ sheet_of (k + 1)) where
       pub marks-all : r ≡ known.Nothing → set ≡ accepting today f
-      unfolding acceptingOn
+      unfolding accepting_on
       marks-all z = let t = rw (left-none k r g z) at m.all in omega (arith, t)
 
       module _ (sh : Sheet) (z : r ≡ known.Sheet sh) where
@@ -110,7 +110,7 @@ module _ (today : ℕ) (f : List ℕ) where
         pub bit-fits : bit * 2 < 2 ^ 64
         bit-fits = omega (arith, bit-low)
 
-        module _ (v : Verdict) (h : v ≡ verdictOf (readWith (sheetOf (k + 1)) today f (length f))) (x : ℕ) (is : x ≡ pick (eqb v.number 0) bit 0) where
+        module _ (v : Verdict) (h : v ≡ verdict_of (read_with (sheet_of (k + 1)) today f (length f))) (x : ℕ) (is : x ≡ pick (eqb v.number 0) bit 0) where
           mark-most : x ≤ bit
           mark-most = rw is (either (λ (n : ℕ). n ≤ bit) (eqb v.number 0) (λ _. omega arith) (λ _. omega arith))
 
@@ -118,15 +118,15 @@ module _ (today : ℕ) (f : List ℕ) where
           marks-fit = omega (arith, mark-most, m.below, bit-low)
 
           -- the bit of the sheet, by its number and the judge's answer
-          mark-is : realDay today ≡ true → x ≡ pick (accepts (judge sh today f)) (2 ^ (sh.number - 1)) 0
+          mark-is : real_day today ≡ true → x ≡ pick (accepts (judge sh today f)) (2 ^ (sh.number - 1)) 0
           mark-is real =
               let yes : eqb v.number 0 ≡ accepts (judge sh today f) =
               ap (λ (u : Verdict). eqb u.number 0) (whose today f k r g sh z v h) ∙ verdict-accepts sh today f real in
               let place : k ≡ sh.number - 1 = omega (arith, next-number k r g sh z) in
               is ∙ ap (λ (b : Bool). pick b bit 0) yes ∙ ap (λ (n : ℕ). pick (accepts (judge sh today f)) n 0) (m.power ∙ ap (λ (n : ℕ). 2 ^ n) place)
 
-          pub marks-more : realDay today ≡ true → Marks today f (set + x) (bit * 2) (k + 1)
-          unfolding acceptingOn
+          pub marks-more : real_day today ≡ true → Marks today f (set + x) (bit * 2) (k + 1)
+          unfolding accepting_on
           marks-more real =
               let t = rw (left-next k r g sh z) at m.all in
               record {

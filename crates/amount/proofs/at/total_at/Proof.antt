@@ -1,6 +1,6 @@
 -- `total_at` meets its contract: digits alone, or the whole field. Assumes nothing.
 use borrow.Author.Rules.{rules}
-use Rattle.paper.specs.Amounts.{readTotal}
+use Rattle.paper.specs.Amounts.{read_total}
 use Rattle.numeral.specs.field.At.{field_at}
 use Rattle.amount.proofs.at.Exits.{digits-total}
 use Rattle.amount.proofs.at.total_at.Statement.{statement}
@@ -19,7 +19,7 @@ whole-amount-requires : tie.Need-whole-amount-requires
 whole-amount-requires c κs = search rules
 
 returns : tie.Need-returns
-unfolding field_at readTotal
+unfolding field_at read_total
 returns c = search rules
 
 returns-2 : tie.Need-returns-2

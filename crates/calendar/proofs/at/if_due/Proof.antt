@@ -1,7 +1,7 @@
 -- `if_due` meets its contract: the two tests of a day. Assumes nothing.
 use borrow.Author.Rules.{rules}
 use Rattle.numeral.proofs.field.Onward.{onwards}
-use Rattle.calendar.proofs.at.Exits.{is_real}
+use Rattle.calendar.proofs.at.Exits.{is-real}
 use Rattle.calendar.proofs.at.if_due.Statement.{statement}
 use Rattle.calendar.proofs.at.if_due.Tie as tie
 
@@ -9,7 +9,7 @@ real-day-requires : tie.Need-real-day-requires
 real-day-requires c κs = search rules
 
 if-allowed-requires : tie.Need-if-allowed-requires
-if-allowed-requires c κs = search (is_real, rules)
+if-allowed-requires c κs = search (is-real, rules)
 
 returns : tie.Need-returns
 returns c = search onwards

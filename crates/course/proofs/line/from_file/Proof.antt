@@ -1,6 +1,6 @@
 -- `from_file` meets its contract: an account file begins, or judging halts at each other kind of line. Assumes nothing.
 use borrow.Author.Rules.{rules}
-use Rattle.tally.specs.Tally.{isDue}
+use Rattle.tally.specs.Tally.{is_due}
 use Rattle.course.proofs.line.Leading.{others-halt}
 use Rattle.course.proofs.line.from_file.Statement.{statement}
 use Rattle.course.proofs.line.from_file.Tie as tie
@@ -39,27 +39,27 @@ enum-told-6 : tie.Need-enum-told-6
 enum-told-6 c = search rules
 
 returns : tie.Need-returns
-unfolding isDue
+unfolding is_due
 returns c = search (others-halt, rules)
 
 returns-2 : tie.Need-returns-2
-unfolding isDue
+unfolding is_due
 returns-2 c = search (others-halt, rules)
 
 returns-3 : tie.Need-returns-3
-unfolding isDue
+unfolding is_due
 returns-3 c = search (others-halt, rules)
 
 returns-4 : tie.Need-returns-4
-unfolding isDue
+unfolding is_due
 returns-4 c = search (others-halt, rules)
 
 returns-5 : tie.Need-returns-5
-unfolding isDue
+unfolding is_due
 returns-5 c = search (others-halt, rules)
 
 returns-6 : tie.Need-returns-6
-unfolding isDue
+unfolding is_due
 returns-6 c = search (others-halt, rules)
 
 pub from-file-spec : {M : Type 1} → statement M

@@ -1,7 +1,7 @@
 -- `from_group` meets its contract: a group begins, the account file closes, or judging halts at each other kind of line. Assumes nothing.
 use borrow.Author.Rules.{rules}
 use Rattle.base.specs.Pick.{pick}
-use Rattle.tally.specs.Tally.{isDue}
+use Rattle.tally.specs.Tally.{is_due}
 use Rattle.course.proofs.line.Leading.{others-halt}
 use Rattle.course.proofs.line.from_group.Statement.{statement}
 use Rattle.course.proofs.line.from_group.Tie as tie
@@ -43,27 +43,27 @@ enum-told-6 : tie.Need-enum-told-6
 enum-told-6 c = search rules
 
 returns : tie.Need-returns
-unfolding isDue pick
+unfolding is_due pick
 returns c = search (others-halt, rules)
 
 returns-2 : tie.Need-returns-2
-unfolding isDue pick
+unfolding is_due pick
 returns-2 c = search (others-halt, rules)
 
 returns-3 : tie.Need-returns-3
-unfolding isDue pick
+unfolding is_due pick
 returns-3 c = search (others-halt, rules)
 
 returns-4 : tie.Need-returns-4
-unfolding isDue pick
+unfolding is_due pick
 returns-4 c = search (others-halt, rules)
 
 returns-5 : tie.Need-returns-5
-unfolding isDue pick
+unfolding is_due pick
 returns-5 c = search (others-halt, rules)
 
 returns-6 : tie.Need-returns-6
-unfolding isDue pick
+unfolding is_due pick
 returns-6 c = search (others-halt, rules)
 
 pub from-group-spec : {M : Type 1} → statement M

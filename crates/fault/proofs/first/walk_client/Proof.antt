@@ -1,7 +1,7 @@
 -- `walk_client`: the client number and what follows it. Assumes nothing.
 use borrow.Author.Rules.{rules}
-use Rattle.why.specs.Names.{fieldNumber}
-use Rattle.why.specs.Fields.{rulesOf}
+use Rattle.why.specs.Names.{field_number}
+use Rattle.why.specs.Fields.{rules_of}
 use Rattle.fault.proofs.first.Places.{clients}
 use Rattle.fault.proofs.first.walk_client.Statement.{statement}
 use Rattle.fault.proofs.first.walk_client.Tie as tie
@@ -13,7 +13,7 @@ stopped-requires : tie.Need-stopped-requires
 stopped-requires c κs = search rules
 
 returns : tie.Need-returns
-unfolding rulesOf fieldNumber
+unfolding rules_of field_number
 returns c = search clients
 
 sub-check-digits : tie.Need-overflow-sub-check-digits
@@ -41,11 +41,11 @@ walk-start-requires : tie.Need-walk-start-requires
 walk-start-requires c κs = search rules
 
 returns-2 : tie.Need-returns-2
-unfolding rulesOf fieldNumber
+unfolding rules_of field_number
 returns-2 c = search clients
 
 returns-3 : tie.Need-returns-3
-unfolding rulesOf fieldNumber
+unfolding rules_of field_number
 returns-3 c = search clients
 
 pub walk-client-spec : {M : Type 1} → statement M

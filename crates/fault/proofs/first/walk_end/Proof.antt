@@ -1,7 +1,7 @@
 -- `walk_end`: the interval's end, of an interval that begins at `start`, and the rest. Assumes nothing.
 use borrow.Author.Rules.{rules}
-use Rattle.why.specs.Names.{fieldNumber}
-use Rattle.why.specs.Fields.{rulesOf}
+use Rattle.why.specs.Names.{field_number}
+use Rattle.why.specs.Fields.{rules_of}
 use Rattle.fault.proofs.first.Places.{ends}
 use Rattle.fault.proofs.first.walk_end.Statement.{statement}
 use Rattle.fault.proofs.first.walk_end.Tie as tie
@@ -13,7 +13,7 @@ stopped-requires : tie.Need-stopped-requires
 stopped-requires c κs = search rules
 
 returns : tie.Need-returns
-unfolding rulesOf fieldNumber
+unfolding rules_of field_number
 returns c = search ends
 
 sub-check-end : tie.Need-overflow-sub-check-end
@@ -41,11 +41,11 @@ walk-rest-requires : tie.Need-walk-rest-requires
 walk-rest-requires c κs = search rules
 
 returns-2 : tie.Need-returns-2
-unfolding rulesOf fieldNumber
+unfolding rules_of field_number
 returns-2 c = search ends
 
 returns-3 : tie.Need-returns-3
-unfolding rulesOf fieldNumber
+unfolding rules_of field_number
 returns-3 c = search ends
 
 pub walk-end-spec : {M : Type 1} → statement M

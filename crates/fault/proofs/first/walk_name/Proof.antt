@@ -1,7 +1,7 @@
 -- `walk_name`: the name and what follows it. Assumes nothing.
 use borrow.Author.Rules.{rules}
-use Rattle.why.specs.Names.{fieldNumber}
-use Rattle.why.specs.Fields.{rulesOf}
+use Rattle.why.specs.Names.{field_number}
+use Rattle.why.specs.Fields.{rules_of}
 use Rattle.fault.proofs.first.Places.{names}
 use Rattle.fault.proofs.first.walk_name.Statement.{statement}
 use Rattle.fault.proofs.first.walk_name.Tie as tie
@@ -13,7 +13,7 @@ stopped-requires : tie.Need-stopped-requires
 stopped-requires c κs = search rules
 
 returns : tie.Need-returns
-unfolding rulesOf fieldNumber
+unfolding rules_of field_number
 returns c = search names
 
 sub-check-name : tie.Need-overflow-sub-check-name
@@ -41,11 +41,11 @@ walk-client-requires : tie.Need-walk-client-requires
 walk-client-requires c κs = search rules
 
 returns-2 : tie.Need-returns-2
-unfolding rulesOf fieldNumber
+unfolding rules_of field_number
 returns-2 c = search names
 
 returns-3 : tie.Need-returns-3
-unfolding rulesOf fieldNumber
+unfolding rules_of field_number
 returns-3 c = search names
 
 pub walk-name-spec : {M : Type 1} → statement M

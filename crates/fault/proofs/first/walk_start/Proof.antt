@@ -1,7 +1,7 @@
 -- `walk_start`: the interval's start and what follows it. Assumes nothing.
 use borrow.Author.Rules.{rules}
-use Rattle.why.specs.Names.{fieldNumber}
-use Rattle.why.specs.Fields.{rulesOf}
+use Rattle.why.specs.Names.{field_number}
+use Rattle.why.specs.Fields.{rules_of}
 use Rattle.fault.proofs.first.Places.{starts}
 use Rattle.fault.proofs.first.walk_start.Statement.{statement}
 use Rattle.fault.proofs.first.walk_start.Tie as tie
@@ -13,7 +13,7 @@ stopped-requires : tie.Need-stopped-requires
 stopped-requires c κs = search rules
 
 returns : tie.Need-returns
-unfolding rulesOf fieldNumber
+unfolding rules_of field_number
 returns c = search starts
 
 sub-read-digits : tie.Need-overflow-sub-read-digits
@@ -41,11 +41,11 @@ stopped-requires-2 : tie.Need-stopped-requires-2
 stopped-requires-2 c κs = search rules
 
 returns-2 : tie.Need-returns-2
-unfolding rulesOf fieldNumber
+unfolding rules_of field_number
 returns-2 c = search starts
 
 returns-3 : tie.Need-returns-3
-unfolding rulesOf fieldNumber
+unfolding rules_of field_number
 returns-3 c = search starts
 
 pub walk-start-spec : {M : Type 1} → statement M

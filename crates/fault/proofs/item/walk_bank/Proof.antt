@@ -1,7 +1,7 @@
 -- `walk_bank`: the bank field, in an account file of that kind and a group of that date, and the tail. Assumes nothing.
 use borrow.Author.Rules.{rules}
-use Rattle.why.specs.Names.{fieldNumber}
-use Rattle.why.specs.Fields.{rulesOf}
+use Rattle.why.specs.Names.{field_number}
+use Rattle.why.specs.Fields.{rules_of}
 use Rattle.fault.proofs.line.Steps.{steps}
 use Rattle.fault.proofs.item.Onward.{items}
 use Rattle.fault.proofs.item.walk_bank.Statement.{statement}
@@ -41,11 +41,11 @@ walk-tail-requires : tie.Need-walk-tail-requires
 walk-tail-requires c κs = search (items, steps, rules)
 
 returns : tie.Need-returns
-unfolding rulesOf fieldNumber
+unfolding rules_of field_number
 returns c = search (items, steps)
 
 returns-2 : tie.Need-returns-2
-unfolding rulesOf fieldNumber
+unfolding rules_of field_number
 returns-2 c = search (items, steps)
 
 pub walk-bank-spec : {M : Type 1} → statement M

@@ -1,7 +1,7 @@
 -- `walk_fixed_symbol`: a symbol or none, a space and a text (S). Assumes nothing.
 use borrow.Author.Rules.{rules}
-use Rattle.why.specs.Names.{fieldNumber}
-use Rattle.why.specs.Fields.{rulesOf}
+use Rattle.why.specs.Names.{field_number}
+use Rattle.why.specs.Fields.{rules_of}
 use Rattle.fault.proofs.line.Steps.{steps}
 use Rattle.fault.proofs.item.Onward.{tails}
 use Rattle.fault.proofs.item.walk_fixed_symbol.Statement.{statement}
@@ -41,18 +41,18 @@ walk-text-requires : tie.Need-walk-text-requires
 walk-text-requires c κs = search rules
 
 returns : tie.Need-returns
-unfolding rulesOf fieldNumber
+unfolding rules_of field_number
 returns c = search (tails, steps)
 
 malformed-requires : tie.Need-malformed-requires
 malformed-requires c κs = search rules
 
 returns-2 : tie.Need-returns-2
-unfolding rulesOf fieldNumber
+unfolding rules_of field_number
 returns-2 c = search (tails, steps)
 
 returns-3 : tie.Need-returns-3
-unfolding rulesOf fieldNumber
+unfolding rules_of field_number
 returns-3 c = search (tails, steps)
 
 pub walk-fixed-symbol-spec : {M : Type 1} → statement M

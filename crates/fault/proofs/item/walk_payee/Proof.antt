@@ -1,8 +1,8 @@
 -- `walk_payee`: the payee's account and what follows it. Assumes nothing.
 use borrow.Author.Rules.{rules}
-use Rattle.why.specs.Walk.{whyPayee}
-use Rattle.why.specs.Names.{fieldNumber}
-use Rattle.why.specs.Fields.{rulesOf}
+use Rattle.why.specs.Walk.{why_payee}
+use Rattle.why.specs.Names.{field_number}
+use Rattle.why.specs.Fields.{rules_of}
 use Rattle.fault.proofs.line.Steps.{steps}
 use Rattle.fault.proofs.item.Onward.{items}
 use Rattle.fault.proofs.item.walk_payee.Statement.{statement}
@@ -42,18 +42,18 @@ walk-amount-requires : tie.Need-walk-amount-requires
 walk-amount-requires c κs = search rules
 
 returns : tie.Need-returns
-unfolding rulesOf fieldNumber whyPayee
+unfolding rules_of field_number why_payee
 returns c = search (items, steps)
 
 malformed-requires : tie.Need-malformed-requires
 malformed-requires c κs = search rules
 
 returns-2 : tie.Need-returns-2
-unfolding rulesOf fieldNumber whyPayee
+unfolding rules_of field_number why_payee
 returns-2 c = search (items, steps)
 
 returns-3 : tie.Need-returns-3
-unfolding rulesOf fieldNumber whyPayee
+unfolding rules_of field_number why_payee
 returns-3 c = search (items, steps)
 
 pub walk-payee-spec : {M : Type 1} → statement M

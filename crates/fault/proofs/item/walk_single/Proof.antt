@@ -1,7 +1,7 @@
 -- `walk_single`: the payer's account of an item, and what follows it. Assumes nothing.
 use borrow.Author.Rules.{rules}
-use Rattle.why.specs.Names.{fieldNumber}
-use Rattle.why.specs.Fields.{rulesOf}
+use Rattle.why.specs.Names.{field_number}
+use Rattle.why.specs.Fields.{rules_of}
 use Rattle.fault.proofs.line.Steps.{steps}
 use Rattle.fault.proofs.item.Onward.{items}
 use Rattle.fault.proofs.item.walk_single.Statement.{statement}
@@ -41,18 +41,18 @@ walk-payee-requires : tie.Need-walk-payee-requires
 walk-payee-requires c κs = search rules
 
 returns : tie.Need-returns
-unfolding rulesOf fieldNumber
+unfolding rules_of field_number
 returns c = search (items, steps)
 
 malformed-requires : tie.Need-malformed-requires
 malformed-requires c κs = search rules
 
 returns-2 : tie.Need-returns-2
-unfolding rulesOf fieldNumber
+unfolding rules_of field_number
 returns-2 c = search (items, steps)
 
 returns-3 : tie.Need-returns-3
-unfolding rulesOf fieldNumber
+unfolding rules_of field_number
 returns-3 c = search (items, steps)
 
 pub walk-single-spec : {M : Type 1} → statement M

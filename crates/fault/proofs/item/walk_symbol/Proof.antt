@@ -1,7 +1,7 @@
 -- `walk_symbol`: a symbol, and what follows it off S. Assumes nothing.
 use borrow.Author.Rules.{rules}
-use Rattle.why.specs.Names.{fieldNumber}
-use Rattle.why.specs.Fields.{rulesOf}
+use Rattle.why.specs.Names.{field_number}
+use Rattle.why.specs.Fields.{rules_of}
 use Rattle.fault.proofs.line.Steps.{steps}
 use Rattle.fault.proofs.item.Onward.{tails}
 use Rattle.fault.proofs.item.walk_symbol.Statement.{statement}
@@ -38,11 +38,11 @@ walk-behind-requires : tie.Need-walk-behind-requires
 walk-behind-requires c κs = search (tails, steps, rules)
 
 returns : tie.Need-returns
-unfolding rulesOf fieldNumber
+unfolding rules_of field_number
 returns c = search (tails, steps)
 
 returns-2 : tie.Need-returns-2
-unfolding rulesOf fieldNumber
+unfolding rules_of field_number
 returns-2 c = search (tails, steps)
 
 pub walk-symbol-spec : {M : Type 1} → statement M

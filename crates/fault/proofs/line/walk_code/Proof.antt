@@ -1,7 +1,7 @@
 -- `walk_code`: BANK, and nothing behind it. Assumes nothing.
 use borrow.Author.Rules.{rules}
-use Rattle.why.specs.Names.{fieldNumber}
-use Rattle.why.specs.Fields.{rulesOf}
+use Rattle.why.specs.Names.{field_number}
+use Rattle.why.specs.Fields.{rules_of}
 use Rattle.fault.proofs.line.Steps.{steps}
 use Rattle.fault.proofs.line.walk_code.Statement.{statement}
 use Rattle.fault.proofs.line.walk_code.Tie as tie
@@ -40,15 +40,15 @@ malformed-requires : tie.Need-malformed-requires
 malformed-requires c κs = search rules
 
 returns : tie.Need-returns
-unfolding rulesOf fieldNumber
+unfolding rules_of field_number
 returns c = search steps
 
 returns-2 : tie.Need-returns-2
-unfolding rulesOf fieldNumber
+unfolding rules_of field_number
 returns-2 c = search steps
 
 returns-3 : tie.Need-returns-3
-unfolding rulesOf fieldNumber
+unfolding rules_of field_number
 returns-3 c = search steps
 
 pub walk-code-spec : {M : Type 1} → statement M

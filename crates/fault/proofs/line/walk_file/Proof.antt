@@ -1,8 +1,8 @@
 -- `walk_file`: `1 KIND NUMBER BANK`, of a line that begins so. Assumes nothing.
 use borrow.Author.Rules.{rules}
-use Rattle.why.specs.Walk.{whyFile}
-use Rattle.why.specs.Names.{fieldNumber}
-use Rattle.why.specs.Fields.{rulesOf}
+use Rattle.why.specs.Walk.{why_file}
+use Rattle.why.specs.Names.{field_number}
+use Rattle.why.specs.Fields.{rules_of}
 use Rattle.fault.proofs.line.Steps.{numbered}
 use Rattle.fault.proofs.line.walk_file.Statement.{statement}
 use Rattle.fault.proofs.line.walk_file.Tie as tie
@@ -41,18 +41,18 @@ walk-number-requires : tie.Need-walk-number-requires
 walk-number-requires c κs = search rules
 
 returns : tie.Need-returns
-unfolding rulesOf fieldNumber whyFile
+unfolding rules_of field_number why_file
 returns c = search numbered
 
 malformed-requires : tie.Need-malformed-requires
 malformed-requires c κs = search rules
 
 returns-2 : tie.Need-returns-2
-unfolding rulesOf fieldNumber whyFile
+unfolding rules_of field_number why_file
 returns-2 c = search numbered
 
 returns-3 : tie.Need-returns-3
-unfolding rulesOf fieldNumber whyFile
+unfolding rules_of field_number why_file
 returns-3 c = search numbered
 
 pub walk-file-spec : {M : Type 1} → statement M

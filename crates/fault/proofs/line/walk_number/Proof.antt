@@ -1,7 +1,7 @@
 -- `walk_number`: NUMBER and what follows it. Assumes nothing.
 use borrow.Author.Rules.{rules}
-use Rattle.why.specs.Names.{fieldNumber}
-use Rattle.why.specs.Fields.{rulesOf}
+use Rattle.why.specs.Names.{field_number}
+use Rattle.why.specs.Fields.{rules_of}
 use Rattle.fault.proofs.line.Steps.{numbered}
 use Rattle.fault.proofs.line.walk_number.Statement.{statement}
 use Rattle.fault.proofs.line.walk_number.Tie as tie
@@ -40,18 +40,18 @@ walk-code-requires : tie.Need-walk-code-requires
 walk-code-requires c κs = search rules
 
 returns : tie.Need-returns
-unfolding rulesOf fieldNumber
+unfolding rules_of field_number
 returns c = search numbered
 
 malformed-requires : tie.Need-malformed-requires
 malformed-requires c κs = search rules
 
 returns-2 : tie.Need-returns-2
-unfolding rulesOf fieldNumber
+unfolding rules_of field_number
 returns-2 c = search numbered
 
 returns-3 : tie.Need-returns-3
-unfolding rulesOf fieldNumber
+unfolding rules_of field_number
 returns-3 c = search numbered
 
 pub walk-number-spec : {M : Type 1} → statement M

@@ -1,7 +1,7 @@
 -- `walk_payer`: the payer's account of a group, and what follows it. Assumes nothing.
 use borrow.Author.Rules.{rules}
-use Rattle.why.specs.Names.{fieldNumber}
-use Rattle.why.specs.Fields.{rulesOf}
+use Rattle.why.specs.Names.{field_number}
+use Rattle.why.specs.Fields.{rules_of}
 use Rattle.fault.proofs.line.Steps.{steps}
 use Rattle.fault.proofs.line.Onward.{totals}
 use Rattle.fault.proofs.line.walk_payer.Statement.{statement}
@@ -41,18 +41,18 @@ walk-total-requires : tie.Need-walk-total-requires
 walk-total-requires c κs = search rules
 
 returns : tie.Need-returns
-unfolding rulesOf fieldNumber
+unfolding rules_of field_number
 returns c = search (totals, steps)
 
 malformed-requires : tie.Need-malformed-requires
 malformed-requires c κs = search rules
 
 returns-2 : tie.Need-returns-2
-unfolding rulesOf fieldNumber
+unfolding rules_of field_number
 returns-2 c = search (totals, steps)
 
 returns-3 : tie.Need-returns-3
-unfolding rulesOf fieldNumber
+unfolding rules_of field_number
 returns-3 c = search (totals, steps)
 
 pub walk-payer-spec : {M : Type 1} → statement M

@@ -1,8 +1,8 @@
 -- `walk_total`: TOTAL and what follows it. Assumes nothing.
 use borrow.Author.Rules.{rules}
-use Rattle.why.specs.Walk.{whyTotal}
-use Rattle.why.specs.Names.{fieldNumber}
-use Rattle.why.specs.Fields.{rulesOf}
+use Rattle.why.specs.Walk.{why_total}
+use Rattle.why.specs.Names.{field_number}
+use Rattle.why.specs.Fields.{rules_of}
 use Rattle.fault.proofs.line.Steps.{steps}
 use Rattle.fault.proofs.line.Onward.{days}
 use Rattle.fault.proofs.line.walk_total.Statement.{statement}
@@ -42,18 +42,18 @@ walk-day-requires : tie.Need-walk-day-requires
 walk-day-requires c κs = search rules
 
 returns : tie.Need-returns
-unfolding rulesOf fieldNumber whyTotal
+unfolding rules_of field_number why_total
 returns c = search (days, steps)
 
 malformed-requires : tie.Need-malformed-requires
 malformed-requires c κs = search rules
 
 returns-2 : tie.Need-returns-2
-unfolding rulesOf fieldNumber whyTotal
+unfolding rules_of field_number why_total
 returns-2 c = search (days, steps)
 
 returns-3 : tie.Need-returns-3
-unfolding rulesOf fieldNumber whyTotal
+unfolding rules_of field_number why_total
 returns-3 c = search (days, steps)
 
 pub walk-total-spec : {M : Type 1} → statement M

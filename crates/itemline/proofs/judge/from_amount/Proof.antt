@@ -1,6 +1,6 @@
 -- `from_amount`: the amount, and what follows it. Assumes nothing.
 use borrow.Author.Rules.{rules}
-use Rattle.itemline.specs.Walk.{spaced, fromAmount}
+use Rattle.itemline.specs.Walk.{spaced, from_amount}
 use Rattle.itemline.proofs.judge.Steps.{items}
 use Rattle.itemline.proofs.judge.from_amount.Statement.{statement}
 use Rattle.itemline.proofs.judge.from_amount.Tie as tie
@@ -18,7 +18,7 @@ enum-known-amount : tie.Need-enum-known-amount
 enum-known-amount c = search rules
 
 returns : tie.Need-returns
-unfolding fromAmount spaced
+unfolding from_amount spaced
 returns c = search items depth 12
 
 add-from-variable : tie.Need-overflow-add-from-variable
@@ -28,11 +28,11 @@ from-variable-requires : tie.Need-from-variable-requires
 from-variable-requires c κs = search rules
 
 returns-2 : tie.Need-returns-2
-unfolding fromAmount spaced
+unfolding from_amount spaced
 returns-2 c = search items depth 12
 
 returns-3 : tie.Need-returns-3
-unfolding fromAmount spaced
+unfolding from_amount spaced
 returns-3 c = search items depth 12
 
 pub from-amount-spec : {M : Type 1} → statement M

@@ -1,7 +1,7 @@
 -- `payer_first`: the payer where the group is single. Assumes nothing.
 use borrow.Author.Rules.{rules}
-use Rattle.itemline.specs.Walk.{payerFirst}
-use Rattle.itemline.specs.judge.Brief.{anyPayer}
+use Rattle.itemline.specs.Walk.{payer_first}
+use Rattle.itemline.specs.judge.Brief.{any_payer}
 use Rattle.itemline.proofs.judge.Steps.{items, bounds}
 use Rattle.itemline.proofs.judge.payer_first.Statement.{statement}
 use Rattle.itemline.proofs.judge.payer_first.Tie as tie
@@ -28,7 +28,7 @@ returns-3 : tie.Need-returns-3
 returns-3 c = (λ k. search items depth 12, search (bounds, rules))
 
 returns-4 : tie.Need-returns-4
-unfolding payerFirst anyPayer
+unfolding payer_first any_payer
 returns-4 c = (λ k. search items depth 12, search (bounds, rules))
 
 pub payer-first-spec : {M : Type 1} → statement M

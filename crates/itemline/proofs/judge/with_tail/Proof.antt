@@ -1,6 +1,6 @@
 -- `with_tail`: the tail, with the warnings of its texts. Assumes nothing.
 use borrow.Author.Rules.{rules}
-use Rattle.itemline.specs.judge.Brief.{keptTexts}
+use Rattle.itemline.specs.judge.Brief.{kept_texts}
 use Rattle.itemline.proofs.judge.Steps.{items, bounds}
 use Rattle.itemline.proofs.judge.with_tail.Statement.{statement}
 use Rattle.itemline.proofs.judge.with_tail.Tie as tie
@@ -30,11 +30,11 @@ with-texts-requires : tie.Need-with-texts-requires
 with-texts-requires c κs = search (bounds, rules)
 
 returns : tie.Need-returns
-unfolding keptTexts
+unfolding kept_texts
 returns c = search items depth 12
 
 returns-2 : tie.Need-returns-2
-unfolding keptTexts
+unfolding kept_texts
 returns-2 c = search items depth 12
 
 returns-3 : tie.Need-returns-3

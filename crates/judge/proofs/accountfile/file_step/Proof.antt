@@ -1,6 +1,6 @@
 -- `file_step` meets its contract: the end of the file, an account file, or 3 for each other kind of line. Assumes nothing.
 use borrow.Author.Rules.{rules}
-use Rattle.tally.specs.Tally.{isDue}
+use Rattle.tally.specs.Tally.{is_due}
 use Rattle.judge.proofs.group.Turns.{is-kind}
 use Rattle.judge.proofs.accountfile.Files.{file-lines}
 use Rattle.judge.proofs.accountfile.file_step.Statement.{statement}
@@ -52,23 +52,23 @@ returns-2 : tie.Need-returns-2
 returns-2 c = search rules
 
 returns-3 : tie.Need-returns-3
-unfolding isDue
+unfolding is_due
 returns-3 c = search file-lines
 
 returns-4 : tie.Need-returns-4
-unfolding isDue
+unfolding is_due
 returns-4 c = search file-lines
 
 returns-5 : tie.Need-returns-5
-unfolding isDue
+unfolding is_due
 returns-5 c = search file-lines
 
 returns-6 : tie.Need-returns-6
-unfolding isDue
+unfolding is_due
 returns-6 c = search file-lines
 
 returns-7 : tie.Need-returns-7
-unfolding isDue
+unfolding is_due
 returns-7 c = search file-lines
 
 pub file-step-spec : {M : Type 1} → statement M

@@ -1,7 +1,7 @@
 -- `group_step` meets its contract: a group, the end of the account file, or 3 for each other kind of line. Assumes nothing.
 use borrow.Author.Rules.{rules}
 use Rattle.base.specs.Pick.{pick}
-use Rattle.tally.specs.Tally.{isDue}
+use Rattle.tally.specs.Tally.{is_due}
 use Rattle.judge.proofs.group.Turns.{is-kind}
 use Rattle.judge.proofs.accountfile.Groups.{group_lines}
 use Rattle.judge.proofs.accountfile.group_step.Statement.{statement}
@@ -56,19 +56,19 @@ returns-3 : tie.Need-returns-3
 returns-3 c = search group_lines
 
 returns-4 : tie.Need-returns-4
-unfolding isDue pick
+unfolding is_due pick
 returns-4 c = search group_lines
 
 returns-5 : tie.Need-returns-5
-unfolding isDue pick
+unfolding is_due pick
 returns-5 c = search group_lines
 
 returns-6 : tie.Need-returns-6
-unfolding isDue pick
+unfolding is_due pick
 returns-6 c = search group_lines
 
 returns-7 : tie.Need-returns-7
-unfolding isDue pick
+unfolding is_due pick
 returns-7 c = search group_lines
 
 pub group-step-spec : {M : Type 1} → statement M

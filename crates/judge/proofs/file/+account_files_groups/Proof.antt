@@ -2,7 +2,7 @@
 use borrow.Author.Rules.{rules}
 use mathlib.Core.Path.{◌≡◌}
 use Rattle.judge.specs.declared.accountfile.Left.TheVariants as left
-use Rattle.judge.specs.accountfile.Resume.{toGo}
+use Rattle.judge.specs.accountfile.Resume.{to_go}
 use Rattle.judge.proofs.file.Goes.{Along, alongs, readers, calls}
 use Prim.Native.Nat.{ℕ, ◌<◌}
 use borrow.Fn.Kinds.{In}
@@ -89,7 +89,7 @@ groups-Inv-loop f terms at line seen₀ budget at₀ line₀ counts₀ shelf₀ 
     Along terms.sheet terms.today f (left.Group at line counts₀ shelf₀) (left.Group at' line' counts shelf) × (seen ≡ seen₀)
 
 abbrev groups-μ-loop : groups-lts.decreases-loop
-groups-μ-loop f terms at line seen₀ budget at₀ line₀ counts₀ shelf₀ seen at' line' counts shelf = toGo f (left.Group at' line' counts shelf)
+groups-μ-loop f terms at line seen₀ budget at₀ line₀ counts₀ shelf₀ seen at' line' counts shelf = to_go f (left.Group at' line' counts shelf)
 
 groups-returns : (t : ℕ) → groups-lts.Need-returns (groups-calls t) (groups-at t) groups.Post groups-Inv-loop groups-μ-loop
 groups-returns t c = search (alongs, readers, calls, rules)

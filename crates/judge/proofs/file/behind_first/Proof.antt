@@ -1,6 +1,6 @@
 -- The loop of `behind_first`: the answer from where reading stands is the answer of the file, and there is less to go. Assumes nothing.
 use borrow.Author.Rules.{rules}
-use Rattle.judge.specs.accountfile.Resume.{toGo}
+use Rattle.judge.specs.accountfile.Resume.{to_go}
 use Rattle.judge.proofs.file.Goes.{Stands, stands}
 use Rattle.judge.proofs.file.behind_first.Statement.{statement}
 use Rattle.judge.proofs.file.behind_first.Tie as tie
@@ -9,7 +9,7 @@ abbrev invariant-loop : tie.invariant-loop
 invariant-loop f today at head terms seen₀ left₀ seen left = Stands terms.sheet today f at head seen₀ seen left
 
 abbrev decreases-loop : tie.decreases-loop
-decreases-loop f today at head terms seen₀ left₀ seen left = toGo f left
+decreases-loop f today at head terms seen₀ left₀ seen left = to_go f left
 
 loop-holds : tie.Need-loop-init invariant-loop decreases-loop
 loop-holds c = search (stands, rules)

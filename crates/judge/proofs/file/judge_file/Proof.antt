@@ -1,6 +1,6 @@
 -- `judge_file` meets its contract: an empty file, a first line, or 3 for each other kind of line. Assumes nothing.
 use borrow.Author.Rules.{rules}
-use Rattle.tally.specs.Tally.{isDue}
+use Rattle.tally.specs.Tally.{is_due}
 use Rattle.judge.proofs.file.Heads.{none_seen, heads}
 use Rattle.judge.proofs.file.judge_file.Statement.{statement}
 use Rattle.judge.proofs.file.judge_file.Tie as tie
@@ -51,23 +51,23 @@ returns-2 : tie.Need-returns-2
 returns-2 c = (none_seen _ _ _ _ _ _ c.before.none.ensures c.from_first.ensures.0, c.from_first.ensures.1)
 
 returns-3 : tie.Need-returns-3
-unfolding isDue
+unfolding is_due
 returns-3 c = search (heads, rules)
 
 returns-4 : tie.Need-returns-4
-unfolding isDue
+unfolding is_due
 returns-4 c = search (heads, rules)
 
 returns-5 : tie.Need-returns-5
-unfolding isDue
+unfolding is_due
 returns-5 c = search (heads, rules)
 
 returns-6 : tie.Need-returns-6
-unfolding isDue
+unfolding is_due
 returns-6 c = search (heads, rules)
 
 returns-7 : tie.Need-returns-7
-unfolding isDue
+unfolding is_due
 returns-7 c = search (heads, rules)
 
 pub judge-file-spec : {M : Type 1} → statement M

@@ -1,7 +1,7 @@
 -- `item_step`: a line of an open group by its kind. Assumes nothing.
 use borrow.Author.Rules.{rules}
 use Rattle.base.specs.Pick.{pick}
-use Rattle.tally.specs.Tally.{isDue}
+use Rattle.tally.specs.Tally.{is_due}
 use Rattle.judge.proofs.group.Turns.{turns}
 use Rattle.judge.proofs.group.item_step.Statement.{statement}
 use Rattle.judge.proofs.group.item_step.Tie as tie
@@ -49,19 +49,19 @@ returns-2 : tie.Need-returns-2
 returns-2 c = search turns
 
 returns-3 : tie.Need-returns-3
-unfolding isDue pick
+unfolding is_due pick
 returns-3 c = search turns
 
 returns-4 : tie.Need-returns-4
-unfolding isDue pick
+unfolding is_due pick
 returns-4 c = search turns
 
 returns-5 : tie.Need-returns-5
-unfolding isDue pick
+unfolding is_due pick
 returns-5 c = search turns
 
 returns-6 : tie.Need-returns-6
-unfolding isDue pick
+unfolding is_due pick
 returns-6 c = search turns
 
 pub item-step-spec : {M : Type 1} → statement M

@@ -1,6 +1,6 @@
 -- `put_cut` puts what is longer than 35 bytes.
 use borrow.Author.Rules.{rules}
-use Rattle.listing.specs.item.Found.{cutWarned}
+use Rattle.listing.specs.item.Found.{cut_warned}
 use Rattle.listing.proofs.Putting.{putting}
 use Rattle.listing.proofs.item.put_cut.Statement.{statement}
 use Rattle.listing.proofs.item.put_cut.Tie as tie
@@ -12,11 +12,11 @@ same_length : tie.Need-same-length
 same_length c = search rules
 
 returns : tie.Need-returns
-unfolding cutWarned
+unfolding cut_warned
 returns c = search (putting, rules) depth 6
 
 returns-2 : tie.Need-returns-2
-unfolding cutWarned
+unfolding cut_warned
 returns-2 c = search (putting, rules) depth 6
 
 pub put-cut-spec : {M : Type 1} → statement M

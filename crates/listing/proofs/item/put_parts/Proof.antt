@@ -1,6 +1,6 @@
 -- `put_parts` puts four parts one after another.
 use borrow.Author.Rules.{rules}
-use Rattle.listing.specs.item.Found.{partsWarned}
+use Rattle.listing.specs.item.Found.{parts_warned}
 use Rattle.listing.proofs.Putting.{putting}
 use Rattle.listing.proofs.item.put_parts.Statement.{statement}
 use Rattle.listing.proofs.item.put_parts.Tie as tie
@@ -21,7 +21,7 @@ same_length : tie.Need-same-length
 same_length c = search rules
 
 returns : tie.Need-returns
-unfolding partsWarned
+unfolding parts_warned
 returns c = search putting depth 8
 
 pub put-parts-spec : {M : Type 1} → statement M

@@ -1,6 +1,6 @@
 -- `put_texts` puts the parts and the name.
 use borrow.Author.Rules.{rules}
-use Rattle.listing.specs.item.Found.{textsWarned}
+use Rattle.listing.specs.item.Found.{texts_warned}
 use Rattle.listing.proofs.Putting.{putting}
 use Rattle.listing.proofs.item.put_texts.Statement.{statement}
 use Rattle.listing.proofs.item.put_texts.Tie as tie
@@ -15,7 +15,7 @@ same_length : tie.Need-same-length
 same_length c = search rules
 
 returns : tie.Need-returns
-unfolding textsWarned
+unfolding texts_warned
 returns c = search putting depth 8
 
 pub put-texts-spec : {M : Type 1} → statement M

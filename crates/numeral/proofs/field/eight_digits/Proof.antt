@@ -1,13 +1,13 @@
 -- `eight_digits` meets its contract: while the answer is true, every byte passed is a digit. Assumes nothing.
 use Rattle.std.proofs.Common.{◌≡◌, ◌-◌, ◌≤◌, take, drop, refl, ⊎_elim, arith, rules}
 use Rattle.base.specs.Seek.{all}
-use Rattle.paper.specs.Bytes.{isDigit}
+use Rattle.paper.specs.Bytes.{is_digit}
 use Rattle.numeral.proofs.field.Symbols.{eight-other, eight-digit, eight-end}
 use Rattle.numeral.proofs.field.eight_digits.Statement.{statement}
 use Rattle.numeral.proofs.field.eight_digits.Tie as tie
 
 abbrev invariant-loop : tie.invariant-loop
-invariant-loop s at digits₀ j₀ digits j = (j ≤ 8) × (digits ≡ all isDigit (take j (drop at s)))
+invariant-loop s at digits₀ j₀ digits j = (j ≤ 8) × (digits ≡ all is_digit (take j (drop at s)))
 
 abbrev decreases-loop : tie.decreases-loop
 decreases-loop s at digits₀ j₀ digits j = 8 - j

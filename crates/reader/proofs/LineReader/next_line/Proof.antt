@@ -43,7 +43,7 @@ use denote.Triple.Table.{entered, cited}
 use denote.Triple.Walked.{says, Stays, stay_none, walk_of, Goes-none, Walks, ends_at, walked, walk_Meets}
 use denote.Exit.{yes}
 use denote.Triple.Clauses.{ensured, lasts}
-use Rattle.reader.specs.Finding.{Finds, readerAt}
+use Rattle.reader.specs.Finding.{Finds, reader_at}
 use Rattle.reader.specs.declared.Found.{Found}
 use Rattle.reader.specs.declared.LineReader.{LineReader}
 use Rattle.reader.specs.declared.Step.{Step}
@@ -86,7 +86,7 @@ module _ {M : Type 1} {𝓤 : Ura M} (𝓛 : Logic 𝓤) (mem : Memory → SProp
 
   -- what a reader that has found r hands back
   abbrev step : Found → Step
-  step r = record { found = r; reader = readerAt d.file r.next }
+  step r = record { found = r; reader = reader_at d.file r.next }
 
   abbrev Post : Val → SProp 𝓤
   Post = (walk_of 𝓛 next.ended stayed (next.clauses 𝓛 mem run)).post (((κ, tt), (q, tt), tt, (d, tt), (mach ∷ [], tt)), tt)

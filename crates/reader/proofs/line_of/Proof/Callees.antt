@@ -27,7 +27,7 @@ use denote.Triple.Statement.{Contract}
 use denote.Triple.Entry.{Vals, on_entry}
 use denote.Triple.Spec.{triple_of}
 use denote.Triple.Clauses.{ensured, lasts}
-use Rattle.reader.specs.Finding.{Finds, readerAt, goesOn, answerAt}
+use Rattle.reader.specs.Finding.{Finds, reader_at, goes_on, answer_at}
 use Rattle.reader.specs.Named.{told}
 use Rattle.reader.specs.declared.AboLine.{AboLine}
 use Rattle.reader.specs.declared.Found.{Found}
@@ -47,7 +47,7 @@ use Rattle.reader.specs.contracts.named as named-fn
 
 -- what `next_line` says of a reader and the step that it makes
 abbrev pub NextSays : LineReader → Step → Type 0
-NextSays r t = Finds r.file.now r.at t.found × (t.reader ≡ readerAt r.file t.found.next)
+NextSays r t = Finds r.file.now r.at t.found × (t.reader ≡ reader_at r.file t.found.next)
 
 -- the machine value of a slice
 abbrev pub slice_of : Bor (List ℕ) → Val
@@ -134,8 +134,8 @@ module _ {M : Type 1} {𝓤 : Ura M} (𝓛 : Logic 𝓤) (mem : Memory → SProp
         use2 𝓛 (raw ((New 𝓛 mem run).pre (to-new 𝓛 mem run κ q s)))
         (qed 𝓛 (Token 𝓤 κ q ∷ ‵ (owns (ShrSlice (named 0) κ u8 ∷ []) (s, tt) (slice_of s ∷ [], tt)) ∷ []) ∵ join ! $ frame ! $ done !) $ frame ! $ done !
 
-    pub new-said : (s : Bor (List ℕ)) (r : LineReader) → ent 𝓤 (ensured 𝓛 new.ended (new.clauses 𝓛 mem run) (κ, tt) (s, tt) tt r) (fact 𝓤 (r ≡ readerAt s 0))
-    new-said s r = ex_e 𝓤 _ (λ ws. snd∗ 𝓤 (sem 𝓛 (lasts new.ended (κ, tt) (s, tt) ws)) (fact 𝓤 (r ≡ readerAt s 0)))
+    pub new-said : (s : Bor (List ℕ)) (r : LineReader) → ent 𝓤 (ensured 𝓛 new.ended (new.clauses 𝓛 mem run) (κ, tt) (s, tt) tt r) (fact 𝓤 (r ≡ reader_at s 0))
+    new-said s r = ex_e 𝓤 _ (λ ws. snd∗ 𝓤 (sem 𝓛 (lasts new.ended (κ, tt) (s, tt) ws)) (fact 𝓤 (r ≡ reader_at s 0)))
 
     pub asks-next : (r : LineReader) (u : Val) → ent 𝓤 (⋆ 𝓛 (‵ (OwnReader κ r u) ∷ Token 𝓤 κ q ∷ [])) ((Next 𝓛 mem run).pre (to-next 𝓛 mem run κ q r u))
     asks-next r u = qed 𝓛 (‵ (OwnReader κ r u) ∷ Token 𝓤 κ q ∷ []) ∵ nothing ! $ move ! (1 ∷ 0 ∷ []) $ fjoin ! $ move ! (1 ∷ 0 ∷ []) $ join ! $ frame ! $ done !
@@ -173,8 +173,8 @@ module _ {M : Type 1} {𝓤 : Ura M} (𝓛 : Logic 𝓤) (mem : Memory → SProp
     asks-named gk gn =
         qed 𝓛 (‵ (OwnFound r) ∷ []) ∵ use1 𝓛 (raw (on_entry 𝓛 named-fn.signature tt tt (r, (k, (n, tt))) (passed 𝓛 mem run r k n))) (all_three gk gn) $ frame ! $ done !
 
-    pub passes-said : (b : Bool) → ent 𝓤 (ensured 𝓛 passes.ended (passes.clauses 𝓛 mem run) tt (r, (k, (n, tt))) tt b) (fact 𝓤 (b ≡ goesOn r k n))
-    passes-said b = ex_e 𝓤 _ (λ ws. snd∗ 𝓤 (sem 𝓛 (lasts passes.ended tt (r, (k, (n, tt))) ws)) (fact 𝓤 (b ≡ goesOn r k n)))
+    pub passes-said : (b : Bool) → ent 𝓤 (ensured 𝓛 passes.ended (passes.clauses 𝓛 mem run) tt (r, (k, (n, tt))) tt b) (fact 𝓤 (b ≡ goes_on r k n))
+    passes-said b = ex_e 𝓤 _ (λ ws. snd∗ 𝓤 (sem 𝓛 (lasts passes.ended tt (r, (k, (n, tt))) ws)) (fact 𝓤 (b ≡ goes_on r k n)))
 
-    pub named-said : (a : AboLine) → ent 𝓤 (ensured 𝓛 named-fn.ended (named-fn.clauses 𝓛 mem run) tt (r, (k, (n, tt))) tt a) (fact 𝓤 (told a ≡ answerAt r k n))
-    named-said a = ex_e 𝓤 _ (λ ws. snd∗ 𝓤 (sem 𝓛 (lasts named-fn.ended tt (r, (k, (n, tt))) ws)) (fact 𝓤 (told a ≡ answerAt r k n)))
+    pub named-said : (a : AboLine) → ent 𝓤 (ensured 𝓛 named-fn.ended (named-fn.clauses 𝓛 mem run) tt (r, (k, (n, tt))) tt a) (fact 𝓤 (told a ≡ answer_at r k n))
+    named-said a = ex_e 𝓤 _ (λ ws. snd∗ 𝓤 (sem 𝓛 (lasts named-fn.ended tt (r, (k, (n, tt))) ws)) (fact 𝓤 (told a ≡ answer_at r k n)))

@@ -5,12 +5,12 @@ use Prim.Native.Nat.{◌+◌, ◌-◌, ◌≤◌}
 use mathlib.Core.Logic.{⊎_elim}
 use native.Mathlib.Omega.{arith}
 use Rattle.scan.proofs.block.Turns.{Passes, pass-not, pass-more, pass-end, is-other}
-use Rattle.scan.specs.block.Blocks.{isOther}
+use Rattle.scan.specs.block.Blocks.{is_other}
 use Rattle.scan.proofs.block.all_other.Statement.{statement}
 use Rattle.scan.proofs.block.all_other.Tie as tie
 
 abbrev invariant-loop : tie.invariant-loop
-invariant-loop s at size b other₀ j₀ other j = (j ≤ size) × Passes (isOther b) s at j other
+invariant-loop s at size b other₀ j₀ other j = (j ≤ size) × Passes (is_other b) s at j other
 
 abbrev decreases-loop : tie.decreases-loop
 decreases-loop s at size b other₀ j₀ other j = size - j
@@ -38,8 +38,8 @@ loop-again c =
     let b = c.before.before.before.before.args.b in
     let j = c.before.before.before.loop.j in (
       omega arith,
-      ⊎_elim (λ w. pass-not (isOther b) s at (j + 1) _ w.1)
-          (λ w. pass-more (isOther b) s at j _ _ w.1 (omega arith) c.before.before.before.loop.invariant.1 (is-other b _ w.0.left))
+      ⊎_elim (λ w. pass-not (is_other b) s at (j + 1) _ w.1)
+          (λ w. pass-more (is_other b) s at j _ _ w.1 (omega arith) c.before.before.before.loop.invariant.1 (is-other b _ w.0.left))
           c.if1.branch,
     )
 

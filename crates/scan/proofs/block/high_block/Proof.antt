@@ -5,12 +5,12 @@ use Prim.Native.Nat.{◌+◌, ◌-◌, ◌≤◌}
 use mathlib.Core.Logic.{⊎_elim}
 use native.Mathlib.Omega.{arith}
 use Rattle.scan.proofs.block.Turns.{Passes, pass-not, pass-more, pass-end, is-high}
-use Rattle.scan.specs.block.Blocks.{isHigh}
+use Rattle.scan.specs.block.Blocks.{is_high}
 use Rattle.scan.proofs.block.high_block.Statement.{statement}
 use Rattle.scan.proofs.block.high_block.Tie as tie
 
 abbrev invariant-loop : tie.invariant-loop
-invariant-loop s at high₀ j₀ high j = (j ≤ 16) × Passes isHigh s at j high
+invariant-loop s at high₀ j₀ high j = (j ≤ 16) × Passes is_high s at j high
 
 abbrev decreases-loop : tie.decreases-loop
 decreases-loop s at high₀ j₀ high j = 16 - j
@@ -37,8 +37,8 @@ loop-again c =
     let at = c.before.before.before.before.args.at in
     let j = c.before.before.before.loop.j in (
       omega arith,
-      ⊎_elim (λ w. pass-not isHigh s at (j + 1) _ w.1)
-          (λ w. pass-more isHigh s at j _ _ w.1 (omega arith) c.before.before.before.loop.invariant.1 (is-high _ w.0.left))
+      ⊎_elim (λ w. pass-not is_high s at (j + 1) _ w.1)
+          (λ w. pass-more is_high s at j _ _ w.1 (omega arith) c.before.before.before.loop.invariant.1 (is-high _ w.0.left))
           c.if1.branch,
     )
 

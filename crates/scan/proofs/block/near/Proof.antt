@@ -1,14 +1,14 @@
 -- `near` meets its contract: every byte passed is of the kind. Assumes nothing.
 use Prim.Native.Nat.{◌-◌}
 use lib.ListN.{length}
-use Rattle.scan.specs.block.Blocks.{isFar, Skips}
+use Rattle.scan.specs.block.Blocks.{is_far, Skips}
 use borrow.Author.Rules.{rules}
 use Rattle.scan.proofs.block.Turns.{nears}
 use Rattle.scan.proofs.block.near.Statement.{statement}
 use Rattle.scan.proofs.block.near.Tie as tie
 
 abbrev invariant-loop : tie.invariant-loop
-invariant-loop s at c w i₀ i = Skips (isFar c w) s at i
+invariant-loop s at c w i₀ i = Skips (is_far c w) s at i
 
 abbrev decreases-loop : tie.decreases-loop
 decreases-loop s at c w i₀ i = length s - i

@@ -3,14 +3,14 @@ use Prim.Native.Nat.{◌-◌, ◌≤◌}
 use mathlib.Core.Path.{◌≡◌}
 use lib.ListN.{length}
 use Rattle.scan.specs.block.Blocks.{Skips}
-use Rattle.paper.specs.Bytes.{isClean}
+use Rattle.paper.specs.Bytes.{is_clean}
 use borrow.Author.Rules.{rules}
 use Rattle.scan.proofs.block.Turns.{skips}
 use Rattle.scan.proofs.block.pass_clean.Statement.{statement}
 use Rattle.scan.proofs.block.pass_clean.Tie as tie
 
 abbrev invariant-loop : tie.invariant-loop
-invariant-loop s at n i₀ i = (n ≡ length s) × (64 ≤ n) × Skips isClean s at i
+invariant-loop s at n i₀ i = (n ≡ length s) × (64 ≤ n) × Skips is_clean s at i
 
 abbrev decreases-loop : tie.decreases-loop
 decreases-loop s at n i₀ i = n - i

@@ -2,13 +2,13 @@
 use Prim.Native.Nat.{◌-◌}
 use lib.ListN.{length}
 use borrow.Author.Rules.{rules}
-use Rattle.scan.specs.block.Blocks.{isHigh, Skips}
+use Rattle.scan.specs.block.Blocks.{is_high, Skips}
 use Rattle.scan.proofs.block.Turns.{skips}
 use Rattle.scan.proofs.block.pass_high.Statement.{statement}
 use Rattle.scan.proofs.block.pass_high.Tie as tie
 
 abbrev invariant-loop : tie.invariant-loop
-invariant-loop s at i₀ i = Skips isHigh s at i
+invariant-loop s at i₀ i = Skips is_high s at i
 
 abbrev decreases-loop : tie.decreases-loop
 decreases-loop s at i₀ i = length s - i

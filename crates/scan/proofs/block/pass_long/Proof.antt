@@ -2,13 +2,13 @@
 use Prim.Native.Nat.{◌-◌}
 use lib.ListN.{length}
 use borrow.Author.Rules.{rules}
-use Rattle.scan.specs.block.Blocks.{isOther, Skips}
+use Rattle.scan.specs.block.Blocks.{is_other, Skips}
 use Rattle.scan.proofs.block.Turns.{skips}
 use Rattle.scan.proofs.block.pass_long.Statement.{statement}
 use Rattle.scan.proofs.block.pass_long.Tie as tie
 
 abbrev invariant-loop : tie.invariant-loop
-invariant-loop s at b i₀ i = Skips (isOther b) s at i
+invariant-loop s at b i₀ i = Skips (is_other b) s at i
 
 abbrev decreases-loop : tie.decreases-loop
 decreases-loop s at b i₀ i = length s - i

@@ -2,14 +2,14 @@
 use Prim.Native.Nat.{◌-◌, ◌≤◌}
 use mathlib.Core.Path.{◌≡◌}
 use lib.ListN.{length}
-use Rattle.scan.specs.block.Blocks.{isOther, Skips}
+use Rattle.scan.specs.block.Blocks.{is_other, Skips}
 use borrow.Author.Rules.{rules}
 use Rattle.scan.proofs.block.Turns.{skips}
 use Rattle.scan.proofs.block.pass_other.Statement.{statement}
 use Rattle.scan.proofs.block.pass_other.Tie as tie
 
 abbrev invariant-loop : tie.invariant-loop
-invariant-loop s at b n i₀ i = (n ≡ length s) × (16 ≤ n) × Skips (isOther b) s at i
+invariant-loop s at b n i₀ i = (n ≡ length s) × (16 ≤ n) × Skips (is_other b) s at i
 
 abbrev decreases-loop : tie.decreases-loop
 decreases-loop s at b n i₀ i = n - i

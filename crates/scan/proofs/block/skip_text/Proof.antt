@@ -3,14 +3,14 @@ use Prim.Native.Nat.{◌-◌, ◌≤◌}
 use mathlib.Core.Path.{◌≡◌}
 use lib.ListN.{length}
 use Rattle.scan.specs.block.Blocks.{Skips}
-use Rattle.paper.specs.Bytes.{isText}
+use Rattle.paper.specs.Bytes.{is_text}
 use borrow.Author.Rules.{rules}
 use Rattle.scan.proofs.block.Turns.{skips}
 use Rattle.scan.proofs.block.skip_text.Statement.{statement}
 use Rattle.scan.proofs.block.skip_text.Tie as tie
 
 abbrev invariant-loop : tie.invariant-loop
-invariant-loop s at n i₀ i = (n ≡ length s) × (16 ≤ n) × Skips isText s at i
+invariant-loop s at n i₀ i = (n ≡ length s) × (16 ≤ n) × Skips is_text s at i
 
 abbrev decreases-loop : tie.decreases-loop
 decreases-loop s at n i₀ i = n - i

@@ -5,12 +5,12 @@ use Prim.Native.Nat.{◌+◌, ◌-◌, ◌≤◌}
 use mathlib.Core.Logic.{⊎_elim}
 use native.Mathlib.Omega.{arith}
 use Rattle.scan.proofs.block.Turns.{Passes, pass-not, pass-more, pass-end, is-text}
-use Rattle.paper.specs.Bytes.{isText}
+use Rattle.paper.specs.Bytes.{is_text}
 use Rattle.scan.proofs.block.text_block.Statement.{statement}
 use Rattle.scan.proofs.block.text_block.Tie as tie
 
 abbrev invariant-loop : tie.invariant-loop
-invariant-loop s at text₀ j₀ text j = (j ≤ 16) × Passes isText s at j text
+invariant-loop s at text₀ j₀ text j = (j ≤ 16) × Passes is_text s at j text
 
 abbrev decreases-loop : tie.decreases-loop
 decreases-loop s at text₀ j₀ text j = 16 - j
@@ -39,10 +39,10 @@ loop-again c =
     let inv = c.before.before.before.before.loop.invariant.1 in
     let byte = (c.before.before.shared-slice-known.given (at + j)).fits in (
       omega arith,
-      ⊎_elim (λ w. pass-not isText s at (j + 1) _ w.1)
+      ⊎_elim (λ w. pass-not is_text s at (j + 1) _ w.1)
           (λ w.
-          ⊎_elim (λ v. pass-not isText s at (j + 1) _ (w.1 ∙ v.1))
-          (λ v. pass-more isText s at j _ _ (w.1 ∙ v.1) (omega arith) inv (is-text _ v.0.left w.0.left byte)) c.before.if1.branch)
+          ⊎_elim (λ v. pass-not is_text s at (j + 1) _ (w.1 ∙ v.1))
+          (λ v. pass-more is_text s at j _ _ (w.1 ∙ v.1) (omega arith) inv (is-text _ v.0.left w.0.left byte)) c.before.if1.branch)
           c.if2.branch,
     )
 

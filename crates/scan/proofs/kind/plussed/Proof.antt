@@ -1,7 +1,7 @@
 -- `plussed` gives the kind of a line with a plus second. Assumes nothing.
 use borrow.Author.Rules.{rules}
 use Rattle.base.specs.Pick.{pick}
-use Rattle.scan.proofs.kind.Starts.{byPlus, kinds}
+use Rattle.scan.proofs.kind.Starts.{by_plus, kinds}
 use Rattle.scan.proofs.kind.plussed.Statement.{statement}
 use Rattle.scan.proofs.kind.plussed.Tie as tie
 
@@ -9,15 +9,15 @@ shared-slice-read-match : tie.Need-shared-slice-read-match
 shared-slice-read-match c = search rules
 
 returns : tie.Need-returns
-unfolding byPlus pick
+unfolding by_plus pick
 returns c = search kinds
 
 returns-2 : tie.Need-returns-2
-unfolding byPlus pick
+unfolding by_plus pick
 returns-2 c = search kinds
 
 returns-3 : tie.Need-returns-3
-unfolding byPlus pick
+unfolding by_plus pick
 returns-3 c = search kinds
 
 pub plussed-spec : {M : Type 1} → statement M

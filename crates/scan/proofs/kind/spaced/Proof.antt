@@ -1,7 +1,7 @@
 -- `spaced` gives the kind of a line with a space second. Assumes nothing.
 use borrow.Author.Rules.{rules}
 use Rattle.base.specs.Pick.{pick}
-use Rattle.scan.proofs.kind.Starts.{bySpace, kinds}
+use Rattle.scan.proofs.kind.Starts.{by_space, kinds}
 use Rattle.scan.proofs.kind.spaced.Statement.{statement}
 use Rattle.scan.proofs.kind.spaced.Tie as tie
 
@@ -9,23 +9,23 @@ shared-slice-read-match : tie.Need-shared-slice-read-match
 shared-slice-read-match c = search rules
 
 returns : tie.Need-returns
-unfolding bySpace pick
+unfolding by_space pick
 returns c = search kinds
 
 returns-2 : tie.Need-returns-2
-unfolding bySpace pick
+unfolding by_space pick
 returns-2 c = search kinds
 
 returns-3 : tie.Need-returns-3
-unfolding bySpace pick
+unfolding by_space pick
 returns-3 c = search kinds
 
 returns-4 : tie.Need-returns-4
-unfolding bySpace pick
+unfolding by_space pick
 returns-4 c = search kinds
 
 returns-5 : tie.Need-returns-5
-unfolding bySpace pick
+unfolding by_space pick
 returns-5 c = search kinds
 
 pub spaced-spec : {M : Type 1} → statement M

@@ -4,14 +4,14 @@ use mathlib.Core.Path.{◌≡◌}
 use mathlib.Core.Logic.{⊎_elim}
 use native.Mathlib.Omega.{arith}
 use lib.ListN.{length, drop}
-use Rattle.paper.specs.GroupLine.{spaceCount}
+use Rattle.paper.specs.GroupLine.{space_count}
 use Rattle.scan.proofs.line.Fields.{counts, count-space, count-other}
 use borrow.Author.Rules.{rules}
 use Rattle.scan.proofs.line.spaces.Statement.{statement}
 use Rattle.scan.proofs.line.spaces.Tie as tie
 
 abbrev invariant-loop : tie.invariant-loop
-invariant-loop s n₀ i₀ n i = (n ≤ i) × (i ≤ length s) × (spaceCount s ≡ n + spaceCount (drop i s))
+invariant-loop s n₀ i₀ n i = (n ≤ i) × (i ≤ length s) × (space_count s ≡ n + space_count (drop i s))
 
 abbrev decreases-loop : tie.decreases-loop
 decreases-loop s n₀ i₀ n i = length s - i

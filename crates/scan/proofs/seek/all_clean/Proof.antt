@@ -6,12 +6,12 @@ use lib.ListN.{length, drop}
 use Rattle.scan.proofs.block.Passing.{all-skipped}
 use Rattle.scan.proofs.seek.Turns.{told, alls}
 use Rattle.base.specs.Seek.{all}
-use Rattle.paper.specs.Bytes.{isClean}
+use Rattle.paper.specs.Bytes.{is_clean}
 use Rattle.scan.proofs.seek.all_clean.Statement.{statement}
 use Rattle.scan.proofs.seek.all_clean.Tie as tie
 
 abbrev invariant-loop : tie.invariant-loop
-invariant-loop s from i₀ i = (i ≤ length s) × (all isClean (drop from s) ≡ all isClean (drop i s))
+invariant-loop s from i₀ i = (i ≤ length s) × (all is_clean (drop from s) ≡ all is_clean (drop i s))
 
 abbrev decreases-loop : tie.decreases-loop
 decreases-loop s from i₀ i = length s - i

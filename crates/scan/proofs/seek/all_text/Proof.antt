@@ -6,12 +6,12 @@ use lib.ListN.{length, drop}
 use Rattle.scan.proofs.block.Passing.{all-skipped}
 use Rattle.scan.proofs.seek.Turns.{alls}
 use Rattle.base.specs.Seek.{all}
-use Rattle.paper.specs.Bytes.{isText}
+use Rattle.paper.specs.Bytes.{is_text}
 use Rattle.scan.proofs.seek.all_text.Statement.{statement}
 use Rattle.scan.proofs.seek.all_text.Tie as tie
 
 abbrev invariant-loop : tie.invariant-loop
-invariant-loop s from i₀ i = (i ≤ length s) × (all isText (drop from s) ≡ all isText (drop i s))
+invariant-loop s from i₀ i = (i ≤ length s) × (all is_text (drop from s) ≡ all is_text (drop i s))
 
 abbrev decreases-loop : tie.decreases-loop
 decreases-loop s from i₀ i = length s - i

@@ -1,6 +1,6 @@
 -- `put_allowed_count` puts how many were allowed.
 use borrow.Author.Rules.{rules}
-use Rattle.sentences.specs.Allowed.{allowedCount}
+use Rattle.sentences.specs.Allowed.{allowed_count}
 use Rattle.sentences.proofs.Parts.{by_number}
 use Rattle.sentences.proofs.allowed.put_allowed_count.Statement.{statement}
 use Rattle.sentences.proofs.allowed.put_allowed_count.Tie as tie
@@ -42,42 +42,42 @@ same_length : tie.Need-same-length
 same_length c = search rules
 
 returns : tie.Need-returns
-unfolding allowedCount
+unfolding allowed_count
 returns c = search by_number depth 8
 
 same-length-2 : tie.Need-same-length-2
 same-length-2 c = search rules
 
 returns-2 : tie.Need-returns-2
-unfolding allowedCount
+unfolding allowed_count
 returns-2 c = search by_number depth 8
 
 same-length-3 : tie.Need-same-length-3
 same-length-3 c = search rules
 
 returns-3 : tie.Need-returns-3
-unfolding allowedCount
+unfolding allowed_count
 returns-3 c = search by_number depth 8
 
 same-length-4 : tie.Need-same-length-4
 same-length-4 c = search rules
 
 returns-4 : tie.Need-returns-4
-unfolding allowedCount
+unfolding allowed_count
 returns-4 c = search by_number depth 8
 
 same-length-5 : tie.Need-same-length-5
 same-length-5 c = search rules
 
 returns-5 : tie.Need-returns-5
-unfolding allowedCount
+unfolding allowed_count
 returns-5 c = search by_number depth 8
 
 same-length-6 : tie.Need-same-length-6
 same-length-6 c = search rules
 
 returns-6 : tie.Need-returns-6
-unfolding allowedCount
+unfolding allowed_count
 returns-6 c = search by_number depth 8
 
 pub put-allowed-count-spec : {M : Type 1} → statement M

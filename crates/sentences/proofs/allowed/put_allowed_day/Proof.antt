@@ -1,6 +1,6 @@
 -- `put_allowed_day` puts which days were allowed.
 use borrow.Author.Rules.{rules}
-use Rattle.sentences.specs.Allowed.{allowedDay}
+use Rattle.sentences.specs.Allowed.{allowed_day}
 use Rattle.sentences.proofs.Parts.{by_number}
 use Rattle.sentences.proofs.allowed.put_allowed_day.Statement.{statement}
 use Rattle.sentences.proofs.allowed.put_allowed_day.Tie as tie
@@ -27,35 +27,35 @@ same_length : tie.Need-same-length
 same_length c = search rules
 
 returns : tie.Need-returns
-unfolding allowedDay
+unfolding allowed_day
 returns c = search by_number depth 8
 
 same-length-2 : tie.Need-same-length-2
 same-length-2 c = search rules
 
 returns-2 : tie.Need-returns-2
-unfolding allowedDay
+unfolding allowed_day
 returns-2 c = search by_number depth 8
 
 same-length-3 : tie.Need-same-length-3
 same-length-3 c = search rules
 
 returns-3 : tie.Need-returns-3
-unfolding allowedDay
+unfolding allowed_day
 returns-3 c = search by_number depth 8
 
 same-length-4 : tie.Need-same-length-4
 same-length-4 c = search rules
 
 returns-4 : tie.Need-returns-4
-unfolding allowedDay
+unfolding allowed_day
 returns-4 c = search by_number depth 8
 
 same-length-5 : tie.Need-same-length-5
 same-length-5 c = search rules
 
 returns-5 : tie.Need-returns-5
-unfolding allowedDay
+unfolding allowed_day
 returns-5 c = search by_number depth 8
 
 pub put-allowed-day-spec : {M : Type 1} → statement M

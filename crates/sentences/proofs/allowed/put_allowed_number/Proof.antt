@@ -1,6 +1,6 @@
 -- `put_allowed_number` puts which numbers were allowed.
 use borrow.Author.Rules.{rules}
-use Rattle.sentences.specs.Allowed.{allowedNumber}
+use Rattle.sentences.specs.Allowed.{allowed_number}
 use Rattle.sentences.proofs.Parts.{by_number}
 use Rattle.sentences.proofs.allowed.put_allowed_number.Statement.{statement}
 use Rattle.sentences.proofs.allowed.put_allowed_number.Tie as tie
@@ -42,63 +42,63 @@ same_length : tie.Need-same-length
 same_length c = search rules
 
 returns : tie.Need-returns
-unfolding allowedNumber
+unfolding allowed_number
 returns c = search by_number depth 12
 
 same-length-2 : tie.Need-same-length-2
 same-length-2 c = search rules
 
 returns-2 : tie.Need-returns-2
-unfolding allowedNumber
+unfolding allowed_number
 returns-2 c = search by_number depth 12
 
 same-length-3 : tie.Need-same-length-3
 same-length-3 c = search rules
 
 returns-3 : tie.Need-returns-3
-unfolding allowedNumber
+unfolding allowed_number
 returns-3 c = search by_number depth 12
 
 same-length-4 : tie.Need-same-length-4
 same-length-4 c = search rules
 
 returns-4 : tie.Need-returns-4
-unfolding allowedNumber
+unfolding allowed_number
 returns-4 c = search by_number depth 12
 
 same-length-5 : tie.Need-same-length-5
 same-length-5 c = search rules
 
 returns-5 : tie.Need-returns-5
-unfolding allowedNumber
+unfolding allowed_number
 returns-5 c = search by_number depth 12
 
 same-length-6 : tie.Need-same-length-6
 same-length-6 c = search rules
 
 returns-6 : tie.Need-returns-6
-unfolding allowedNumber
+unfolding allowed_number
 returns-6 c = search by_number depth 12
 
 same-length-7 : tie.Need-same-length-7
 same-length-7 c = search rules
 
 returns-7 : tie.Need-returns-7
-unfolding allowedNumber
+unfolding allowed_number
 returns-7 c = search by_number depth 12
 
 same-length-8 : tie.Need-same-length-8
 same-length-8 c = search rules
 
 returns-8 : tie.Need-returns-8
-unfolding allowedNumber
+unfolding allowed_number
 returns-8 c = search by_number depth 12
 
 same-length-9 : tie.Need-same-length-9
 same-length-9 c = search rules
 
 returns-9 : tie.Need-returns-9
-unfolding allowedNumber
+unfolding allowed_number
 returns-9 c = search by_number depth 12
 
 pub put-allowed-number-spec : {M : Type 1} → statement M

@@ -1,6 +1,6 @@
 -- `put_digit` puts the last digit.
 use borrow.Author.Rules.{rules}
-use Rattle.paper.specs.Numerals.{fixed, fixedOn}
+use Rattle.paper.specs.Numerals.{fixed, fixed_on}
 use Rattle.sentences.proofs.figures.put_digit.Statement.{statement}
 use Rattle.sentences.proofs.figures.put_digit.Tie as tie
 
@@ -17,7 +17,7 @@ same_length : tie.Need-same-length
 same_length c = search rules
 
 returns : tie.Need-returns
-unfolding fixed fixedOn
+unfolding fixed fixed_on
 returns c = search rules
 
 pub put-digit-spec : {M : Type 1} → statement M

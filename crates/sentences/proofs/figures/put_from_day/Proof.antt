@@ -1,6 +1,6 @@
 -- `put_from_day` puts the day from which on.
 use borrow.Author.Rules.{rules}
-use Rattle.sentences.specs.Allowed.{fromDay}
+use Rattle.sentences.specs.Allowed.{from_day}
 use Rattle.sentences.proofs.Parts.{in_two}
 use Rattle.sentences.proofs.figures.put_from_day.Statement.{statement}
 use Rattle.sentences.proofs.figures.put_from_day.Tie as tie
@@ -21,7 +21,7 @@ same_length : tie.Need-same-length
 same_length c = search rules
 
 returns : tie.Need-returns
-unfolding fromDay
+unfolding from_day
 returns c = search in_two
 
 pub put-from-day-spec : {M : Type 1} → statement M

@@ -1,6 +1,6 @@
 -- `put_some_digits` puts how many digits.
 use borrow.Author.Rules.{rules}
-use Rattle.sentences.specs.Allowed.{someDigits}
+use Rattle.sentences.specs.Allowed.{some_digits}
 use Rattle.sentences.proofs.Parts.{in_three}
 use Rattle.sentences.proofs.figures.put_some_digits.Statement.{statement}
 use Rattle.sentences.proofs.figures.put_some_digits.Tie as tie
@@ -24,7 +24,7 @@ same_length : tie.Need-same-length
 same_length c = search rules
 
 returns : tie.Need-returns
-unfolding someDigits
+unfolding some_digits
 returns c = search in_three
 
 pub put-some-digits-spec : {M : Type 1} → statement M

@@ -1,6 +1,6 @@
 -- `put_three` puts the last three digits: the last one behind the others.
 use borrow.Author.Rules.{rules}
-use Rattle.paper.specs.Numerals.{fixed, fixedOn}
+use Rattle.paper.specs.Numerals.{fixed, fixed_on}
 use Rattle.sentences.proofs.Parts.{in_two}
 use Rattle.sentences.proofs.figures.put_three.Statement.{statement}
 use Rattle.sentences.proofs.figures.put_three.Tie as tie
@@ -15,7 +15,7 @@ same_length : tie.Need-same-length
 same_length c = search rules
 
 returns : tie.Need-returns
-unfolding fixed fixedOn
+unfolding fixed fixed_on
 returns c = search in_two
 
 pub put-three-spec : {M : Type 1} → statement M

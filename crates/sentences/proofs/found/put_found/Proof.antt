@@ -1,6 +1,6 @@
 -- `put_found` puts what was found.
 use borrow.Author.Rules.{rules}
-use Rattle.sentences.specs.Sentences.{foundWords}
+use Rattle.sentences.specs.Sentences.{found_words}
 use Rattle.sentences.proofs.Parts.{by-callee}
 use Rattle.sentences.proofs.found.put_found.Statement.{statement}
 use Rattle.sentences.proofs.found.put_found.Tie as tie
@@ -18,7 +18,7 @@ same_length : tie.Need-same-length
 same_length c = search rules
 
 returns : tie.Need-returns
-unfolding foundWords
+unfolding found_words
 returns c = search by-callee
 
 put-part-requires : tie.Need-put-part-requires
@@ -28,7 +28,7 @@ same-length-2 : tie.Need-same-length-2
 same-length-2 c = search rules
 
 returns-2 : tie.Need-returns-2
-unfolding foundWords
+unfolding found_words
 returns-2 c = search by-callee
 
 pub put-found-spec : {M : Type 1} → statement M

@@ -3,13 +3,13 @@ use Prim.Native.Nat.{◌-◌, ◌≤◌}
 use lib.ListN.{length, take}
 use borrow.Author.Rules.{rules}
 use Rattle.numeral.specs.counted.Counted.{Counted}
-use Rattle.sentences.specs.Quoted.{quotedBytes}
+use Rattle.sentences.specs.Quoted.{quoted_bytes}
 use Rattle.sentences.proofs.quoted.Quoting.{each}
 use Rattle.sentences.proofs.quoted.put_each.Statement.{statement}
 use Rattle.sentences.proofs.quoted.put_each.Tie as tie
 
 abbrev invariant-loop : tie.invariant-loop
-invariant-loop out₀ at s next₀ i₀ out next i = (i ≤ length s) × Counted out₀ at (quotedBytes (take i s)) out next
+invariant-loop out₀ at s next₀ i₀ out next i = (i ≤ length s) × Counted out₀ at (quoted_bytes (take i s)) out next
 
 abbrev decreases-loop : tie.decreases-loop
 decreases-loop out₀ at s next₀ i₀ out next i = length s - i

@@ -1,6 +1,6 @@
 -- `put_of_how_many` puts of how many bytes they are the first.
 use borrow.Author.Rules.{rules}
-use Rattle.sentences.specs.Quoted.{ofHowMany}
+use Rattle.sentences.specs.Quoted.{of_how_many}
 use Rattle.numeral.proofs.counted.Laws.{counted-nothing}
 use Rattle.sentences.proofs.Parts.{counted-lt, counted-ge, in_three}
 use Rattle.sentences.proofs.quoted.put_of_how_many.Statement.{statement}
@@ -25,11 +25,11 @@ same_length : tie.Need-same-length
 same_length c = search rules
 
 returns : tie.Need-returns
-unfolding ofHowMany
+unfolding of_how_many
 returns c = search (counted-lt, in_three)
 
 returns-2 : tie.Need-returns-2
-unfolding ofHowMany
+unfolding of_how_many
 returns-2 c = search (counted-ge, counted-nothing)
 
 pub put-of-how-many-spec : {M : Type 1} → statement M

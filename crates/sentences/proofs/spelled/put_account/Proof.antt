@@ -1,6 +1,6 @@
 -- `put_account` puts how an account is spelled.
 use borrow.Author.Rules.{rules}
-use Rattle.sentences.specs.Allowed.{spelledAccount}
+use Rattle.sentences.specs.Allowed.{spelled_account}
 use Rattle.sentences.proofs.Parts.{in_three}
 use Rattle.sentences.proofs.spelled.put_account.Statement.{statement}
 use Rattle.sentences.proofs.spelled.put_account.Tie as tie
@@ -21,7 +21,7 @@ same_length : tie.Need-same-length
 same_length c = search rules
 
 returns : tie.Need-returns
-unfolding spelledAccount
+unfolding spelled_account
 returns c = search in_three
 
 pub put-account-spec : {M : Type 1} → statement M

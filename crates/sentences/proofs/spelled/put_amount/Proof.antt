@@ -1,6 +1,6 @@
 -- `put_amount` puts how an amount is spelled.
 use borrow.Author.Rules.{rules}
-use Rattle.sentences.specs.Allowed.{spelledAmount}
+use Rattle.sentences.specs.Allowed.{spelled_amount}
 use Rattle.sentences.proofs.Parts.{by_answer}
 use Rattle.sentences.proofs.spelled.put_amount.Statement.{statement}
 use Rattle.sentences.proofs.spelled.put_amount.Tie as tie
@@ -15,7 +15,7 @@ same_length : tie.Need-same-length
 same_length c = search rules
 
 returns : tie.Need-returns
-unfolding spelledAmount
+unfolding spelled_amount
 returns c = search by_answer
 
 put-some-digits-requires : tie.Need-put-some-digits-requires
@@ -25,7 +25,7 @@ same-length-2 : tie.Need-same-length-2
 same-length-2 c = search rules
 
 returns-2 : tie.Need-returns-2
-unfolding spelledAmount
+unfolding spelled_amount
 returns-2 c = search by_answer
 
 pub put-amount-spec : {M : Type 1} → statement M

@@ -1,6 +1,6 @@
 -- `put_closing` puts the lines that close.
 use borrow.Author.Rules.{rules}
-use Rattle.sentences.specs.Allowed.{closingWords}
+use Rattle.sentences.specs.Allowed.{closing_words}
 use Rattle.sentences.proofs.Parts.{by_number}
 use Rattle.sentences.proofs.spelled.put_closing.Statement.{statement}
 use Rattle.sentences.proofs.spelled.put_closing.Tie as tie
@@ -18,7 +18,7 @@ same_length : tie.Need-same-length
 same_length c = search rules
 
 returns : tie.Need-returns
-unfolding closingWords
+unfolding closing_words
 returns c = search by_number
 
 slice-aggregate-put-and-if-3 : tie.Need-slice-aggregate-put-and-if-3
@@ -34,7 +34,7 @@ same-length-2 : tie.Need-same-length-2
 same-length-2 c = search rules
 
 returns-2 : tie.Need-returns-2
-unfolding closingWords
+unfolding closing_words
 returns-2 c = search by_number
 
 pub put-closing-spec : {M : Type 1} → statement M

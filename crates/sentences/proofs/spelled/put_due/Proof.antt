@@ -1,6 +1,6 @@
 -- `put_due` puts how a due date is spelled.
 use borrow.Author.Rules.{rules}
-use Rattle.sentences.specs.Allowed.{spelledDue}
+use Rattle.sentences.specs.Allowed.{spelled_due}
 use Rattle.sentences.proofs.spelled.put_due.Statement.{statement}
 use Rattle.sentences.proofs.spelled.put_due.Tie as tie
 
@@ -17,7 +17,7 @@ same_length : tie.Need-same-length
 same_length c = search rules
 
 returns : tie.Need-returns
-unfolding spelledDue
+unfolding spelled_due
 returns c = search rules
 
 pub put-due-spec : {M : Type 1} → statement M

@@ -1,6 +1,6 @@
 -- `put_payer` puts how a payer is spelled.
 use borrow.Author.Rules.{rules}
-use Rattle.sentences.specs.Allowed.{spelledPayer}
+use Rattle.sentences.specs.Allowed.{spelled_payer}
 use Rattle.sentences.proofs.Parts.{in_two}
 use Rattle.sentences.proofs.spelled.put_payer.Statement.{statement}
 use Rattle.sentences.proofs.spelled.put_payer.Tie as tie
@@ -15,7 +15,7 @@ same_length : tie.Need-same-length
 same_length c = search rules
 
 returns : tie.Need-returns
-unfolding spelledPayer
+unfolding spelled_payer
 returns c = search in_two
 
 pub put-payer-spec : {M : Type 1} → statement M

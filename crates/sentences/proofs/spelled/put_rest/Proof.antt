@@ -1,6 +1,6 @@
 -- `put_rest` puts how the rest of a first line is spelled.
 use borrow.Author.Rules.{rules}
-use Rattle.sentences.specs.Allowed.{spelledRest}
+use Rattle.sentences.specs.Allowed.{spelled_rest}
 use Rattle.sentences.proofs.spelled.put_rest.Statement.{statement}
 use Rattle.sentences.proofs.spelled.put_rest.Tie as tie
 
@@ -17,7 +17,7 @@ same_length : tie.Need-same-length
 same_length c = search rules
 
 returns : tie.Need-returns
-unfolding spelledRest
+unfolding spelled_rest
 returns c = search rules
 
 pub put-rest-spec : {M : Type 1} → statement M

@@ -1,6 +1,6 @@
 -- `put_single` puts what makes a group single.
 use borrow.Author.Rules.{rules}
-use Rattle.sentences.specs.Allowed.{singleWords}
+use Rattle.sentences.specs.Allowed.{single_words}
 use Rattle.sentences.proofs.Parts.{by_answer}
 use Rattle.sentences.proofs.spelled.put_single.Statement.{statement}
 use Rattle.sentences.proofs.spelled.put_single.Tie as tie
@@ -15,7 +15,7 @@ same_length : tie.Need-same-length
 same_length c = search rules
 
 returns : tie.Need-returns
-unfolding singleWords
+unfolding single_words
 returns c = search by_answer
 
 slice-aggregate-put-if : tie.Need-slice-aggregate-put-if
@@ -28,7 +28,7 @@ same-length-2 : tie.Need-same-length-2
 same-length-2 c = search rules
 
 returns-2 : tie.Need-returns-2
-unfolding singleWords
+unfolding single_words
 returns-2 c = search by_answer
 
 pub put-single-spec : {M : Type 1} → statement M

@@ -1,6 +1,6 @@
 -- `put_text` puts how a text is spelled.
 use borrow.Author.Rules.{rules}
-use Rattle.sentences.specs.Allowed.{spelledText}
+use Rattle.sentences.specs.Allowed.{spelled_text}
 use Rattle.sentences.proofs.Parts.{by_answer}
 use Rattle.sentences.proofs.spelled.put_text.Statement.{statement}
 use Rattle.sentences.proofs.spelled.put_text.Tie as tie
@@ -15,7 +15,7 @@ same_length : tie.Need-same-length
 same_length c = search rules
 
 returns : tie.Need-returns
-unfolding spelledText
+unfolding spelled_text
 returns c = search by_answer
 
 slice-aggregate-put-bytes-2 : tie.Need-slice-aggregate-put-bytes-2
@@ -28,7 +28,7 @@ same-length-2 : tie.Need-same-length-2
 same-length-2 c = search rules
 
 returns-2 : tie.Need-returns-2
-unfolding spelledText
+unfolding spelled_text
 returns-2 c = search by_answer
 
 slice-aggregate-put-bytes-3 : tie.Need-slice-aggregate-put-bytes-3
@@ -41,7 +41,7 @@ same-length-3 : tie.Need-same-length-3
 same-length-3 c = search rules
 
 returns-3 : tie.Need-returns-3
-unfolding spelledText
+unfolding spelled_text
 returns-3 c = search by_answer
 
 pub put-text-spec : {M : Type 1} → statement M

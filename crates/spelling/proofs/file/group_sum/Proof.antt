@@ -5,13 +5,13 @@ use native.Mathlib.Omega.{arith}
 use lib.ListN.{length}
 use borrow.Author.Rules.{rules}
 use Rattle.out.specs.word.Places.{rows_from}
-use Rattle.spelling.specs.file.Sum.{itemSum}
+use Rattle.spelling.specs.file.Sum.{item_sum}
 use Rattle.spelling.proofs.file.Sum.{sum-next, sum_fits, sum-stop, sum-last}
 use Rattle.spelling.proofs.file.group_sum.Statement.{statement}
 use Rattle.spelling.proofs.file.group_sum.Tie as tie
 
 abbrev invariant-loop : tie.invariant-loop
-invariant-loop rows from sum₀ at₀ sum at = (at ≤ length rows) × (itemSum (rows_from 24 rows from) ≡ sum + itemSum (rows_from 24 rows at))
+invariant-loop rows from sum₀ at₀ sum at = (at ≤ length rows) × (item_sum (rows_from 24 rows from) ≡ sum + item_sum (rows_from 24 rows at))
 
 abbrev decreases-loop : tie.decreases-loop
 decreases-loop rows from sum₀ at₀ sum at = length rows - at

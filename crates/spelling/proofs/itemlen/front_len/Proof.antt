@@ -1,7 +1,7 @@
 -- `spelling::itemlen::front_len` meets its contract. Assumes nothing.
 use native.Mathlib.Omega.{arith}
 use borrow.Author.Rules.{rules}
-use Rattle.spelling.proofs.itemlen.Lengths.{front_long, bank-low}
+use Rattle.spelling.proofs.itemlen.Lengths.{front_long, bank_low}
 use Rattle.spelling.proofs.itemlen.front_len.Statement.{statement}
 use Rattle.spelling.proofs.itemlen.front_len.Tie as tie
 
@@ -36,10 +36,10 @@ bank-len-requires : tie.Need-bank-len-requires
 bank-len-requires c κs = search rules
 
 add-result-4 : tie.Need-overflow-add-result-4
-add-result-4 c = omega (arith, bank-low _ _ c.bank-len.ensures)
+add-result-4 c = omega (arith, bank_low _ _ c.bank-len.ensures)
 
 returns : tie.Need-returns
-returns c = (search front_long, omega (arith, bank-low _ _ c.bank-len.ensures))
+returns c = (search front_long, omega (arith, bank_low _ _ c.bank-len.ensures))
 
 pub front-len-spec : {M : Type 1} → statement M
 front-len-spec =

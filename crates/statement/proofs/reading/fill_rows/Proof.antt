@@ -3,12 +3,12 @@ use borrow.Author.Rules.{rules}
 use Rattle.statement.proofs.reading.Filling.{filling}
 use Prim.Native.Nat.{◌-◌}
 use lib.ListN.{length}
-use Rattle.statement.specs.Forms.{inFile, Putting}
+use Rattle.statement.specs.Forms.{in_file, Putting}
 use Rattle.statement.proofs.reading.fill_rows.Statement.{statement}
 use Rattle.statement.proofs.reading.fill_rows.Tie as tie
 
 abbrev invariant-loop : tie.invariant-loop
-invariant-loop f rows₀ at₀ next₀ rows at next = Putting inFile f rows₀ at next rows
+invariant-loop f rows₀ at₀ next₀ rows at next = Putting in_file f rows₀ at next rows
 
 abbrev decreases-loop : tie.decreases-loop
 decreases-loop f rows₀ at₀ next₀ rows at next = length f - at

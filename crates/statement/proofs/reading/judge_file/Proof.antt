@@ -3,13 +3,13 @@ use borrow.Author.Rules.{rules}
 use Rattle.statement.proofs.reading.Judging.{judging}
 use Prim.Native.Nat.{◌-◌}
 use lib.ListN.{length}
-use Rattle.gpc.specs.Statements.{recordSpots}
-use Rattle.statement.specs.Forms.{inFile, Passed}
+use Rattle.gpc.specs.Statements.{record_spots}
+use Rattle.statement.specs.Forms.{in_file, Passed}
 use Rattle.statement.proofs.reading.judge_file.Statement.{statement}
 use Rattle.statement.proofs.reading.judge_file.Tie as tie
 
 abbrev invariant-loop : tie.invariant-loop
-invariant-loop f run₀ at₀ k₀ run at k = Passed inFile recordSpots f run at k
+invariant-loop f run₀ at₀ k₀ run at k = Passed in_file record_spots f run at k
 
 abbrev decreases-loop : tie.decreases-loop
 decreases-loop f run₀ at₀ k₀ run at k = length f - at

@@ -3,12 +3,12 @@ use borrow.Author.Rules.{rules}
 use Rattle.statement.proofs.writing.Filling.{filling}
 use Prim.Native.Nat.{◌-◌}
 use lib.ListN.{length}
-use Rattle.statement.specs.Forms.{inRows, Putting}
+use Rattle.statement.specs.Forms.{in_rows, Putting}
 use Rattle.statement.proofs.writing.fill_file.Statement.{statement}
 use Rattle.statement.proofs.writing.fill_file.Tie as tie
 
 abbrev invariant-loop : tie.invariant-loop
-invariant-loop rows out₀ at₀ next₀ out at next = Putting inRows rows out₀ at next out
+invariant-loop rows out₀ at₀ next₀ out at next = Putting in_rows rows out₀ at next out
 
 abbrev decreases-loop : tie.decreases-loop
 decreases-loop rows out₀ at₀ next₀ out at next = length rows - at

@@ -3,13 +3,13 @@ use borrow.Author.Rules.{rules}
 use Rattle.statement.proofs.writing.Judging.{judging}
 use Prim.Native.Nat.{◌-◌}
 use lib.ListN.{length}
-use Rattle.gpc.specs.Statements.{rowSpots}
-use Rattle.statement.specs.Forms.{inRows, Passed}
+use Rattle.gpc.specs.Statements.{row_spots}
+use Rattle.statement.specs.Forms.{in_rows, Passed}
 use Rattle.statement.proofs.writing.judge_rows.Statement.{statement}
 use Rattle.statement.proofs.writing.judge_rows.Tie as tie
 
 abbrev invariant-loop : tie.invariant-loop
-invariant-loop rows run₀ at₀ k₀ run at k = Passed inRows rowSpots rows run at k
+invariant-loop rows run₀ at₀ k₀ run at k = Passed in_rows row_spots rows run at k
 
 abbrev decreases-loop : tie.decreases-loop
 decreases-loop rows run₀ at₀ k₀ run at k = length rows - at

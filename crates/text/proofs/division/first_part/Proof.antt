@@ -1,4 +1,4 @@
--- `first_part` meets its contract. Assumes nothing.
+-- `first-part` meets its contract. Assumes nothing.
 use borrow.Author.Rules.{rules}
 use Rattle.text.proofs.division.Turns.{firsts}
 use Rattle.text.proofs.division.first_part.Statement.{statement}
