@@ -30,7 +30,8 @@ def code(text):
 def files(*endings):
     for path in sorted(ROOT.rglob("*")):
         parts = path.relative_to(ROOT).parts
-        if path.is_file() and path.suffix in endings and not {"out", "target", "build", ".git"} & set(parts):
+        # crates/NAME/out is the prover's, and crates/out a crate
+        if path.is_file() and path.suffix in endings and "out" not in parts[2:3] and not {"target", "build", ".git"} & set(parts):
             yield path
 
 

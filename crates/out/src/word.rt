@@ -1,13 +1,13 @@
 // Little-endian words in lent bytes: eight bytes each, the lowest first.
 ghost use Rattle.std.specs.Prelude.{◌≡◌, ◌+◌, ◌*◌, ◌≤◌, length};
 ghost use Rattle.base.specs.Put.{Wrote};
-ghost use Rattle.paper.specs.Words.{word_bytes, wordsBytes};
-ghost use Rattle.out.specs.word.Places.{wordHere};
+ghost use Rattle.paper.specs.Words.{word_bytes, words_bytes};
+ghost use Rattle.out.specs.word.Places.{word_here};
 
 // The word whose bytes begin at `at`. The compiler makes one load of the eight.
 pub fn word_at(rows: &[u8], at: usize) -> u64
     requires { at + 8 ≤ length rows.now }
-    ensures { result ≡ wordHere rows.now at }
+    ensures { result ≡ word_here rows.now at }
 {
     let mut w: u64 = 0;
     let mut k: usize = 8;
@@ -44,7 +44,7 @@ pub fn put_word(rows: &mut [u8], at: usize, x: u64) -> usize
 // Writes words one after the other, the first at `at`, and returns the next place.
 pub fn put_words(rows: &mut [u8], at: usize, words: &[u64]) -> usize
     requires { at + 8 * length words.now ≤ length rows.old }
-    ensures { Wrote rows.old at (wordsBytes words.now) rows.new result }
+    ensures { Wrote rows.old at (words_bytes words.now) rows.new result }
 {
     let mut next = at;
     let mut i = 0;

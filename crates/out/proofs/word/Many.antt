@@ -8,23 +8,23 @@ use lib.ListN.{length, take, get_or, length-take}
 use lib.Seq.{take-suc, take_all}
 use Rattle.base.specs.Put.{Wrote}
 use Rattle.base.proofs.Put.{◌then◌}
-use Rattle.paper.specs.Words.{word_bytes, wordsBytes}
+use Rattle.paper.specs.Words.{word_bytes, words_bytes}
 use Rattle.out.proofs.put.Room.{wrote-length, wrote_none}
 use Rattle.out.proofs.word.Laws.{words-length, words_append}
 
 -- the first i + 1 words are the first i and one more
-words-next : (ws : List ℕ) (i : ℕ) → i < length ws → wordsBytes (take (i + 1) ws) ≡ wordsBytes (take i ws) ++ word_bytes 8 (get_or ws i 0)
-unfolding wordsBytes
+words-next : (ws : List ℕ) (i : ℕ) → i < length ws → words_bytes (take (i + 1) ws) ≡ words_bytes (take i ws) ++ word_bytes 8 (get_or ws i 0)
+unfolding words_bytes
 words-next ws i h =
-    rw (add-one, take-suc ws i 0 h) (words_append (take i ws) (get_or ws i 0 ∷ []) ∙ ap (λ (l : List ℕ). wordsBytes (take i ws) ++ l) (append-nil (word_bytes 8 (get_or ws i 0))))
+    rw (add-one, take-suc ws i 0 h) (words_append (take i ws) (get_or ws i 0 ∷ []) ∙ ap (λ (l : List ℕ). words_bytes (take i ws) ++ l) (append-nil (word_bytes 8 (get_or ws i 0))))
 
 -- nothing is put yet
-pub row_first : (o : List ℕ) (at : ℕ) (ws : List ℕ) → at ≤ length o → Wrote o at (wordsBytes (take 0 ws)) o at
-unfolding wordsBytes
+pub row_first : (o : List ℕ) (at : ℕ) (ws : List ℕ) → at ≤ length o → Wrote o at (words_bytes (take 0 ws)) o at
+unfolding words_bytes
 row_first o at [] h = wrote_none o at h
 row_first o at (w ∷ ws) h = wrote_none o at h
 
-module _ (o o1 ws : List ℕ) (at p i : ℕ) (v : Wrote o at (wordsBytes (take i ws)) o1 p) where
+module _ (o o1 ws : List ℕ) (at p i : ℕ) (v : Wrote o at (words_bytes (take i ws)) o1 p) where
   -- where the next word goes
   row-place : i ≤ length ws → p ≡ at + 8 * i
   row-place h =
@@ -35,11 +35,11 @@ module _ (o o1 ws : List ℕ) (at p i : ℕ) (v : Wrote o at (wordsBytes (take i
   row_room h r = omega (arith, row-place (omega arith), wrote-length v)
 
   -- one word more
-  pub row_next : (o2 : List ℕ) (q : ℕ) → i < length ws → Wrote o1 p (word_bytes 8 (get_or ws i 0)) o2 q → Wrote o at (wordsBytes (take (i + 1) ws)) o2 q
+  pub row_next : (o2 : List ℕ) (q : ℕ) → i < length ws → Wrote o1 p (word_bytes 8 (get_or ws i 0)) o2 q → Wrote o at (words_bytes (take (i + 1) ws)) o2 q
   row_next o2 q h w = rw (words-next ws i h) (v then w)
 
   -- all are put
-  pub row-all : length ws ≤ i → Wrote o at (wordsBytes ws) o1 p
+  pub row-all : length ws ≤ i → Wrote o at (words_bytes ws) o1 p
   row-all h = rw (take_all i ws h) at v
 
 pub ruleset puts = (row_first, row_room, row_next, row-all)

@@ -3,8 +3,8 @@ use Rattle.std.specs.Prelude.{ℕ, List, take, drop}
 use Rattle.paper.specs.Words.{word_of, rows_of}
 
 -- the word that begins at a place
-abbrev pub wordHere : List ℕ → ℕ → ℕ
-wordHere s at = word_of (take 8 (drop at s))
+abbrev pub word_here : List ℕ → ℕ → ℕ
+word_here s at = word_of (take 8 (drop at s))
 
 -- the rows of w words from a place on
 abbrev pub rows_from : ℕ → List ℕ → ℕ → List (List ℕ)

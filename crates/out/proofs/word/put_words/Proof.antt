@@ -5,14 +5,14 @@ use lib.ListN.{length, take}
 use native.Mathlib.Omega.{arith}
 use borrow.Author.Rules.{rules}
 use Rattle.base.specs.Put.{Wrote}
-use Rattle.paper.specs.Words.{wordsBytes}
+use Rattle.paper.specs.Words.{words_bytes}
 use Rattle.out.proofs.put.Room.{wrote-length}
 use Rattle.out.proofs.word.Many.{row_first, puts}
 use Rattle.out.proofs.word.put_words.Statement.{statement}
 use Rattle.out.proofs.word.put_words.Tie as tie
 
 abbrev invariant-loop : tie.invariant-loop
-invariant-loop rows₀ at words next₀ i₀ rows next i = (i ≤ length words) × Wrote rows₀ at (wordsBytes (take i words)) rows next
+invariant-loop rows₀ at words next₀ i₀ rows next i = (i ≤ length words) × Wrote rows₀ at (words_bytes (take i words)) rows next
 
 abbrev decreases-loop : tie.decreases-loop
 decreases-loop rows₀ at words next₀ i₀ rows next i = length words - i
