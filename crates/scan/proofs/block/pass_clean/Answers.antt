@@ -1,0 +1,32 @@
+-- `pass_clean` meets its contract: each turn passes a block whose bytes are all of the kind. Assumes nothing.
+use Prim.Native.Nat.{◌-◌}
+use borrow.Author.Rules.{rules}
+use Rattle.scan.proofs.block.Turns.{skips}
+use Rattle.scan.proofs.block.pass_clean.Goals as goal
+
+pub returns-then-n-lt64 : goal.returns-then-n-lt64
+returns-then-n-lt64 c = search skips
+
+pub loop-i-init : goal.loop-i-init
+loop-i-init c = search (skips, rules)
+
+pub block_at-p-requires : goal.block_at-p-requires
+block_at-p-requires c = search (skips, rules)
+
+pub clean_block-requires : goal.clean_block-requires
+clean_block-requires c = search (skips, rules)
+
+pub overflow_add-i : goal.overflow_add-i
+overflow_add-i c = search (skips, rules)
+
+pub loop-i-smaller : goal.loop-i-smaller
+loop-i-smaller c = search (skips, rules)
+
+pub loop-i-preserved : goal.loop-i-preserved
+loop-i-preserved c = search (skips, rules)
+
+pub returns-else-clean_block : goal.returns-else-clean_block
+returns-else-clean_block c = search skips
+
+pub returns : goal.returns
+returns c = search skips

@@ -1,0 +1,11 @@
+-- `pass_high` meets its contract: each turn passes a block whose bytes are all of the kind. Assumes nothing.
+use Prim.Native.Nat.{◌-◌}
+use lib.ListN.{length}
+use Rattle.scan.specs.block.Blocks.{is_high, Skips}
+use Rattle.scan.proofs.block.pass_high.Given as goal
+
+abbrev pub invariant-loop-i : goal.invariant-loop-i
+invariant-loop-i l = Skips is_high l.s l.at l.i
+
+abbrev pub decreases-loop-i : goal.decreases-loop-i
+decreases-loop-i l = length l.s - l.i

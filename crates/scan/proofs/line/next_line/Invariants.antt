@@ -1,0 +1,11 @@
+-- `next_line` meets its contract: no byte passed ends a line, and each `return` stands at a line's end. Assumes nothing.
+use Prim.Native.Nat.{◌-◌}
+use lib.ListN.{length}
+use Rattle.scan.proofs.line.Cutting.{Passed}
+use Rattle.scan.proofs.line.next_line.Given as goal
+
+abbrev pub invariant-loop-i : goal.invariant-loop-i
+invariant-loop-i l = Passed l.f l.at l.i
+
+abbrev pub decreases-loop-i : goal.decreases-loop-i
+decreases-loop-i l = length l.f - l.i
