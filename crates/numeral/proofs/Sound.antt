@@ -32,7 +32,7 @@ module _ (u x : ℕ) (s : List ℕ) (v : ℕ) (h : digits_on u (x ∷ s) ≡ val
 on-plain : (u : ℕ) (s : List ℕ) (v : ℕ) → digits_on u s ≡ value v → all is_digit s ≡ true
 unfolding all
 on-plain u [] v h = refl
-on-plain u (x ∷ s) v h = all_cons is_digit x s (on-head u x s v h) (on-plain _ s v (on-tail u x s v h))
+on-plain u (x ∷ s) v h = all_cons is_digit x s (on-head u x s v h) (on-plain (u * 10 + (x - 48)) s v (on-tail u x s v h))
 
 -- ten times as much room with each digit
 more : (u d k : ℕ) → d ≤ 9 → (u * 10 + d + 1) * 10 ^ k ≤ (u + 1) * 10 ^ suc k
@@ -50,7 +50,7 @@ on_below u (x ∷ s) v h =
 on-fault : (u : ℕ) (s : List ℕ) (n : ℕ) → digits_on u s ≡ fault n → n ≡ 4
 unfolding digits_on pick
 on-fault u [] n h = apart u n (sym h)
-on-fault u (x ∷ s) n h = by-test (is_digit x) (λ e. on-fault _ s n (simp e at h)) (λ e. let f : fault 4 ≡ fault n = simp e at h in cc)
+on-fault u (x ∷ s) n h = by-test (is_digit x) (λ e. on-fault (u * 10 + (x - 48)) s n (simp e at h)) (λ e. let f : fault 4 ≡ fault n = simp e at h in cc)
 
 -- A field that is read.
 module _ (least most : ℕ) (s : List ℕ) (v : ℕ) (h : digits least most s ≡ value v) where

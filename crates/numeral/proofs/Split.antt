@@ -11,7 +11,7 @@ use Rattle.numeral.proofs.Sound.{same, on-head, on-tail, read-on, digits-least, 
 on-append : (u : ℕ) (s t : List ℕ) (v : ℕ) → digits_on u s ≡ value v → digits_on u (s ++ t) ≡ digits_on v t
 unfolding digits_on pick
 on-append u [] t v h = ap (λ (n : ℕ). digits_on n t) (same u v h)
-on-append u (x ∷ s) t v h = simp (on-head u x s v h) (on-append _ s t v (on-tail u x s v h))
+on-append u (x ∷ s) t v h = simp (on-head u x s v h) (on-append (u * 10 + (x - 48)) s t v (on-tail u x s v h))
 
 -- t read on from a number a greater
 on-shift : (a u : ℕ) (t : List ℕ) (w : ℕ) → digits_on u t ≡ value w → digits_on (a + u) t ≡ value (a * 10 ^ length t + w)

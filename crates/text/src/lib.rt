@@ -1,4 +1,6 @@
 // The text of an item: where the parts of its message and its name stand in the line.
+#![tactic(auto)]
+
 pub mod division;
 pub mod extent;
 pub mod fits;

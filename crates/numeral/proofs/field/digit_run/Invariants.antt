@@ -1,0 +1,11 @@
+-- `digit_run` meets its contract. The loop's invariant: what is left of the run, read on from the number so far, says what the whole run says.
+-- Assumes nothing.
+use Rattle.std.proofs.Common.{◌-◌}
+use Rattle.numeral.proofs.field.Turns.{Reads}
+use Rattle.numeral.proofs.field.digit_run.Given as goal
+
+abbrev pub invariant-loop-i : goal.invariant-loop-i
+invariant-loop-i l = Reads l.s l.at l.most l.stop l.v l.i
+
+abbrev pub decreases-loop-i : goal.decreases-loop-i
+decreases-loop-i l = l.stop - l.i

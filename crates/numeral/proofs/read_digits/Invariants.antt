@@ -1,0 +1,11 @@
+-- `numeral::read_digits` meets its contract. The loop's invariant: the number read so far has at most i digits, and what is left of the
+-- field, read on from it, says what the whole field says. Assumes nothing.
+use Rattle.std.proofs.Common.{◌≡◌, ◌-◌, ◌^◌, ◌<◌, ◌≤◌, length, drop}
+use Rattle.paper.specs.Numerals.{digits_on, digits}
+use Rattle.numeral.proofs.read_digits.Given as goal
+
+abbrev pub invariant-loop-i : goal.invariant-loop-i
+invariant-loop-i l = (l.i ≤ length l.f) × (l.v < 10 ^ l.i) × (digits l.least l.most l.f ≡ digits_on l.v (drop l.i l.f))
+
+abbrev pub decreases-loop-i : goal.decreases-loop-i
+decreases-loop-i l = length l.f - l.i
