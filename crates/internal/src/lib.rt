@@ -1,4 +1,6 @@
 // The internal form of an account, as records of statements have it: sixteen digits by value, rearranged and back, read at a place and put.
+#![tactic(auto)]
+
 ghost use Rattle.std.specs.Prelude.{◌≡◌, ◌++◌, ◌+◌, ◌≤◌, ◌<◌, length, take, drop};
 ghost use Rattle.base.specs.Put.{Wrote};
 ghost use Rattle.paper.specs.Numerals.{fixed};

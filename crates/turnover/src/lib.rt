@@ -1,4 +1,6 @@
 // The turnovers of a statement's movements, exact whatever the file's length, and the test of what its head says of them.
+#![tactic(auto)]
+
 pub mod signed;
 
 ghost use Rattle.std.specs.Prelude.{◌≡◌, ℕ, ◌≤◌, List, [], ◌∷◌, ◌≢◌};
