@@ -1,4 +1,6 @@
 // One record of a statement: what is read of it, as bytes of a file and as a row, and put from the one to the other.
+#![tactic(auto)]
+
 pub mod file;
 pub mod row;
 
