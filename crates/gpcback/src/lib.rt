@@ -1,1 +1,2 @@
 // What is written is read back: records and rows of statements, and their spelling. No code.
+#![tactic(auto)]
