@@ -1,5 +1,7 @@
 // The calls for a C program, on numbers and byte slices; each slice is a pointer and a count of bytes. Each is the call of the same contract in a
 // crate of its own. Those that say what is found in a file are in `tell`.
+#![tactic(auto)]
+
 ghost use Rattle.std.specs.Prelude.{◌≡◌, length};
 ghost use Rattle.paper.specs.Reading.{read_answer, rows_after};
 ghost use Rattle.paper.specs.Writing.{draft, written_in, output_after};

@@ -1,4 +1,6 @@
 // Accounts: the rule of their digits, zeros that stand for nobody, and their one spelling.
+#![tactic(auto)]
+
 pub mod at;
 
 ghost use Rattle.std.specs.Prelude.{◌≡◌, false, ◌+◌, ◌*◌, ◌≤◌, ◌<◌, length};

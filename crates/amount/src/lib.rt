@@ -1,4 +1,6 @@
 // Amounts in haléř: what an item's amount may be, and laws of reading amounts.
+#![tactic(auto)]
+
 pub mod at;
 
 ghost use Rattle.std.specs.Prelude.{◌≡◌};

@@ -1,4 +1,6 @@
 // The field of an item that holds payee bank, constant symbol and priority: what its values may be, and writing it.
+#![tactic(auto)]
+
 pub mod at;
 
 ghost use Rattle.std.specs.Prelude.{◌≡◌, [], ℕ, ◌+◌, ◌≤◌, eqb, length};

@@ -1,4 +1,6 @@
 // Days: which are real, their numbers, how they are read and written, which days a payment may be due on.
+#![tactic(auto)]
+
 pub mod at;
 pub mod term;
 

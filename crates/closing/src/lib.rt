@@ -1,4 +1,6 @@
 // The lines that close a group and an account file.
+#![tactic(auto)]
+
 ghost use Rattle.std.specs.Prelude.{◌≡◌, drop};
 ghost use Rattle.paper.specs.Entries.{Entry};
 ghost use Rattle.paper.specs.ClosingLine.{plus_at, read_close};

@@ -1,4 +1,6 @@
 // Where a pass over a file stands from line to line: judging's own numbers, kept by whoever goes over the file once more.
+#![tactic(auto)]
+
 pub mod line;
 
 use judge::group::{Counts, Held, Shelf};

@@ -1,4 +1,6 @@
 // The demands, kept by functions that make the shipped calls: a call made twice answers alike, and what is written is read back.
+#![tactic(auto)]
+
 ghost use Rattle.std.specs.Prelude.{◌≡◌, ◌≤◌, ◌<◌, length, take};
 ghost use Rattle.paper.specs.Reading.{read_answer, rows_after};
 ghost use Rattle.read.specs.Told.{told as told_read};

@@ -1,5 +1,7 @@
 // The calls for a C program that keep the day's numbers. They are compiled by themselves: in one unit with reading, what both use would have two
 // callers, and the compiler would keep it apart from reading's loops.
+#![tactic(auto)]
+
 ghost use Rattle.std.specs.Prelude.{◌≡◌};
 ghost use Rattle.read.specs.Told.{told as told_read};
 ghost use Rattle.register.specs.Register.{start_answer, start_after, lowest_answer, free_answer, give_answer, give_after};

@@ -1,4 +1,6 @@
 // What is found in a file, in sentences for the clerk: whether it is refused, why or what it warns of, and what each sheet says of it.
+#![tactic(auto)]
+
 ghost use Rattle.std.specs.Prelude.{◌≡◌, true, ◌≤◌, length};
 ghost use Rattle.sheet.specs.declared.Known.TheVariants as known;
 ghost use Rattle.sheet.specs.Sheets.{sheet_of};

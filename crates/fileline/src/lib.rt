@@ -1,4 +1,6 @@
 // The line that begins an account file: `1 KIND NUMBER BANK`.
+#![tactic(auto)]
+
 pub mod seen;
 pub mod take;
 

@@ -1,4 +1,6 @@
 // What is found in a file, as numbers: the one finding of a refused file, every warning of an accepted one; and which sheets accept it.
+#![tactic(auto)]
+
 pub mod outcome;
 
 ghost use Rattle.std.specs.Prelude.{◌≡◌, true, ◌/◌, length};

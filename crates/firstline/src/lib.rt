@@ -1,4 +1,6 @@
 // The first line of a file: its fields by place, from left to right.
+#![tactic(auto)]
+
 ghost use Rattle.std.specs.Prelude.{◌≡◌, ◌≤◌, length, drop};
 ghost use Rattle.numeral.specs.Told as num;
 ghost use Rattle.paper.specs.FirstLine.{rest_length, read_to, read_first};

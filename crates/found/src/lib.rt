@@ -1,4 +1,6 @@
 // What is found in the line at which judging halts, or at the file's end, from the numbers that a pass keeps.
+#![tactic(auto)]
+
 ghost use Rattle.std.specs.Prelude.{◌≡◌, ℕ, ◌+◌, ◌-◌, ◌%◌, ◌^◌, ◌≤◌, true, false, List, length, take, drop, ◌==◌, nat_le};
 ghost use Rattle.base.specs.Pick.{pick};
 ghost use Rattle.sheet.proofs.Laws.{Sane};

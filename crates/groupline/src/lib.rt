@@ -1,4 +1,6 @@
 // The line that begins a group: `2 TOTAL DATE`, or with the payer's account before TOTAL.
+#![tactic(auto)]
+
 pub mod take;
 
 ghost use Rattle.std.specs.Prelude.{◌≡◌, true, ◌≤◌, ltb, leb, length, drop};

@@ -1,4 +1,6 @@
 // What an item's line says, for its readers: `itemline::judge` keeps its amount and warnings, `itemline::take` takes its fields. No code: see specs/ and proofs/.
+#![tactic(auto)]
+
 pub mod judge;
 pub mod tail;
 pub mod take;

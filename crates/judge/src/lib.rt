@@ -1,4 +1,6 @@
 // A whole file judged: its groups, its account files, all of it.
+#![tactic(auto)]
+
 pub mod accountfile;
 pub mod file;
 pub mod group;

@@ -1,4 +1,6 @@
 // What an accepted file warns of, line by line: findings as numbers or as sentences, counted, and put where they have room.
+#![tactic(auto)]
+
 pub mod group;
 pub mod item;
 

@@ -1,4 +1,6 @@
 // Numbers in decimal digits: read from a field, counted, and written into a lent output.
+#![tactic(auto)]
+
 pub mod counted;
 pub mod field;
 pub mod given;

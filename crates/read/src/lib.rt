@@ -1,5 +1,7 @@
 // Reading a whole file into lent rows, with the whole answer in one struct. The file is judged first; rows are put only if it is accepted and
 // they have room.
+#![tactic(auto)]
+
 ghost use Rattle.std.specs.Prelude.{◌≡◌, true, ◌/◌, ◌≤◌, length, take, drop};
 ghost use Rattle.base.specs.Pick.{pick};
 ghost use Rattle.sheet.specs.declared.Known.TheVariants as known;

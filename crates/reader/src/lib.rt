@@ -1,6 +1,8 @@
 // A reader of lines: a struct that borrows a file and keeps the place where the next line starts. The borrow checker covers no function over
 // such a struct, so each is thin and proved by a walk of its code, by hand; the work is in `line_at`, `passes` and `named`, which take plain
 // values and are covered. `line_of` stands above them: whoever calls it needs no walk.
+#![tactic(auto)]
+
 pub mod shown;
 
 ghost use Rattle.std.specs.Prelude.{◌≡◌};

@@ -1,4 +1,6 @@
 // The register of a day's numbers in lent bytes: 17 little-endian words, the creation date and a bit for each number below 1,000.
+#![tactic(auto)]
+
 pub mod questions;
 
 ghost use Rattle.std.specs.Prelude.{◌≡◌, false, ◌≤◌, length, drop};

@@ -1,5 +1,7 @@
 // Reading a whole file into lent rows against a lent register of the day's numbers. The file is judged once, with the register's numbers as seen
 // before; what judging has seen by the end of an accepted file is the register afterwards.
+#![tactic(auto)]
+
 ghost use Rattle.std.specs.Prelude.{◌≡◌, true, ◌-◌, ◌/◌, length, take, drop};
 ghost use Rattle.sheet.specs.declared.Known.TheVariants as known;
 ghost use Rattle.sheet.proofs.Laws.{Sane};

@@ -1,5 +1,6 @@
 // The rewriting program. Standard input has a line with the sheet's letter, a space and today as DDMMRR, and then a file; standard output gets
 // the canonical file, or the line of a refusal.
+#![tactic(auto)]
 
 // One byte more than the program takes, so that a longer input is seen.
 fn input_room() -> [u8; 8193] {

@@ -1,4 +1,6 @@
 // The rewriting program's work on lent bytes: an input of a line and a file is answered by the canonical file, or by the line of a refusal.
+#![tactic(auto)]
+
 pub mod request;
 
 ghost use Rattle.std.specs.Prelude.{◌≡◌, true, List, ℕ, ◌*◌, ◌≤◌, length};

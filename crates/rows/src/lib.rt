@@ -1,4 +1,6 @@
 // Lent rows: one after another, decoded, tested by 20 and by 21, and walked over by 20.
+#![tactic(auto)]
+
 pub mod carried;
 pub mod clean;
 pub mod list;

@@ -1,6 +1,8 @@
 // Judges fields, takes them and spells them canonically. Each line of standard input has a field, and behind a space a sheet's letter and
 // the field's, as `19-19 KA`: A an account, M an item's amount, D a due date (today is 1 January 2018), B a bank field. It is answered
 // by the canonical spelling, or by the number of the refusal.
+#![tactic(auto)]
+
 use calendar::term::Banks;
 use numeral::field::{NumAt, Passed};
 use sheet::{Known, Sheet};

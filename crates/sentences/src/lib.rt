@@ -1,4 +1,6 @@
 // What is found in a file, in sentences for people: counted, and put where they have room.
+#![tactic(auto)]
+
 pub mod allowed;
 pub mod figures;
 pub mod found;

@@ -1,4 +1,6 @@
 // The sheets, known by name. A sheet is a record of what its bank asks; every rule takes it as a parameter and is proved once.
+#![tactic(auto)]
+
 ghost use Rattle.std.specs.Prelude.{◌≡◌};
 ghost use Rattle.sheet.specs.Sheets.{KindsOf, LimitsOf, kind_allowed, bank_allowed, sheet_of, sheet_by};
 

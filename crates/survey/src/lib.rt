@@ -1,4 +1,6 @@
 // The judging pass of writing: 20, 21 and the length of the file, in one pass over the lent rows.
+#![tactic(auto)]
+
 pub mod state;
 pub mod step;
 

@@ -1,5 +1,7 @@
 // The calls for a C program that say what is found in a file. They are compiled by themselves: in one unit with reading, what both use would have two
 // callers, and the compiler would keep it apart from reading's loops.
+#![tactic(auto)]
+
 ghost use Rattle.std.specs.Prelude.{◌≡◌, length};
 ghost use Rattle.paper.specs.Writing.{written_in, output_after};
 ghost use Rattle.explain.specs.Explanation.{explanation};

@@ -1,4 +1,6 @@
 // What a sheet says of a file on a day: which answer it is (`Verdict`), and the line of a refusal.
+#![tactic(auto)]
+
 pub mod sheets;
 
 ghost use Rattle.std.specs.Prelude.{◌≡◌, ◌++◌, length};

@@ -1,5 +1,7 @@
 // Writing a batch of lent rows as a file, with the whole answer in one struct. The header and all rows are judged first; the output is
 // written only if nothing is wrong and it has room for the whole file.
+#![tactic(auto)]
+
 ghost use Rattle.std.specs.Prelude.{◌≡◌, true, ◌+◌, ◌≤◌, length};
 ghost use Rattle.base.specs.Pick.{pick};
 ghost use Rattle.sheet.specs.declared.Known.TheVariants as known;

@@ -2,7 +2,6 @@
 use Rattle.std.proofs.Common.{◌≡◌, ℕ, suc, ◌+◌, ◌-◌, ◌*◌, ◌^◌, ◌<◌, ◌≤◌, true, List, [], ◌∷◌, length, get_or, drop, refl, ◌∙◌, add-one, arith, drop-cons, w64, Fits, lt-ltb}
 use Rattle.base.specs.Pick.{pick}
 use Rattle.base.proofs.Cases.{by-test}
-use Rattle.paper.specs.Read.{value}
 use Rattle.paper.specs.Bytes.{is_digit}
 use Rattle.paper.specs.Numerals.{digits_on}
 use Rattle.numeral.proofs.Digits.{more-digits, ten-le}

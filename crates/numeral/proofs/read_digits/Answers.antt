@@ -1,6 +1,6 @@
 -- `numeral::read_digits` meets its contract. The loop's invariant: the number read so far has at most i digits, and what is left of the
 -- field, read on from it, says what the whole field says. Assumes nothing.
-use Rattle.std.proofs.Common.{◌-◌, rules}
+use Rattle.std.proofs.Common.{rules}
 use Rattle.numeral.proofs.Digits.{reading}
 use Rattle.numeral.proofs.read_digits.Goals as goal
 

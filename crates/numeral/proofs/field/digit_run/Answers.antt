@@ -1,6 +1,6 @@
 -- `digit_run` meets its contract. The loop's invariant: what is left of the run, read on from the number so far, says what the whole run says.
 -- Assumes nothing.
-use Rattle.std.proofs.Common.{◌-◌, rules}
+use Rattle.std.proofs.Common.{rules}
 use Rattle.numeral.proofs.field.Turns.{turns}
 use Rattle.numeral.proofs.field.digit_run.Goals as goal
 

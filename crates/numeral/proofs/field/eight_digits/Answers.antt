@@ -1,5 +1,5 @@
 -- `eight_digits` meets its contract: while the answer is true, every byte passed is a digit. Assumes nothing.
-use Rattle.std.proofs.Common.{◌-◌, refl, arith}
+use Rattle.std.proofs.Common.{refl, arith}
 use Rattle.base.specs.Seek.{all}
 use Rattle.numeral.proofs.field.Symbols.{eight-other, eight-digit, eight-end}
 use Rattle.numeral.proofs.field.eight_digits.Goals as goal
@@ -16,9 +16,10 @@ loop-j-preserved c = let s = c.args.s.now in
     let inv = c.loop-j.invariant.1 in
     let w = c.worth.ensures in (
       omega arith,
-      elim c.if-worth-gt9.branch
-          [ then-worth-gt9 v ↦ eight-other s at j _ _ (omega arith) inv _ w v.if-worth-gt9.true v.digits-is
-          | else-worth-gt9 v ↦ eight-digit s at j _ _ (omega arith) inv _ w v.if-worth-gt9.false v.digits-is ],
+      elim c.if-worth-gt9.branch [
+        | then-worth-gt9 v ↦ eight-other s at j _ _ (omega arith) inv _ w v.if-worth-gt9.true v.digits-is
+        | else-worth-gt9 v ↦ eight-digit s at j _ _ (omega arith) inv _ w v.if-worth-gt9.false v.digits-is
+      ],
     )
 
 pub returns : goal.returns

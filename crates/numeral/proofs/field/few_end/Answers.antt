@@ -1,5 +1,5 @@
 -- `few_end` meets its contract. The loop's invariant: the first j bytes are digits of the run, and the rest of it is ahead. Assumes nothing.
-use Rattle.std.proofs.Common.{◌-◌, arith, rules}
+use Rattle.std.proofs.Common.{arith, rules}
 use Rattle.numeral.proofs.field.Symbols.{fews}
 use Rattle.numeral.proofs.field.few_end.Goals as goal
 

@@ -1,6 +1,6 @@
 -- `take_run` meets its contract. The loop's invariant: the digits from i on, read on from the number so far, say what all of them say.
 -- Assumes nothing.
-use Rattle.std.proofs.Common.{◌-◌, rules}
+use Rattle.std.proofs.Common.{rules}
 use Rattle.numeral.proofs.placed.Turns.{turns}
 use Rattle.numeral.proofs.placed.take_run.Goals as goal
 

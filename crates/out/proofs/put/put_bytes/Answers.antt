@@ -1,7 +1,6 @@
 -- `out::put::put_bytes` meets its contract: the output so far is the lent one with the first i bytes put. Assumes nothing.
 use borrow.Author.Rules.{rules}
 use Rattle.out.proofs.put.Copy.{copies}
-use Prim.Native.Nat.{◌-◌}
 use Rattle.out.proofs.put.put_bytes.Goals as goal
 
 pub loop-i-init : goal.loop-i-init

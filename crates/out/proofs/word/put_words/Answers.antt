@@ -1,5 +1,4 @@
 -- Words go in one after the other; the loop's invariant is what a writer promises of those passed. Assumes nothing.
-use Prim.Native.Nat.{◌-◌}
 use mathlib.Core.List.{[]}
 use native.Mathlib.Omega.{arith}
 use borrow.Author.Rules.{rules}

@@ -1,5 +1,4 @@
 -- `word_at` meets its contract: the bytes from the highest down make the word. Assumes nothing.
-use Prim.Native.Nat.{◌-◌}
 use Rattle.out.proofs.word.Load.{Loaded}
 use Rattle.out.proofs.word.word_at.Given as goal
 

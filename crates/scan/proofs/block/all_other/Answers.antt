@@ -1,7 +1,7 @@
 -- `all_other` meets its contract: while the answer is true, every byte passed is of the kind. Assumes nothing.
 use mathlib.Core.Path.{refl}
 use Rattle.base.specs.Seek.{all}
-use Prim.Native.Nat.{◌+◌, ◌-◌}
+use Prim.Native.Nat.{◌+◌}
 use native.Mathlib.Omega.{arith}
 use Rattle.scan.proofs.block.Turns.{pass-not, pass-more, pass-end, is-other}
 use Rattle.scan.specs.block.Blocks.{is_other}
@@ -30,9 +30,10 @@ loop-j-preserved c = let s = c.args.s.now in
     let b = c.args.b in
     let j = c.loop-j.j in (
       omega arith,
-      elim c.if-s-at.branch
-          [ then-s-at w ↦ pass-not (is_other b) s at (j + 1) _ w.other-is
-          | else-s-at w ↦ pass-more (is_other b) s at j _ _ w.other-is (omega arith) c.loop-j.invariant.1 (is-other b _ w.if-s-at.false) ],
+      elim c.if-s-at.branch [
+        | then-s-at w ↦ pass-not (is_other b) s at (j + 1) _ w.other-is
+        | else-s-at w ↦ pass-more (is_other b) s at j _ _ w.other-is (omega arith) c.loop-j.invariant.1 (is-other b _ w.if-s-at.false)
+      ],
     )
 
 pub returns : goal.returns

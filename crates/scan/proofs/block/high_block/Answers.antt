@@ -1,7 +1,7 @@
 -- `high_block` meets its contract: while the answer is true, every byte passed is of the kind. Assumes nothing.
 use mathlib.Core.Path.{refl}
 use Rattle.base.specs.Seek.{all}
-use Prim.Native.Nat.{◌+◌, ◌-◌}
+use Prim.Native.Nat.{◌+◌}
 use native.Mathlib.Omega.{arith}
 use Rattle.scan.proofs.block.Turns.{pass-not, pass-more, pass-end, is-high}
 use Rattle.scan.specs.block.Blocks.{is_high}
@@ -29,9 +29,10 @@ loop-j-preserved c = let s = c.args.s.now in
     let at = c.args.at in
     let j = c.loop-j.j in (
       omega arith,
-      elim c.if-s-at-lt14.branch
-          [ then-s-at-lt14 w ↦ pass-not is_high s at (j + 1) _ w.high-is
-          | else-s-at-lt14 w ↦ pass-more is_high s at j _ _ w.high-is (omega arith) c.loop-j.invariant.1 (is-high _ w.if-s-at-lt14.false) ],
+      elim c.if-s-at-lt14.branch [
+        | then-s-at-lt14 w ↦ pass-not is_high s at (j + 1) _ w.high-is
+        | else-s-at-lt14 w ↦ pass-more is_high s at j _ _ w.high-is (omega arith) c.loop-j.invariant.1 (is-high _ w.if-s-at-lt14.false)
+      ],
     )
 
 pub returns : goal.returns

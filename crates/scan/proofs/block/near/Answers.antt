@@ -1,5 +1,4 @@
 -- `near` meets its contract: every byte passed is of the kind. Assumes nothing.
-use Prim.Native.Nat.{◌-◌}
 use borrow.Author.Rules.{rules}
 use Rattle.scan.proofs.block.Turns.{nears}
 use Rattle.scan.proofs.block.near.Goals as goal

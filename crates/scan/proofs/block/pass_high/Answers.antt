@@ -1,5 +1,4 @@
 -- `pass_high` meets its contract: each turn passes a block whose bytes are all of the kind. Assumes nothing.
-use Prim.Native.Nat.{◌-◌}
 use borrow.Author.Rules.{rules}
 use Rattle.scan.proofs.block.Turns.{skips}
 use Rattle.scan.proofs.block.pass_high.Goals as goal

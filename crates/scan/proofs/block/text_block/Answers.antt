@@ -32,11 +32,13 @@ loop-j-preserved c = let s = c.args.s.now in
     let inv = c.loop-j.invariant.1 in
     let byte : get_or s (at + j) 0 < 256 = omega (arith, c.type_inv.s (at + j)) in (
       omega arith,
-      elim c.if-b-eq127.branch
-          [ then-b-eq127 w ↦ pass-not is_text s at (j + 1) _ w.text-is
-          | else-b-eq127 w ↦ elim c.if-b-lt32.branch
-              [ then-b-lt32 v ↦ pass-not is_text s at (j + 1) _ (w.text-is ∙ v.text-is)
-              | else-b-lt32 v ↦ pass-more is_text s at j _ _ (w.text-is ∙ v.text-is) (omega arith) inv (is-text _ v.if-b-lt32.false w.if-b-eq127.false byte) ] ],
+      elim c.if-b-eq127.branch [
+        | then-b-eq127 w ↦ pass-not is_text s at (j + 1) _ w.text-is
+        | else-b-eq127 w ↦ elim c.if-b-lt32.branch [
+          | then-b-lt32 v ↦ pass-not is_text s at (j + 1) _ (w.text-is ∙ v.text-is)
+          | else-b-lt32 v ↦ pass-more is_text s at j _ _ (w.text-is ∙ v.text-is) (omega arith) inv (is-text _ v.if-b-lt32.false w.if-b-eq127.false byte)
+        ]
+      ],
     )
 
 pub returns : goal.returns

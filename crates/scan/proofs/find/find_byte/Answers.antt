@@ -1,5 +1,4 @@
 -- `find_byte` meets its contract: what is sought from the index on is what is sought from the start. Assumes nothing.
-use Prim.Native.Nat.{◌-◌}
 use native.Mathlib.Omega.{arith}
 use borrow.Author.Rules.{rules}
 use Rattle.scan.proofs.block.Passing.{seek-skipped}

@@ -1,5 +1,4 @@
 -- `field_end` meets its contract: from the index on, the space is found that is found from the start. Assumes nothing.
-use Prim.Native.Nat.{◌-◌}
 use borrow.Author.Rules.{rules}
 use Rattle.scan.proofs.line.Fields.{turns}
 use Rattle.scan.proofs.line.field_end.Goals as goal

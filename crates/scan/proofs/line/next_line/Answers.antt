@@ -1,5 +1,4 @@
 -- `next_line` meets its contract: no byte passed ends a line, and each `return` stands at a line's end. Assumes nothing.
-use Prim.Native.Nat.{◌-◌}
 use Rattle.scan.proofs.line.Plain.{is-plain}
 use Rattle.scan.proofs.line.Cutting.{passed-high, passed-more, cuts}
 use Rattle.scan.proofs.line.next_line.Goals as goal

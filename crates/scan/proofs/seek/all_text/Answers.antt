@@ -1,6 +1,5 @@
 -- `scan::seek::all_text` meets its contract. Assumes nothing.
 use borrow.Author.Rules.{rules}
-use Prim.Native.Nat.{◌-◌}
 use Rattle.scan.proofs.block.Passing.{all-skipped}
 use Rattle.scan.proofs.seek.Turns.{alls}
 use Rattle.scan.proofs.seek.all_text.Goals as goal

@@ -1,6 +1,5 @@
 -- `scan::seek::find` meets its contract. Assumes nothing.
 use borrow.Author.Rules.{rules}
-use Prim.Native.Nat.{◌-◌}
 use mathlib.Core.Path.{refl}
 use Rattle.scan.proofs.seek.Turns.{seeks}
 use Rattle.scan.proofs.seek.find.Goals as goal

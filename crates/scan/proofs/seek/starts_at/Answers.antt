@@ -1,6 +1,5 @@
 -- `scan::seek::starts_at` meets its contract. Assumes nothing.
 use borrow.Author.Rules.{rules}
-use Prim.Native.Nat.{◌-◌}
 use Rattle.scan.proofs.seek.Turns.{begins}
 use Rattle.scan.proofs.seek.starts_at.Goals as goal
 
