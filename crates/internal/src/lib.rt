@@ -59,7 +59,7 @@ pub fn edited(d: [u8; 16]) -> [u8; 16]
 }
 
 // What a field in the internal form says: the account's prefix and base, or the refusal's number.
-#[derive(Drop)]
+#[derive(Clone, Copy)]
 pub enum Found {
     Account(u64, u64),
     Refused(u64),

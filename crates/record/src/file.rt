@@ -20,21 +20,21 @@ use numeral::Num;
 use turnover::signed::Signed;
 
 // A number with a sign, or the place of what is not so.
-#[derive(Drop)]
+#[derive(Clone, Copy)]
 pub enum SignedRead {
     Number(Signed),
     Refused(u64),
 }
 
 // Two of them, one behind the other.
-#[derive(Drop)]
+#[derive(Clone, Copy)]
 pub enum PairRead {
     Both(Signed, Signed),
     Refused(u64),
 }
 
 // The type of a record.
-#[derive(Drop)]
+#[derive(Clone, Copy)]
 pub enum Kind {
     Head,
     Movement,

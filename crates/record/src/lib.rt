@@ -7,7 +7,7 @@ pub mod row;
 use turnover::signed::Signed;
 
 // What is read of a head.
-#[derive(Drop)]
+#[derive(Clone, Copy)]
 pub struct HeadFields {
     pub prefix: u64,
     pub base: u64,
@@ -18,7 +18,7 @@ pub struct HeadFields {
 }
 
 // What is read of a movement.
-#[derive(Drop)]
+#[derive(Clone, Copy)]
 pub struct MovementFields {
     pub prefix: u64,
     pub base: u64,
@@ -30,7 +30,7 @@ pub struct MovementFields {
 }
 
 // What stands where a record is due: a head or a movement, or one that is refused with 51 at a place in it; or no record.
-#[derive(Drop)]
+#[derive(Clone, Copy)]
 pub enum Entry {
     Head(HeadFields),
     HeadRefused(u64),
@@ -40,13 +40,13 @@ pub enum Entry {
 }
 
 // What the bytes of a head, or of a movement, say; or the place of the first that is refused.
-#[derive(Drop)]
+#[derive(Clone, Copy)]
 pub enum HeadRead {
     Head(HeadFields),
     Refused(u64),
 }
 
-#[derive(Drop)]
+#[derive(Clone, Copy)]
 pub enum MovementRead {
     Movement(MovementFields),
     Refused(u64),

@@ -5,7 +5,7 @@ ghost use Rattle.std.specs.Prelude.{◌≡◌};
 ghost use Rattle.sheet.specs.Sheets.{KindsOf, LimitsOf, kind_allowed, bank_allowed, sheet_of, sheet_by};
 
 // What a sheet asks of the text of an item.
-#[derive(Drop)]
+#[derive(Clone, Copy)]
 pub struct Style {
     // a text has a byte or more, the first not a space, and its message begins `AV:`; without this it is a message as it stands
     pub av: bool,
@@ -22,7 +22,7 @@ pub struct Style {
 }
 
 // What a sheet asks of a file.
-#[derive(Drop)]
+#[derive(Clone, Copy)]
 pub struct Sheet {
     // the number and the letter that callers name it by
     pub number: u64,
@@ -73,14 +73,14 @@ pub struct Sheet {
 }
 
 // Kinds of account files: all from the first to the last.
-#[derive(Drop)]
+#[derive(Clone, Copy)]
 pub struct Kinds {
     pub first: u64,
     pub last: u64,
 }
 
 // How many items a file may have; how many digits an item's amount, and how much it may be; how many days ahead a due day may lie.
-#[derive(Drop)]
+#[derive(Clone, Copy)]
 pub struct Limits {
     pub items: u64,
     pub digits: usize,
@@ -325,7 +325,7 @@ impl Sheet {
     }
 }
 
-#[derive(Drop)]
+#[derive(Clone, Copy)]
 pub enum Known {
     Sheet(Sheet),
     Nothing,

@@ -24,7 +24,7 @@ use scan::find::find_byte;
 use scan::seek::{all_clean, all_text, starts_at};
 use sheet::Style;
 
-#[derive(Drop)]
+#[derive(Clone, Copy)]
 pub enum TextRead {
     Texts(Spans),
     // the refusal's number
@@ -187,7 +187,7 @@ pub fn only_name(y: Style, s: &[u8], from: usize) -> bool
 }
 
 // How a text begins: where its message does, or with `NP:` and a name alone; or the refusal's number.
-#[derive(Drop)]
+#[derive(Clone, Copy)]
 pub enum Begun {
     Message(usize),
     Name,

@@ -5,14 +5,14 @@ ghost use Rattle.text.specs.span.Places.{part_at, ended, placed, longer, cuts_of
 use scan::find::find_byte;
 
 // A place in the line and a length.
-#[derive(Drop)]
+#[derive(Clone, Copy)]
 pub struct Span {
     pub at: usize,
     pub len: usize,
 }
 
 // Where four parts and a name stand, and how many of them were cut.
-#[derive(Drop)]
+#[derive(Clone, Copy)]
 pub struct Spans {
     pub part1: Span,
     pub part2: Span,
@@ -23,7 +23,7 @@ pub struct Spans {
 }
 
 // A part before it is cut, and where the next one begins.
-#[derive(Drop)]
+#[derive(Clone, Copy)]
 pub struct Part {
     pub at: usize,
     pub len: usize,

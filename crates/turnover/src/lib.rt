@@ -13,7 +13,7 @@ ghost use Rattle.turnover.specs.Counts.{Stands, Room, Raised, Lowered, Moves, Co
 use crate::signed::Signed;
 
 // A number that may fall below nothing: (high - 2^63) * 10^14 + low. What a turnover's field can hold is in low.
-#[derive(Drop)]
+#[derive(Clone, Copy)]
 pub struct Turn {
     pub high: u64,
     pub low: u64,
@@ -105,7 +105,7 @@ impl Turn {
 }
 
 // Both turnovers of a statement.
-#[derive(Drop)]
+#[derive(Clone, Copy)]
 pub struct Turns {
     pub debit: Turn,
     pub credit: Turn,

@@ -5,7 +5,7 @@ ghost use Rattle.gpc.specs.Signed.{signed, above, below, side as side_of, signed
 ghost use Rattle.gpc.specs.Turnovers.{balanced as balanced_of};
 ghost use Rattle.turnover.specs.signed.Told.{said};
 
-#[derive(Drop)]
+#[derive(Clone, Copy)]
 pub struct Signed {
     pub minus: bool,
     pub size: u64,

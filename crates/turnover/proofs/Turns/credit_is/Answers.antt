@@ -1,0 +1,6 @@
+-- `Turns::credit_is` answers as its definition does. Assumes nothing.
+use Rattle.turnover.proofs.Sums.{counting}
+use Rattle.turnover.proofs.Turns.credit_is.Goals as goal
+
+pub returns : goal.returns
+returns c = search counting
