@@ -1,0 +1,7 @@
+-- `next_eight`: two fours, the left one first. Assumes nothing.
+use borrow.Author.Rules.{rules}
+use Rattle.account.proofs.Doubled.{sums}
+use Rattle.account.proofs.next_eight.Goals as goal
+
+pub returns : goal.returns
+returns c = search (sums, rules)
