@@ -1,5 +1,5 @@
-// The calls for a C program, on numbers and byte slices; each slice is a pointer and a count of bytes. Each is the call of the same contract in a
-// crate of its own. Those that say what is found in a file are in `tell`.
+// The calls for a C program, on numbers and byte slices; `abo_c` exports them. Each is the call of the same contract in a crate of its own. Those that say
+// what is found in a file are in `tell`.
 #![tactic(auto)]
 
 ghost use Rattle.std.specs.Prelude.{◌≡◌, length};
@@ -17,8 +17,7 @@ use statement::reading::AboStatement;
 use write::AboWritten;
 
 // Reads a file on a sheet (1 K, 2 S, 3 C, 4 E, 5 P) with today's date, YYYYMMDD, into lent rows. A refusal leaves the rows as they were.
-#[unsafe(no_mangle)]
-pub extern "C" fn abo_read(file: &[u8], sheet: u64, today: u64, rows: &mut [u8]) -> AboAnswer
+pub fn abo_read(file: &[u8], sheet: u64, today: u64, rows: &mut [u8]) -> AboAnswer
     ensures result_value { told_read result ≡ read_answer sheet today file.now rows.old }
     ensures rows_after { rows.new ≡ rows_after sheet today file.now rows.old }
 {
@@ -26,8 +25,7 @@ pub extern "C" fn abo_read(file: &[u8], sheet: u64, today: u64, rows: &mut [u8])
 }
 
 // Writes the batch that lent rows hold, their texts in lent bytes, with a header, into a lent output. A refusal leaves the output as it was.
-#[unsafe(no_mangle)]
-pub extern "C" fn abo_write(
+pub fn abo_write(
     rows: &[u8],
     texts: &[u8],
     date: u64,
@@ -46,16 +44,14 @@ pub extern "C" fn abo_write(
 }
 
 // Finds the line of a number, as refusals count lines: from 1, and the file's end is one more, empty.
-#[unsafe(no_mangle)]
-pub extern "C" fn abo_line(file: &[u8], line: u64) -> AboLine
+pub fn abo_line(file: &[u8], line: u64) -> AboLine
     ensures { told_line result ≡ line_answer line file.now }
 {
     reader::line_of(file, line)
 }
 
 // Reads a file of statements (GPC records 074 and 075) into lent rows. A refusal leaves the rows as they were.
-#[unsafe(no_mangle)]
-pub extern "C" fn abo_statement_read(file: &[u8], rows: &mut [u8]) -> AboStatement
+pub fn abo_statement_read(file: &[u8], rows: &mut [u8]) -> AboStatement
     ensures result_value { told_statement result ≡ statement_answer file.now rows.old }
     ensures rows_after { rows.new ≡ statement_rows file.now rows.old }
 {
@@ -63,8 +59,7 @@ pub extern "C" fn abo_statement_read(file: &[u8], rows: &mut [u8]) -> AboStateme
 }
 
 // Writes the statements that lent rows hold into a lent output. A refusal leaves the output as it was.
-#[unsafe(no_mangle)]
-pub extern "C" fn abo_statement_write(rows: &[u8], out: &mut [u8]) -> AboWritten
+pub fn abo_statement_write(rows: &[u8], out: &mut [u8]) -> AboWritten
     ensures result_value { told_written result ≡ written_in (length out.old) (statement_draft rows.now) }
     ensures out_after { out.new ≡ output_after out.old (statement_draft rows.now) }
 {

@@ -132,10 +132,10 @@ module _ (d : ℕ) (r : real_day d ≡ true) (before : d < 20991201) where
       by-eq (month_of d) 12
       (λ e.
       let i = in-month (year_of d + 1) 1 (day_of d) (omega (arith, p.from)) (omega (arith, p.to)) (omega arith) (omega arith) p.low (day-few d r) in
-      rw (eq-eqb _ _ e) (i.is_real, record { month = omega (arith, i.year, i.month); day = rw (i.year, i.month) i.day }))
+      rw (eq-eqb _ _ e) (i.is-real, record { month = omega (arith, i.year, i.month); day = rw (i.year, i.month) i.day }))
       (λ n.
       let i = in-month (year_of d) (month_of d + 1) (day_of d) p.from p.to (omega arith) (omega (arith, p.last)) p.low (day-few d r) in
-      rw (ne_eqb _ _ n) (i.is_real, record { month = omega (arith, i.year, i.month); day = rw (i.year, i.month) i.day }))
+      rw (ne_eqb _ _ n) (i.is-real, record { month = omega (arith, i.year, i.month); day = rw (i.year, i.month) i.day }))
 
 -- from December 2099 on every later real day is within it
 module _ (today d : ℕ) (s : real_day today ≡ true) (r : real_day d ≡ true) (from : 20991201 ≤ today) where

@@ -1,5 +1,4 @@
-// The calls for a C program that keep the day's numbers. They are compiled by themselves: in one unit with reading, what both use would have two
-// callers, and the compiler would keep it apart from reading's loops.
+// The calls for a C program that keep the day's numbers; `enrol_c` exports them.
 #![tactic(auto)]
 
 ghost use Rattle.std.specs.Prelude.{◌≡◌};
@@ -12,8 +11,7 @@ use read::AboAnswer;
 use register::AboRegister;
 
 // Starts a day in a lent register: it is for that creation date, and no number is marked. A refusal leaves the bytes as they were.
-#[unsafe(no_mangle)]
-pub extern "C" fn abo_register_start(date: u64, register: &mut [u8]) -> AboRegister
+pub fn abo_register_start(date: u64, register: &mut [u8]) -> AboRegister
     ensures result_value { told_answer result ≡ start_answer date register.old }
     ensures register_after { register.new ≡ start_after date register.old }
 {
@@ -21,24 +19,21 @@ pub extern "C" fn abo_register_start(date: u64, register: &mut [u8]) -> AboRegis
 }
 
 // Asks a register for its lowest free number, 1,000 if none is free.
-#[unsafe(no_mangle)]
-pub extern "C" fn abo_register_lowest(register: &[u8]) -> AboRegister
+pub fn abo_register_lowest(register: &[u8]) -> AboRegister
     ensures { told_answer result ≡ lowest_answer register.now }
 {
     register::lowest_number(register)
 }
 
 // Asks a register how many numbers are free.
-#[unsafe(no_mangle)]
-pub extern "C" fn abo_register_free(register: &[u8]) -> AboRegister
+pub fn abo_register_free(register: &[u8]) -> AboRegister
     ensures { told_answer result ≡ free_answer register.now }
 {
     register::free_numbers(register)
 }
 
 // Gives a number back to a register: it is free again. A refusal leaves the bytes as they were.
-#[unsafe(no_mangle)]
-pub extern "C" fn abo_register_give_back(register: &mut [u8], number: u64) -> AboRegister
+pub fn abo_register_give_back(register: &mut [u8], number: u64) -> AboRegister
     ensures result_value { told_answer result ≡ give_answer register.old number }
     ensures register_after { register.new ≡ give_after register.old number }
 {
@@ -47,8 +42,7 @@ pub extern "C" fn abo_register_give_back(register: &mut [u8], number: u64) -> Ab
 
 // Reads a file as abo_read does, on K against a register, in which an accepted file's numbers are marked. A refusal leaves rows and register as they
 // were.
-#[unsafe(no_mangle)]
-pub extern "C" fn abo_read_registered(
+pub fn abo_read_registered(
     file: &[u8],
     sheet: u64,
     today: u64,

@@ -1,5 +1,4 @@
-// The calls for a C program that say what is found in a file. They are compiled by themselves: in one unit with reading, what both use would have two
-// callers, and the compiler would keep it apart from reading's loops.
+// The calls for a C program that say what is found in a file; `tell_c` exports them.
 #![tactic(auto)]
 
 ghost use Rattle.std.specs.Prelude.{◌≡◌, length};
@@ -13,8 +12,7 @@ use explain::AboText;
 use findings::AboList;
 
 // Lists what is found in a file as numbers, 64 bytes a finding, and which sheets accept it. A refusal leaves the lent bytes as they were.
-#[unsafe(no_mangle)]
-pub extern "C" fn abo_findings(file: &[u8], sheet: u64, today: u64, out: &mut [u8]) -> AboList
+pub fn abo_findings(file: &[u8], sheet: u64, today: u64, out: &mut [u8]) -> AboList
     ensures result_value { told_list result ≡ list_answer sheet today file.now out.old }
     ensures out_after { out.new ≡ list_after sheet today file.now out.old }
 {
@@ -22,8 +20,7 @@ pub extern "C" fn abo_findings(file: &[u8], sheet: u64, today: u64, out: &mut [u
 }
 
 // Says in sentences what is found in a file: why it is refused, or what it warns of, and what each sheet says of it. A refusal leaves the output as it was.
-#[unsafe(no_mangle)]
-pub extern "C" fn abo_explain(file: &[u8], sheet: u64, today: u64, out: &mut [u8]) -> AboText
+pub fn abo_explain(file: &[u8], sheet: u64, today: u64, out: &mut [u8]) -> AboText
     ensures result_value { told_text result ≡ text_answer (written_in (length out.old) (explanation sheet today file.now)) }
     ensures out_after { out.new ≡ output_after out.old (explanation sheet today file.now) }
 {

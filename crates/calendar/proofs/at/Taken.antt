@@ -8,7 +8,6 @@ use mir.Val.{Fits}
 use mir.Syntax.{w64}
 use lib.ListN.{length, get_or, take, drop, length-drop}
 use lib.Seq.{take_all}
-use Rattle.base.specs.Seek.{all}
 use Rattle.paper.specs.Read.{value}
 use Rattle.paper.specs.Numerals.{digits}
 use Rattle.paper.specs.Days.{real_day, real, short_day, long_day}

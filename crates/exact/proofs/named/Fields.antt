@@ -2,7 +2,7 @@
 use mathlib.Core.Path.{◌≡◌}
 use mathlib.Core.Bool.{Bool, true, false}
 use mathlib.Core.List.{List, [], ◌∷◌}
-use Prim.Native.Nat.{ℕ}
+use Prim.Native.Nat.{ℕ, ◌+◌, ◌*◌, ◌-◌}
 use native.Mathlib.Omega.{arith}
 use lib.Dec.{eqb, leb}
 use Rattle.base.specs.Pick.{pick}
@@ -84,7 +84,7 @@ given-on (is_fault o) p = is_fault o
 digits-on : (v : ℕ) (s : List ℕ) → Numbered (digits_on v s)
 unfolding digits_on
 digits-on v [] = is-value
-digits-on v (x ∷ s) = either Numbered _ (λ _. digits-on _ s) (λ _. is_fault own4)
+digits-on v (x ∷ s) = either Numbered _ (λ _. digits-on (v * 10 + (x - 48)) s) (λ _. is_fault own4)
 
 pub digits-named : (least most : ℕ) (s : List ℕ) → Numbered (digits least most s)
 unfolding digits

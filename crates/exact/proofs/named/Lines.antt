@@ -40,7 +40,7 @@ module _ (sh : Sheet) where
   name g (lines.a_header _ _ _ _ _ _ _) h = says tt
   name g (lines.a-file _ _ _ _) h = says tt
   name g (lines.a-group _ _ _ _ _ l) h = says (l h)
-  name g (lines.an_item _ _ _ _ _ _ _ _ _) h = says tt
+  name g (lines.an-item _ _ _ _ _ _ _ _ _) h = says tt
   name g lines.a_group_end h = says tt
   name g lines.a_file_end h = says tt
   name g (lines.refused b l) h = refuses (own g b) (l h)

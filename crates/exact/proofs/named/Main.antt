@@ -34,19 +34,19 @@ Placed size lines (Accepted h b w) = Unit {0}
 
 module _ (sh : Sheet) (today size : ℕ) where
   -- a fault in the lines ts, behind m others
-  broken-placed : {m : ℕ} {st : State} {ts : List Line} {a : Answer} → Kept size m st → Within size ts → Broken sh today size (suc m) st ts a
+  broken-placed : {m : ℕ} {st : State} {ts : List Line} {a : Answer} → Broken sh today size (suc m) st ts a → Kept size m st → Within size ts
       → Placed size (m + length ts) a
-  broken-placed k w ends_first = ((omega arith, omega arith), omega arith, omega arith, omega arith)
-  broken-placed k w (ends_none _) = ((omega arith, omega arith), omega arith, omega arith, omega arith)
-  broken-placed k w ends_file = ((omega arith, omega arith), omega arith, omega arith, omega arith)
-  broken-placed k w ends_group = ((omega arith, omega arith), omega arith, omega arith, omega arith)
-  broken-placed k (h, w) (not-due d) = ((omega arith, omega arith), omega arith, omega arith, omega (arith, h))
-  broken-placed k (h, w) (full d f) = ((omega arith, omega arith), omega arith, omega arith, omega (arith, h))
-  broken-placed k (h, w) (in_line {st = st} {t = t} {n = n} {off = off} d f q) =
+  broken-placed ends_first k w = ((omega arith, omega arith), omega arith, omega arith, omega arith)
+  broken-placed (ends_none _) k w = ((omega arith, omega arith), omega arith, omega arith, omega arith)
+  broken-placed ends_file k w = ((omega arith, omega arith), omega arith, omega arith, omega arith)
+  broken-placed ends_group k w = ((omega arith, omega arith), omega arith, omega arith, omega arith)
+  broken-placed (not-due d) k (h, w) = ((omega arith, omega arith), omega arith, omega arith, omega (arith, h))
+  broken-placed (full d f) k (h, w) = ((omega arith, omega arith), omega arith, omega arith, omega (arith, h))
+  broken-placed (in_line {st = st} {t = t} {n = n} {off = off} d f q) k (h, w) =
       let o = line-named sh today (context_of st) t.bytes n off q in
       let i = line-inside sh today (context_of st) t.bytes n off q in
       ((omega (arith, o.0), omega (arith, o.1)), omega arith, omega arith, omega (arith, h, i))
-  broken-placed (one, less, inside) (h, w) (total some q e) =
+  broken-placed (total some q e) (one, less, inside) (h, w) =
       ((omega arith, omega arith), one, omega (arith, less), inside)
 
 module _ (sh : Sheet) (today : ℕ) (f : List ℕ) (n l p : ℕ) (e : judge sh today f ≡ Refused n l p) where
@@ -55,7 +55,7 @@ module _ (sh : Sheet) (today : ℕ) (f : List ℕ) (n l p : ℕ) (e : judge sh t
       let o = (refused sh today f n l p).0 e in
       let s = split-within (length f) o.before o.after (rw o.split at (lines-within f)) in
       rw (o.split, length-rev o.before o.after)
-      (broken-placed sh today (length f) (lawful-kept sh today (length f) o.lawful s.0) s.1 o.broken)
+      (broken-placed sh today (length f) o.broken (lawful-kept sh today (length f) o.lawful s.0) s.1)
 
   -- a refusal of a whole file is one of 3 to 15,
   pub judge-named : Judged n

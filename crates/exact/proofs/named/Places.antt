@@ -30,7 +30,7 @@ Laid size i (t ∷ ts) = (t.start ≡ i) × (t.start + length t.bytes ≤ size) 
 module _ (size : ℕ) where
   pub row_within : (i : ℕ) (ts : List Line) → InRow size i ts → Within size ts
   row_within i [] g = tt
-  row_within i (t ∷ ts) (s, l, w) = (l, row_within _ ts w)
+  row_within i (t ∷ ts) (s, l, w) = (l, row_within (t.start + length t.bytes) ts w)
 
   row_before : (i j : ℕ) (ts : List Line) → j ≤ i → InRow size i ts → InRow size j ts
   row_before i j [] h g = tt
