@@ -34,7 +34,7 @@ use text::span::{Part, Span, Spans, gather, one_part, part_at};
 use text::{Begun, begin_text, name_at};
 
 // Who pays whom how much.
-#[derive(Drop)]
+#[derive(Clone, Copy)]
 pub struct Paid {
     pub payerprefix: u64,
     pub payerbase: u64,
@@ -44,7 +44,7 @@ pub struct Paid {
 }
 
 // The fields before the tail.
-#[derive(Drop)]
+#[derive(Clone, Copy)]
 pub struct Front {
     pub paid: Paid,
     pub variable: u64,
