@@ -1,11 +1,13 @@
-"""What tools/edits.py, tools/contracts.py and tools/definitions.py share: copies of crates, asked of the prover over the modules that
-`rt check` left of them.
+"""What tools/edits.py, tools/contracts.py and tools/definitions.py share: copies of the repository's crates with what `rt check` kept of them, in which
+edits are tried one after another.
 
-The prover takes a module over only if the module and all that it imports are unchanged, and checks the others. So what it refuses there it
-refuses in a check from nothing too, and a wrong program costs what it touches. A library's rlib has its proved modules under the names by
-which the prover keeps them between checks (--incremental): they are copied from there.
+A check begins with what earlier ones kept, and checks what an edit changes and what stands on that. So what the prover refuses there it refuses in a
+check from nothing too, and a wrong program costs what it touches.
 """
+import contextlib
+import os
 import pathlib
+import queue
 import re
 import shutil
 import subprocess
@@ -15,20 +17,22 @@ ROOT = pathlib.Path(__file__).resolve().parent.parent
 PARTS = ("src", "specs", "proofs")
 FUNCTION = re.compile(r"^( *)(?:pub )?(?:extern \"C\" )?fn (\w+)")
 
-# A fact fails: there is no proof of it, it does not follow, something of it is left to prove ..
-FACT = re.compile(r"no proof of|the goal does not follow|give a proof of that|it is not proved that")
+# A fact fails: there is no proof of it, it does not follow, something of it is left to prove, or values are known at which it is false ..
+FACT = re.compile(r"no proof of|did not prove `|may be false|goal is false|is false at|the goal does not follow|give a proof of that|it is not proved that|`omega`|`grind`|`cc`")
 # .. or it is an equation, or what the function ensures, and another one is proved; but not where a proof written out by hand has other
 # steps than the program.
 DIFFER = re.compile(r"the two types (first )?differ|the two types are `Path |expected type `[^`]*(≡|Path)[^`]*`, but this has type `[^`]*≡|expected type `([^` ]*\.)?[Rr]eads\.Post ")
 STEPS = re.compile(r"types\.Kit|prog\.Wp")
+# Said of a name that is gone, which shows nothing of a contract.
+NAMES = re.compile(r"is not in scope|has no field|that can be named from here|is no name")
 # Said of all that stands on something refused.
-FOLLOWS = re.compile(r"was not admitted|which (is|are) not proved")
+FOLLOWS = re.compile(r"was not admitted|was rejected|were rejected|(which|that) (is|are) not proved|it calls `|this file exports no")
 
 
 def stands_on(name):
     """The crates and the kit's libraries that crates.txt gives a crate."""
-    for line in (ROOT / "crates.txt").read_text().splitlines():
-        if line.startswith(f"{name}:"):
+    for line in (ROOT / "crates.txt").read_text(encoding="utf-8").splitlines():
+        if re.match(rf"{name}( staticlib)?:", line):
             return line.split(":")[1].split()
     sys.exit(f"crates.txt does not list {name}")
 
@@ -45,21 +49,67 @@ def below(name):
     return found
 
 
-def rlib(name):
-    return ROOT / "target/rlib" / f"{name}.rlib"
+def link(one, other):
+    """A module that was proved, as a link: a check puts another file in its place, and changes none. Any other file is copied."""
+    if one.endswith((".oantt", ".a")):
+        with contextlib.suppress(OSError):
+            return os.link(one, other)
+    return shutil.copy2(one, other)
 
 
-def copy(name, to):
-    """The crate's code, definitions and proofs."""
-    for part in PARTS:
-        if (ROOT / "crates" / name / part).is_dir():
-            shutil.copytree(ROOT / "crates" / name / part, to / part)
+class Tree:
+    """A copy of crates with what checks of them kept."""
+
+    def __init__(self, folder, names):
+        self.crates = folder / "crates"
+        self.crates.mkdir(parents=True)
+        kinds = {line.split(":")[0] for line in (ROOT / "crates.txt").read_text(encoding="utf-8").splitlines() if not line.startswith("#")}
+        lines = [f"{kind}: {' '.join(stands_on(kind.split()[0]))}\n" for kind in sorted(kinds) if kind and kind.split()[0] in names]
+        (folder / "crates.txt").write_text("".join(lines), encoding="utf-8")
+        for name in names:
+            shutil.copytree(ROOT / "crates" / name, self.crates / name, copy_function=link, symlinks=True)
+        for path in self.crates.glob("*/out/lock*"):
+            path.unlink()
+
+    def check(self, name):
+        """What the prover says of the crate, and of those below it that changed: its status and its words."""
+        done = subprocess.run(["rt", "check"], stdin=subprocess.DEVNULL, stdout=subprocess.PIPE, stderr=subprocess.STDOUT, cwd=self.crates / name)
+        lines = done.stdout.decode("utf-8", "replace").splitlines()
+        return done.returncode, "\n".join(line for line in lines if not line.startswith("so far:"))
+
+    @contextlib.contextmanager
+    def with_texts(self, texts):
+        """The crates with other texts for a while: pairs of a place below crates/ and its text."""
+        before = {file: (self.crates / file).read_text(encoding="utf-8") for file in texts}
+        try:
+            for file, text in texts.items():
+                (self.crates / file).write_text(text, encoding="utf-8")
+            yield
+        finally:
+            for file, text in before.items():
+                (self.crates / file).write_text(text, encoding="utf-8")
 
 
-def rt_check(crate, *words):
-    """What the prover says of the crate in that folder: its status and its words."""
-    done = subprocess.run(["rt", "check", str(crate), *words], stdout=subprocess.PIPE, stderr=subprocess.STDOUT, cwd=crate.parent)
-    return done.returncode, done.stdout.decode("utf-8", "replace")
+class Trees:
+    """So many copies, each lent to one at a time."""
+
+    def __init__(self, work, names, jobs):
+        self.free = queue.Queue()
+        for number in range(jobs):
+            self.free.put(Tree(work / str(number), names))
+
+    @contextlib.contextmanager
+    def lent(self):
+        tree = self.free.get()
+        try:
+            yield tree
+        finally:
+            self.free.put(tree)
+
+
+def jobs():
+    """A check takes more than one processor at times, so there are fewer than processors."""
+    return int(os.environ.get("RT_JOBS", max(1, (os.cpu_count() or 2) - 1)))
 
 
 def is_proved(status, said):
@@ -68,34 +118,21 @@ def is_proved(status, said):
 
 def is_refused(status, said):
     """Not proved: the prover was reached, and could tell."""
-    return status == 1 and re.search(r"^logic=not-proved", said, re.M) is not None
-
-
-class Modules:
-    """Folders with the modules that proofs left. The prover names the folder below such a one; the name is learnt with a crate of no code."""
-
-    def __init__(self, work):
-        crate, kept = work / "nothing", work / "kept"
-        (crate / "src").mkdir(parents=True)
-        (crate / "src/lib.rt").write_text("// Nothing.\n")
-        status, said = rt_check(crate, "--incremental", str(kept))
-        rooms = list(kept.iterdir()) if kept.is_dir() else []
-        if not is_proved(status, said) or len(rooms) != 1:
-            sys.exit(f"the prover keeps no modules between checks:\n{said}")
-        self.room = rooms[0].name
-
-    def put(self, names, folder):
-        (folder / self.room).mkdir(parents=True)
-        for name in names:
-            for module in (rlib(name) / "toolchain/checked").glob("*.oantt"):
-                shutil.copy(module, folder / self.room)
+    return status == 1 and re.search(r"^logic=not-proved|did not build, so nothing above", said, re.M) is not None
 
 
 def complaints(said):
-    """What the prover refuses by itself, in order, each with its place. What only follows from that is left out."""
-    found = re.findall(r"^(?:note: )?(\S+:\d+:\d+): (?:error: )?((?<=error: ).*|it is not proved that .*)$", said, re.M)
-    return [(place, words) for place, words in found if not FOLLOWS.search(words)]
+    """What the prover refuses by itself, in order, each with its place: one in a file, or a function of which a goal has no proof. What only follows
+    from that is left out."""
+    found = []
+    for line in said.splitlines():
+        at = re.match(r"(?:\./)?(\S+:\d+:\d+): error: (.*)", line) or re.match(r"fn (\S+): no proof: (.*)", line)
+        if at and not FOLLOWS.search(at[2]):
+            found.append((at[1], at[2]))
+    return found
 
 
 def is_fact(words):
+    if NAMES.search(words):
+        return False
     return FACT.search(words) is not None or (DIFFER.search(words) is not None and STEPS.search(words) is None)

@@ -1,7 +1,6 @@
 #!/usr/bin/env python3
 """Tries the wrong programs of crates/NAME/more-edits: the prover must refuse each, and because a fact fails. They are tried over what
-`rt check` proved (tools/copies.py), which comes first, and edits of different functions are tried together. So this takes a fraction of
-what `rt must-fail` takes, which proves the whole crate for each edit. The last line is 'N passed, M failed'.
+`rt all check` proved (tools/copies.py), which comes first, and edits of different functions are tried together. The last line is 'N passed, M failed'.
 
   tools/edits.py                  all edits of more-edits/, one check for each processor at a time (RT_JOBS says otherwise)
   tools/edits.py read write       those of these crates
@@ -25,15 +24,13 @@ of these, each edit is tried alone.
 """
 import argparse
 import concurrent.futures
-import os
 import pathlib
 import re
-import shutil
 import sys
 import tempfile
 import time
 
-from copies import FUNCTION, PARTS, ROOT, Modules, complaints, copy, is_fact, is_ours, is_proved, is_refused, rlib, rt_check, stands_on
+from copies import FUNCTION, PARTS, ROOT, Trees, below, complaints, is_fact, is_proved, is_refused, jobs
 
 
 def function_at(source, place):
@@ -68,6 +65,13 @@ def proved_with(crate, module, name):
         if name in folder.name.split("+"):
             return f"{module}/{folder.name}"
     return f"{module}/{name}"
+
+
+def module_and_name(crate, path):
+    """Of a function that the prover names by its path, as crate::module::Type::name, the module and the name."""
+    parts = path.split("::")[1:]
+    module = parts[0] if len(parts) > 1 and (ROOT / "crates" / crate / f"src/{parts[0]}.rt").is_file() else ""
+    return module, parts[-1]
 
 
 def function_of(place, crate):
@@ -137,14 +141,17 @@ class Edit:
         return module, function_at(text, at + len(old) - len(old.lstrip())) if parts[0] == "src" else None
 
 
-def apply(edits, crate):
-    """Makes the edits' replacements in a copy of the crate, each where its text stands in the crate as it is."""
-    pairs = [pair for edit in edits for pair in edit.pairs]
-    for file in {file for file, _, _, _ in pairs}:
-        text = (crate / file).read_text(encoding="utf-8")
-        for at, old, new in sorted(((found_at(text, behind, old), old, new) for f, behind, old, new in pairs if f == file), reverse=True):
+def edited(edits):
+    """The texts of the crate's files with the edits' replacements, each made where its text stands in the crate as it is."""
+    pairs = [(edit.crate, *pair) for edit in edits for pair in edit.pairs]
+    texts = {}
+    for name, file in {(name, file) for name, file, *_ in pairs}:
+        text = (ROOT / "crates" / name / file).read_text(encoding="utf-8")
+        own = [(found_at(text, behind, old), old, new) for n, f, behind, old, new in pairs if (n, f) == (name, file)]
+        for at, old, new in sorted(own, reverse=True):
             text = text[:at] + new + text[at + len(old) :]
-        (crate / file).write_text(text, encoding="utf-8")
+        texts[f"{name}/{file}"] = text
+    return texts
 
 
 def is_public(edit):
@@ -166,45 +173,34 @@ def chosen(edits, most):
 
 
 class Crate:
-    """A crate with its edits, tried over the modules that its proof left."""
+    """A crate with its edits, tried in a copy over what its proof left."""
 
-    def __init__(self, name, edits, work, modules, keep):
-        self.name, self.edits, self.work, self.modules, self.keep = name, edits, work / name, modules, keep
-        self.kept = self.work / "kept"
+    def __init__(self, name, edits, trees, keep):
+        self.name, self.edits, self.trees, self.keep = name, edits, trees, keep
         self.checks = 0
 
-    def ask(self, crate, kept):
+    def ask(self, tree):
         self.checks += 1
-        deps = stands_on(self.name)
-        words = ["--deps", ",".join(d for d in deps if not is_ours(d)), "--incremental", str(kept)]
-        for d in filter(is_ours, deps):
-            words += ["--extern", f"{d}={rlib(d)}"]
-        status, said = rt_check(crate, *words, "-L", f"dependency={ROOT / 'target/rlib'}")
-        return status, said.replace(f"{crate}/", "")
+        return tree.check(self.name)
 
-    def is_proved(self):
-        """Whether the crate as it is, copied as the edited ones are, is proved over the modules of its proof."""
-        self.modules.put([self.name], self.kept)
-        crate = self.work / "plain" / self.name
-        copy(self.name, crate)
-        return is_proved(*self.ask(crate, self.kept))
-
-    def refusals(self, edits):
+    def refusals(self, tree, edits):
         """The prover's complaints of a program with these edits, each with its function; or why there are none."""
-        label = ".".join(e.label for e in edits)[:200]
-        place = self.work / label
-        crate = place / self.name
-        copy(self.name, crate)
-        apply(edits, crate)
-        shutil.copytree(self.kept, place / "kept")
-        status, said = self.ask(crate, place / "kept")
-        found = [(proved_with(self.name, module_of(self.name, at.split(":")[0]), function_of(at, crate)), at, words) for at, words in complaints(said)]
+        with tree.with_texts(edited(edits)):
+            status, said = self.ask(tree)
+            crate = tree.crates / self.name
+            found = [(self.proof_of(at, crate), at, words) for at, words in complaints(said)]
         if self.keep:
-            (self.keep / f"{self.name}.{label}.log").write_text(said)
-        shutil.rmtree(place)
+            (self.keep / f"{self.name}.{'.'.join(e.label for e in edits)[:200]}.log").write_text(said)
         if is_refused(status, said):
             return found, "refused, but the prover does not say why"
-        return [], "NOT REFUSED" if status == 0 else f"the prover was not reached or could not tell (exit {status}): {said[:300]}"
+        return [], "NOT REFUSED" if status == 0 else f"the prover was not reached or could not tell (exit {status}): {said[-300:]}"
+
+    def proof_of(self, at, crate):
+        """Where the proof lies of the function that a complaint is of."""
+        if "::" in at:
+            module, name = module_and_name(self.name, at)
+            return proved_with(self.name, module, name)
+        return proved_with(self.name, module_of(self.name, at.split(":")[0]), function_of(at, crate))
 
     def judge(self, edit, found, otherwise):
         """Whether the first complaint is that a fact fails, and a line about the edit."""
@@ -228,17 +224,17 @@ class Crate:
                 rounds.append([edit])
         return rounds + [[e] for e in self.edits if not e.proof]
 
-    def tried(self):
+    def tried(self, tree):
         """Yields for each edit whether it passes, and a line about it."""
         for edit in [e for e in self.edits if e.wrong]:
             yield False, f"{self.name}/{edit.label}: {edit.wrong}"
         self.edits = [e for e in self.edits if not e.wrong]
-        if not self.is_proved():
+        if not is_proved(*self.ask(tree)):
             for edit in self.edits:
                 yield False, f"{self.name}/{edit.label}: the crate is not proved as it is, so that a refusal would say nothing"
             return
         for edits in self.rounds():
-            found, otherwise = self.refusals(edits)
+            found, otherwise = self.refusals(tree, edits)
             together = len(edits) > 1 and {f for f, _, _ in found} == {e.proof for e in edits}
             for edit in edits:
                 if together:
@@ -246,12 +242,12 @@ class Crate:
                 elif len(edits) == 1:
                     yield self.judge(edit, found, otherwise)
                 else:
-                    yield self.judge(edit, *self.refusals([edit]))
+                    yield self.judge(edit, *self.refusals(tree, [edit]))
 
     def run(self):
-        began = time.time()
-        lines = list(self.tried())
-        shutil.rmtree(self.work, ignore_errors=True)
+        with self.trees.lent() as tree:
+            began = time.time()
+            lines = list(self.tried(tree))
         return lines, f"{self.name}: {len(lines)} edits in {self.checks} checks, {time.time() - began:.0f} s"
 
 
@@ -287,15 +283,15 @@ def main():
         return listed(edits)
     passed = failed = 0
     with tempfile.TemporaryDirectory() as folder:
-        work = pathlib.Path(folder).resolve()
-        modules = Modules(work)
+        names = sorted({e.crate for e in edits})
+        trees = Trees(pathlib.Path(folder).resolve(), sorted({d for name in names for d in below(name)}), jobs())
         crates = []
-        for name in sorted({e.crate for e in edits}):
+        for name in names:
             own = [e for e in edits if e.crate == name]
-            crates.append(Crate(name, chosen(own, asked.most) if asked.most else own, work, modules, asked.keep))
+            crates.append(Crate(name, chosen(own, asked.most) if asked.most else own, trees, asked.keep))
         # those with most edits first, so that no processor is left with a long one at the end
         crates.sort(key=lambda c: -len(c.edits))
-        with concurrent.futures.ThreadPoolExecutor(int(os.environ.get("RT_JOBS", os.cpu_count() or 1))) as pool:
+        with concurrent.futures.ThreadPoolExecutor(jobs()) as pool:
             for lines, sentence in pool.map(Crate.run, crates):
                 for good, line in lines:
                     print(line if good else f"failed: {line}")

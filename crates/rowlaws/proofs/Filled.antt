@@ -116,7 +116,7 @@ runs-groups : (kind : ℕ) (b : Bool) (gs : List Group) (r : List Due) → ((i :
 unfolding group_dues single_after
 runs-groups kind b [] r h = (tt, h b)
 runs-groups kind b (g ∷ gs) r h =
-    (tt, runs-items (for_item kind g.date (is_nobody g.payer)) g.items _ (runs-groups kind _ gs r h))
+    (tt, runs-items (for_item kind g.date (is_nobody g.payer)) g.items _ (runs-groups kind (is_nobody g.payer) gs r h))
 
 runs-files : (h : Header) (seen : List ℕ) (fs : List AccountFile) (b : Bool) → Runs b (file_dues h seen fs)
 unfolding file_dues single_after

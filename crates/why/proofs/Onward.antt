@@ -31,7 +31,7 @@ onward-on : {m c l b : ℕ} {xs ys : List Finding} → Goes m c l b xs → Onwar
 onward-on {l = l} {b = b} (stays h i) o = onward-from l b h i o
 onward-on (goes h i g) o = next h i (onward-on g o)
 
-goes-on : {m c l b : ℕ} {n d : ℕ} {xs ys : List Finding} → Goes n d l b xs → Goes m c n d ys → Goes m c l b (xs ++ ys)
+goes-on : {m c n d l b : ℕ} {xs ys : List Finding} → Goes n d l b xs → Goes m c n d ys → Goes m c l b (xs ++ ys)
 goes-on {l = l} {b = b} (stays h i) g = goes-from l b h i g
   where
     goes-from : {m c n d : ℕ} {xs : List Finding} (k a : ℕ) → k ≤ n → a ≤ d → Goes m c n d xs → Goes m c k a xs

@@ -47,6 +47,8 @@ module _ (sh : Sheet) (today : ℕ) (c : Context) (w : List ℕ) (from : ℕ) wh
         → Clear sh today c w from at → ((v : X) → x ≡ value v → Clear sh today c w from (at + n) → Tells (k v) j) → Tells (on_field at x k) (on_tested name at n q j)
     unfolding on_field on_tested
     on name at n (value v) kept takes e clear h = h v refl (keeps n name clear e)
+    on name at n (value v) (broke r) a e clear h = elim a [ ]
+    on name at n (fault m) kept a e clear h = elim a [ ]
     on name at n (fault m) (broke r) (refuses g) e clear h = by-rule g clear e
 
     -- .. of a line that is too short for it

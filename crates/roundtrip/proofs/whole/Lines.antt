@@ -4,6 +4,7 @@ use mathlib.Core.Bool.{true}
 use mathlib.Core.List.{List, [], ◌∷◌}
 use Prim.Native.Nat.{ℕ, ◌+◌, ◌≤◌}
 use native.Mathlib.Omega.{arith}
+use lib.ListN.{length}
 use borrow.Author.Tests.{eq-eqb}
 use Rattle.base.proofs.Cases.{pick_true}
 use Rattle.sheet.specs.declared.Sheet.{Sheet}
@@ -100,4 +101,4 @@ module _ (sh : Sheet) (today : ℕ) where
     lines-back i [] f = refl
     lines-back i (d ∷ ds) (f, g) =
         rw (line_first i (spell sh d.entry) (text_of sh ds) (line_plain sh today d.context sane d.entry f))
-        (_, _, fits-says d.context d.entry f, lines-back _ ds g, refl)
+        (_, _, fits-says d.context d.entry f, lines-back (i + length (spell sh d.entry) + 2) ds g, refl)
