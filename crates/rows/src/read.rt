@@ -8,7 +8,7 @@ ghost use Rattle.rows.specs.read.Told.{told, span_here, sides_here, symbols_here
 use text::span::Span;
 
 // An item's row. No payer is prefix and base 0; the texts may lie outside what was lent. The reference is the caller's own, and no item's.
-#[derive(Drop)]
+#[derive(Clone, Copy)]
 pub struct ItemRow {
     pub payerprefix: u64,
     pub payerbase: u64,
