@@ -34,7 +34,7 @@ use text::span::{Part, Span, Spans, gather, one_part, part_at};
 use text::{Begun, begin_text, name_at};
 
 // Who pays whom how much.
-#[derive(Drop)]
+#[derive(Clone, Copy)]
 pub struct Paid {
     pub payerprefix: u64,
     pub payerbase: u64,
@@ -44,7 +44,7 @@ pub struct Paid {
 }
 
 // The fields before the tail.
-#[derive(Drop)]
+#[derive(Clone, Copy)]
 pub struct Front {
     pub paid: Paid,
     pub variable: u64,
@@ -55,7 +55,7 @@ pub struct Front {
 }
 
 // The tail of an item's line: a specific symbol and no text, or a symbol and where its text begins.
-#[derive(Drop)]
+#[derive(Clone, Copy)]
 pub enum Tail {
     Plain(u64),
     Text(u64, usize),
