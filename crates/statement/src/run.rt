@@ -11,7 +11,7 @@ use turnover::Turns;
 use turnover::signed::Signed;
 
 // Where a head's fields are that sums are refused at.
-#[derive(Drop)]
+#[derive(Clone, Copy)]
 pub struct Spots {
     pub new: u64,
     pub debit: u64,
@@ -20,7 +20,7 @@ pub struct Spots {
 
 // What stands before a record: whether a statement is open; then how many records stand before its head, what the head says, and the
 // turnovers of its movements so far.
-#[derive(Drop)]
+#[derive(Clone, Copy)]
 pub struct Run {
     pub begun: bool,
     pub head: u64,
@@ -32,21 +32,21 @@ pub struct Run {
 }
 
 // What a statement that is over comes to: nothing is wrong, or the refusal's number and place.
-#[derive(Drop)]
+#[derive(Clone, Copy)]
 pub enum Closed {
     Fine,
     Refused(u64, u64),
 }
 
 // What a record leads to: what stands before the next one; or a refusal, its number, how many records stand before it, its place.
-#[derive(Drop)]
+#[derive(Clone, Copy)]
 pub enum Step {
     On(Run),
     Refused(u64, u64, u64),
 }
 
 // What all records come to: their count, or the refusal.
-#[derive(Drop)]
+#[derive(Clone, Copy)]
 pub enum Judged {
     Accepted(u64),
     Refused(u64, u64, u64),
