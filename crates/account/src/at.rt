@@ -19,7 +19,7 @@ ghost use Rattle.numeral.specs.placed.Known.{There};
 use numeral::field::Passed;
 
 // Digits that were read: their number, their sum by doubling, and the place behind them.
-#[derive(Drop)]
+#[derive(Clone, Copy)]
 struct Sums {
     pub value: u64,
     pub sum: u64,
@@ -138,7 +138,7 @@ pub fn judge_account(s: &[u8], at: usize, joined: bool, least: usize) -> Passed
 }
 
 // What judging keeps of a group's payer: whether it is nobody, and where the field ends; or the refusal's number.
-#[derive(Drop)]
+#[derive(Clone, Copy)]
 pub enum PayerAt {
     At(bool, usize),
     Refused(u64),
@@ -192,7 +192,7 @@ pub fn judge_payer(
 // ---- taken
 
 // An account's prefix and base, and where its field ends.
-#[derive(Drop)]
+#[derive(Clone, Copy)]
 pub struct Account {
     pub prefix: u64,
     pub base: u64,

@@ -148,7 +148,7 @@ pub fn judge_bank(s: &[u8], at: usize, ranked: bool, own: u64, banks: Banks) -> 
 // ---- taken
 
 // Payee bank, constant symbol and priority, how many warnings their field gives, and where it ends.
-#[derive(Drop)]
+#[derive(Clone, Copy)]
 pub struct Bank {
     pub bank: u64,
     pub constant: u64,

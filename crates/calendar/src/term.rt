@@ -7,7 +7,7 @@ ghost use Rattle.calendar.specs.term.Allows.{allows};
 use sheet::Sheet;
 
 // Which payee banks the items of a group may have on its day: any, the sheet's own alone, or none.
-#[derive(Drop)]
+#[derive(Clone, Copy)]
 pub enum Banks {
     Any,
     Own,

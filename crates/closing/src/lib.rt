@@ -7,7 +7,7 @@ ghost use Rattle.paper.specs.ClosingLine.{plus_at, read_close};
 ghost use Rattle.closing.specs.Told.{told};
 
 // What a closing line says: that it closes, or the refusal's number and its place in the line.
-#[derive(Drop)]
+#[derive(Clone, Copy)]
 pub enum CloseRead {
     Closed,
     Refused(u64, usize),

@@ -6,7 +6,7 @@ pub mod line;
 use judge::group::{Counts, Held, Shelf};
 
 // Before the first line; between account files; in an account file, between groups; in a group.
-#[derive(Drop)]
+#[derive(Clone, Copy)]
 pub enum Stage {
     First,
     File(Counts),
@@ -15,7 +15,7 @@ pub enum Stage {
 }
 
 // Besides, the interval of the first line, 0 where there is none.
-#[derive(Drop)]
+#[derive(Clone, Copy)]
 pub struct Course {
     pub from: u64,
     pub to: u64,
@@ -23,7 +23,7 @@ pub struct Course {
 }
 
 // What a line leads to: where the pass stands behind it; or judging halts there.
-#[derive(Drop)]
+#[derive(Clone, Copy)]
 pub enum Move {
     On(Course),
     Halt,

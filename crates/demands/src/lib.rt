@@ -21,7 +21,7 @@ use statement::reading::AboStatement;
 use write::AboWritten;
 
 // two answers of reading
-#[derive(Drop)]
+#[derive(Clone, Copy)]
 pub struct TwoReadings {
     pub first: AboAnswer,
     pub second: AboAnswer,
@@ -39,14 +39,14 @@ pub fn read_twice(file: &[u8], sheet: u64, today: u64, a: &mut [u8], b: &mut [u8
 }
 
 // two answers of writing
-#[derive(Drop)]
+#[derive(Clone, Copy)]
 pub struct TwoWritings {
     pub first: AboWritten,
     pub second: AboWritten,
 }
 
 // a header as writing takes it, but for its name
-#[derive(Drop)]
+#[derive(Clone, Copy)]
 pub struct Head {
     pub date: u64,
     pub client: u64,
@@ -97,7 +97,7 @@ pub fn write_twice(
 }
 
 // two answers of explaining
-#[derive(Drop)]
+#[derive(Clone, Copy)]
 pub struct TwoTexts {
     pub first: AboText,
     pub second: AboText,
@@ -115,7 +115,7 @@ pub fn explain_twice(file: &[u8], sheet: u64, today: u64, a: &mut [u8], b: &mut 
 }
 
 // two answers of listing
-#[derive(Drop)]
+#[derive(Clone, Copy)]
 pub struct TwoLists {
     pub first: AboList,
     pub second: AboList,
@@ -133,7 +133,7 @@ pub fn findings_twice(file: &[u8], sheet: u64, today: u64, a: &mut [u8], b: &mut
 }
 
 // two answers of finding a line
-#[derive(Drop)]
+#[derive(Clone, Copy)]
 pub struct TwoLines {
     pub first: AboLine,
     pub second: AboLine,
@@ -149,7 +149,7 @@ pub fn line_twice(file: &[u8], line: u64) -> TwoLines
 }
 
 // the answers of writing, and of reading what was written
-#[derive(Drop)]
+#[derive(Clone, Copy)]
 pub struct Returned {
     pub written: AboWritten,
     pub read: AboAnswer,
@@ -202,7 +202,7 @@ pub fn write_and_read(
 // ---- statements
 
 // two answers of reading statements
-#[derive(Drop)]
+#[derive(Clone, Copy)]
 pub struct TwoStatementReadings {
     pub first: AboStatement,
     pub second: AboStatement,
@@ -231,7 +231,7 @@ pub fn statement_write_twice(rows: &[u8], a: &mut [u8], b: &mut [u8]) -> TwoWrit
 }
 
 // the answers of writing statements, and of reading what was written
-#[derive(Drop)]
+#[derive(Clone, Copy)]
 pub struct StatementsReturned {
     pub written: AboWritten,
     pub read: AboStatement,
@@ -263,7 +263,7 @@ pub fn statement_write_and_read(rows: &[u8], out: &mut [u8], back: &mut [u8]) ->
 // ---- the day's numbers
 
 // two answers of reading against a register
-#[derive(Drop)]
+#[derive(Clone, Copy)]
 pub struct TwoRegisteredReadings {
     pub first: AboAnswer,
     pub second: AboAnswer,
@@ -291,7 +291,7 @@ pub fn read_registered_twice(
 }
 
 // two answers of the calls on a register
-#[derive(Drop)]
+#[derive(Clone, Copy)]
 pub struct TwoRegisters {
     pub first: AboRegister,
     pub second: AboRegister,
@@ -338,7 +338,7 @@ pub fn register_give_back_twice(a: &mut [u8], b: &mut [u8], number: u64) -> TwoR
 }
 
 // the answers of a call on a register, and of the two questions behind it
-#[derive(Drop)]
+#[derive(Clone, Copy)]
 pub struct Asked {
     pub done: AboRegister,
     pub lowest: AboRegister,

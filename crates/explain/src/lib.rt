@@ -19,7 +19,7 @@ use tracing::file::Outcome;
 
 // The whole answer: number 0 and the bytes written, or 16 and the bytes needed; 1 and 2 with none.
 #[repr(C)]
-#[derive(Drop)]
+#[derive(Clone, Copy)]
 pub struct AboText {
     pub number: u64,
     pub bytes: u64,

@@ -15,7 +15,7 @@ use numeral::Num;
 use sheet::Sheet;
 
 // Every rule is kept, or the first that is broken: the refusal's number, the cause, and from what to what was allowed.
-#[derive(Drop)]
+#[derive(Clone, Copy)]
 pub enum Ruling {
     Kept,
     Broke {

@@ -14,7 +14,7 @@ use sheet::Sheet;
 
 // What is known where a line is reached: the account file's kind, the group's date and whether it has no payer of its own; the interval of the
 // first line, and which numbers of account files came before.
-#[derive(Drop)]
+#[derive(Clone, Copy)]
 pub struct Bearing {
     pub kind: u64,
     pub date: u64,

@@ -15,7 +15,7 @@ use sheet::Sheet;
 
 // The line breaks no rule; or its first fault: the refusal's number, the cause, the offset in the line, how many bytes were found there, the
 // field, and from what to what was allowed.
-#[derive(Drop)]
+#[derive(Clone, Copy)]
 pub enum Walk {
     Passed,
     Stopped {

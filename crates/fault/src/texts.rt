@@ -69,7 +69,7 @@ fn check_plain(f: &[u8], y: Style) -> Ruling
 // ---- a text with marks
 
 // How many parts a message has, and whether none is longer than 35 bytes.
-#[derive(Drop)]
+#[derive(Clone, Copy)]
 struct Measure {
     count: usize,
     short: bool,

@@ -19,7 +19,7 @@ use numeral::field::NumAt;
 use sheet::Sheet;
 
 // What the line says: the account file's kind and number; or the refusal's number and its offset in the line.
-#[derive(Drop)]
+#[derive(Clone, Copy)]
 pub enum FileRead {
     File { kind: u64, number: u64 },
     Refused(u64, usize),

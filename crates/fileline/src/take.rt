@@ -8,7 +8,7 @@ ghost use Rattle.fileline.specs.take.Any.{any_number};
 use sheet::Sheet;
 
 // An account file's kind and number.
-#[derive(Drop)]
+#[derive(Clone, Copy)]
 pub struct File {
     pub kind: u64,
     pub number: u64,

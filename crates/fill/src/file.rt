@@ -14,7 +14,7 @@ use scan::kind::LineKind;
 use sheet::Sheet;
 
 // What a line leaves: where the next row goes, and whether the items that follow are those of a single group.
-#[derive(Drop)]
+#[derive(Clone, Copy)]
 pub struct Step {
     pub next: usize,
     pub single: bool,

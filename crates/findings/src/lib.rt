@@ -17,7 +17,7 @@ use sheet::{Known, Sheet};
 // The whole answer: number 0, 1, 2 or 16; whether the file is refused; how many findings there are or, with 16, are needed; and the sheets that
 // accept the file, bit n - 1 for sheet n.
 #[repr(C)]
-#[derive(Drop)]
+#[derive(Clone, Copy)]
 pub struct AboList {
     pub number: u64,
     pub refused: u64,

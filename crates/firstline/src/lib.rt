@@ -12,7 +12,7 @@ use sheet::Sheet;
 
 // What a first line says: its fields, of which the name stands in the line from byte 10 to byte 30; nothing, where the sheet reads none;
 // or the refusal's number and its place in the line.
-#[derive(Drop)]
+#[derive(Clone, Copy)]
 pub enum FirstRead {
     Header {
         date: u64,

@@ -17,7 +17,7 @@ use sheet::Sheet;
 
 // What judging keeps of the line: whether the group is single, total and due date, how many warnings the line gives, and where in it the
 // total stands; or the refusal's number and its offset in the line.
-#[derive(Drop)]
+#[derive(Clone, Copy)]
 pub enum GroupRead {
     Group {
         single: bool,

@@ -9,7 +9,7 @@ ghost use Rattle.groupline.specs.take.Taken.{Opens};
 use sheet::Sheet;
 
 // A group's payer, prefix and base 0 where there is none, and its due date.
-#[derive(Drop)]
+#[derive(Clone, Copy)]
 pub struct Group {
     pub prefix: u64,
     pub base: u64,

@@ -15,14 +15,14 @@ use sheet::{Sheet, Style};
 use text::TextRead;
 
 // What the line says: an item's amount and how many warnings it gives; or the refusal's number and its offset in the line.
-#[derive(Drop)]
+#[derive(Clone, Copy)]
 pub enum Judged {
     Item { amount: u64, warnings: u64 },
     Refused(u64, usize),
 }
 
 // Where the payee begins; or the refusal's number and its offset in the line.
-#[derive(Drop)]
+#[derive(Clone, Copy)]
 pub enum PayeeFrom {
     At(usize),
     Refused(u64, usize),

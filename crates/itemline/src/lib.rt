@@ -8,7 +8,7 @@ pub mod take;
 use text::span::Spans;
 
 // The fields of an item, its texts by their places in the line, and how many warnings the line gives. No payer is prefix and base 0.
-#[derive(Drop)]
+#[derive(Clone, Copy)]
 pub struct Fields {
     pub payerprefix: u64,
     pub payerbase: u64,

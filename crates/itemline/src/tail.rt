@@ -10,7 +10,7 @@ use numeral::field::NumAt;
 
 // What the tail says: a symbol, which is 0 where it is missing, and no text; a symbol and where its text begins; or the refusal's
 // number and its offset in the line.
-#[derive(Drop)]
+#[derive(Clone, Copy)]
 pub enum TailRead {
     Plain(u64),
     Text(u64, usize),

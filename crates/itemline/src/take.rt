@@ -55,7 +55,7 @@ pub struct Front {
 }
 
 // The tail of an item's line: a specific symbol and no text, or a symbol and where its text begins.
-#[derive(Drop)]
+#[derive(Clone, Copy)]
 pub enum Tail {
     Plain(u64),
     Text(u64, usize),

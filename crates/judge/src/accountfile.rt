@@ -18,7 +18,7 @@ use sheet::Sheet;
 
 // Where reading stands: before an account file or its end, at a place with its line's number; before a group or the account file's end;
 // or at the answer.
-#[derive(Drop)]
+#[derive(Clone, Copy)]
 pub enum Left {
     File(usize, u64, Counts),
     Group(usize, u64, Counts, Shelf),
@@ -134,7 +134,7 @@ pub fn file_step(
 // ---- a group
 
 // What a group's line leads to: an open group, with what judging keeps in it; or a refusal's number and its byte.
-#[derive(Drop)]
+#[derive(Clone, Copy)]
 pub enum Opening {
     Group(Held),
     Refused(u64, u64),

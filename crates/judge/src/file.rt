@@ -19,7 +19,7 @@ use scan::line::Cut;
 use sheet::Sheet;
 
 // The header. A name, if it has one, is the file's bytes 10 to 29.
-#[derive(Drop)]
+#[derive(Clone, Copy)]
 pub struct Head {
     pub date: u64,
     pub client: u64,
@@ -29,7 +29,7 @@ pub struct Head {
 }
 
 // What a file comes to: a refusal's number, line and byte; or the header and the counts of rows and warnings.
-#[derive(Drop)]
+#[derive(Clone, Copy)]
 pub enum FileJudged {
     Refused(u64, u64, u64),
     Accepted {
@@ -40,14 +40,14 @@ pub enum FileJudged {
 }
 
 // What a file comes to, and the numbers seen by then.
-#[derive(Drop)]
+#[derive(Clone, Copy)]
 pub struct Ended {
     pub judged: FileJudged,
     pub seen: Seen,
 }
 
 // What holds for the whole file: the sheet, today, and the interval of the header.
-#[derive(Drop)]
+#[derive(Clone, Copy)]
 struct Terms {
     sheet: Sheet,
     today: u64,

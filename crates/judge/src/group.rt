@@ -14,7 +14,7 @@ use scan::kind::LineKind;
 use sheet::Sheet;
 
 // Of the whole file so far: account files, items, rows and warnings.
-#[derive(Drop)]
+#[derive(Clone, Copy)]
 pub struct Counts {
     pub files: u64,
     pub items: u64,
@@ -23,7 +23,7 @@ pub struct Counts {
 }
 
 // Of the open account file: items, and groups that are closed.
-#[derive(Drop)]
+#[derive(Clone, Copy)]
 pub struct Shelf {
     pub kind: u64,
     pub items: u64,
@@ -31,7 +31,7 @@ pub struct Shelf {
 }
 
 // Of the open group: whether it is single, its due date, its total with the line and byte where it stands, the sum and the count of its items.
-#[derive(Drop)]
+#[derive(Clone, Copy)]
 pub struct Open {
     pub single: bool,
     pub date: u64,
@@ -43,7 +43,7 @@ pub struct Open {
 }
 
 // What judging keeps in a group: of the whole file, of the account file, of the group.
-#[derive(Drop)]
+#[derive(Clone, Copy)]
 pub struct Held {
     pub counts: Counts,
     pub shelf: Shelf,
@@ -51,7 +51,7 @@ pub struct Held {
 }
 
 // What one line of a group says: an item's amount and warnings; that the group ends; or a refusal's number and its byte.
-#[derive(Drop)]
+#[derive(Clone, Copy)]
 pub enum Turn {
     Item { amount: u64, warnings: u64 },
     Close,
@@ -59,7 +59,7 @@ pub enum Turn {
 }
 
 // How a group ends: closed, with what stands behind it; or refused, by number, line and byte.
-#[derive(Drop)]
+#[derive(Clone, Copy)]
 pub enum GroupEnd {
     Closed {
         at: usize,

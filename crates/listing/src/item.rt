@@ -25,7 +25,7 @@ use text::span::{Span, Spans};
 use why::Finding;
 
 // The number of a line, and where it starts in the file.
-#[derive(Drop)]
+#[derive(Clone, Copy)]
 pub struct Here {
     pub line: u64,
     pub start: usize,

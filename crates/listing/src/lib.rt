@@ -12,7 +12,7 @@ use sheet::Sheet;
 use why::Finding;
 
 // How findings are told: in words or as numbers, on which sheet and which day.
-#[derive(Drop)]
+#[derive(Clone, Copy)]
 pub struct Telling {
     pub words: bool,
     pub sheet: Sheet,

@@ -11,7 +11,7 @@ ghost use Rattle.numeral.specs.field.Kept.{keeping, nothing};
 ghost use Rattle.numeral.specs.field.Told.{told, passed};
 
 // Digits that were read: their number, and the place behind them.
-#[derive(Drop)]
+#[derive(Clone, Copy)]
 pub struct Run {
     pub value: u64,
     pub end: usize,
@@ -66,7 +66,7 @@ pub fn ends(s: &[u8], at: usize) -> bool
 }
 
 // What a field of digits at its place says: its number and the field's end, or the refusal's number.
-#[derive(Drop)]
+#[derive(Clone, Copy)]
 pub enum NumAt {
     Value(u64, usize),
     Refused(u64),
@@ -89,7 +89,7 @@ pub fn number_at(s: &[u8], at: usize, least: usize, most: usize) -> NumAt
 }
 
 // What is known of a field of which nothing is kept: where it ends, or the refusal's number.
-#[derive(Drop)]
+#[derive(Clone, Copy)]
 pub enum Passed {
     At(usize),
     Refused(u64),

@@ -12,7 +12,7 @@ ghost use Rattle.paper.specs.Numerals.{digits, decimal, fixed};
 ghost use Rattle.numeral.specs.Told.{told};
 
 // What a field of digits says: its number, or the refusal's.
-#[derive(Drop)]
+#[derive(Clone, Copy)]
 pub enum Num {
     Value(u64),
     Refused(u64),

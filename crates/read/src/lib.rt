@@ -19,7 +19,7 @@ use sheet::{Known, Sheet};
 
 // The header of a file. The name is 20 bytes.
 #[repr(C)]
-#[derive(Drop)]
+#[derive(Clone, Copy)]
 pub struct AboHeader {
     pub date: u64,
     pub client: u64,
@@ -30,7 +30,7 @@ pub struct AboHeader {
 
 // The whole answer of reading: the number, its line and byte; counts of rows and warnings; the rows needed where there is no room; the header.
 #[repr(C)]
-#[derive(Drop)]
+#[derive(Clone, Copy)]
 pub struct AboAnswer {
     pub number: u64,
     pub line: u64,

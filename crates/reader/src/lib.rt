@@ -17,7 +17,7 @@ pub struct LineReader<'a> {
 
 // What stands at a place of a file. Either a line: where it starts, how many bytes it has without its end, and where the next one starts. Or
 // the file has ended there: an empty place, and nothing behind it.
-#[derive(Drop)]
+#[derive(Clone, Copy)]
 pub struct Found {
     pub line: bool,
     pub start: usize,
@@ -34,7 +34,7 @@ pub struct Step<'a> {
 
 // The line of a number, as a C program is told: found 1, where it starts and how many bytes it has; or found 0.
 #[repr(C)]
-#[derive(Drop)]
+#[derive(Clone, Copy)]
 pub struct AboLine {
     pub found: u64,
     pub at: u64,

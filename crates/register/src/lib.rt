@@ -12,7 +12,7 @@ ghost use Rattle.register.specs.Told.{told, Sound, told_answer};
 use fileline::seen::Seen;
 
 // A register taken out of lent bytes: whether they are laid out as one, its date, and its numbers.
-#[derive(Drop)]
+#[derive(Clone, Copy)]
 pub struct Loaded {
     pub laid: bool,
     pub date: u64,
@@ -21,7 +21,7 @@ pub struct Loaded {
 
 // The answer of a call: the number returned, and the value that it names, else 0.
 #[repr(C)]
-#[derive(Drop)]
+#[derive(Clone, Copy)]
 pub struct AboRegister {
     pub number: u64,
     pub value: u64,

@@ -11,7 +11,7 @@ use sheet::{Known, Sheet};
 
 // What is asked for: nothing, where the line or the input's length is refused with that number; or the file that begins at `at`, on a sheet
 // and a day.
-#[derive(Drop)]
+#[derive(Clone, Copy)]
 pub enum Request {
     Refused(u64),
     File { sh: Sheet, today: u64, at: usize },

@@ -21,7 +21,7 @@ pub fn part_clean(texts: &[u8], p: Span) -> bool
 }
 
 // Lent bytes from one place up to another.
-#[derive(Drop)]
+#[derive(Clone, Copy)]
 pub struct Stretch {
     pub from: usize,
     pub to: usize,

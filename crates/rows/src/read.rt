@@ -8,7 +8,7 @@ ghost use Rattle.rows.specs.read.Told.{told, span_here, sides_here, symbols_here
 use text::span::Span;
 
 // An item's row. No payer is prefix and base 0; the texts may lie outside what was lent. The reference is the caller's own, and no item's.
-#[derive(Drop)]
+#[derive(Clone, Copy)]
 pub struct ItemRow {
     pub payerprefix: u64,
     pub payerbase: u64,
@@ -29,7 +29,7 @@ pub struct ItemRow {
 }
 
 // An item's row in the order of its words, but for the last, its reference: who pays whom how much; the symbols; the texts.
-#[derive(Drop)]
+#[derive(Clone, Copy)]
 pub struct Sides {
     pub payerprefix: u64,
     pub payerbase: u64,
@@ -39,7 +39,7 @@ pub struct Sides {
     pub amount: u64,
 }
 
-#[derive(Drop)]
+#[derive(Clone, Copy)]
 pub struct Symbols {
     pub variable: u64,
     pub specific: u64,
@@ -47,7 +47,7 @@ pub struct Symbols {
     pub priority: u64,
 }
 
-#[derive(Drop)]
+#[derive(Clone, Copy)]
 pub struct Texts {
     pub part1: Span,
     pub part2: Span,
@@ -57,7 +57,7 @@ pub struct Texts {
 }
 
 // What a row is: an account file's kind and number; a group's due date and its payer's prefix and base; an item; none of them.
-#[derive(Drop)]
+#[derive(Clone, Copy)]
 pub enum RowRead {
     File(u64, u64),
     Group(u64, u64, u64),
@@ -66,7 +66,7 @@ pub enum RowRead {
 }
 
 // What a test of a row answers: it may stand, or the number of the field that is wrong.
-#[derive(Drop)]
+#[derive(Clone, Copy)]
 pub enum Check {
     Fine,
     Wrong(u64),

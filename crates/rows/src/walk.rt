@@ -11,7 +11,7 @@ ghost use Rattle.rows.specs.walk.Walks.{stage_of, before_of, Walks, verdict_of};
 use crate::read::{Check, ItemRow, RowRead};
 
 // What may come next: an account file, a group, an item, or any of them.
-#[derive(Drop)]
+#[derive(Clone, Copy)]
 pub enum Stage {
     NeedFile,
     NeedGroup,
@@ -20,7 +20,7 @@ pub enum Stage {
 }
 
 // Before a row: what may come next, account files, items of the last one, whether the last group is single, and its sum.
-#[derive(Drop)]
+#[derive(Clone, Copy)]
 pub struct Before {
     pub stage: Stage,
     pub files: u64,
@@ -30,14 +30,14 @@ pub struct Before {
 }
 
 // What a row leads to: what stands before the next one; or the field that is not as "The batch" says.
-#[derive(Drop)]
+#[derive(Clone, Copy)]
 pub enum Walk {
     On(Before),
     Wrong(u64),
 }
 
 // What the walk over all rows ends in: nothing is wrong, or what is wrong first, its row and its field.
-#[derive(Drop)]
+#[derive(Clone, Copy)]
 pub enum Walked {
     Fine,
     Wrong(u64, u64),

@@ -10,7 +10,7 @@ ghost use Rattle.scan.specs.line.Cutting.{Cuts};
 use crate::block::skip_high;
 
 // Where the bytes of a line stop, and where the next line starts.
-#[derive(Drop)]
+#[derive(Clone, Copy)]
 pub struct Cut {
     pub stop: usize,
     pub next: usize,

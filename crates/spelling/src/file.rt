@@ -16,7 +16,7 @@ use rows::read::RowRead;
 use sheet::Sheet;
 
 // What a row leaves: where the next line goes, and whether closing lines are due before the next group or account file.
-#[derive(Drop)]
+#[derive(Clone, Copy)]
 pub struct Step {
     pub next: usize,
     pub due: bool,

@@ -11,7 +11,7 @@ use record::Entry;
 
 // The whole answer: the number, its line and byte; the count of rows; the rows needed where there is no room.
 #[repr(C)]
-#[derive(Drop)]
+#[derive(Clone, Copy)]
 pub struct AboStatement {
     pub number: u64,
     pub line: u64,

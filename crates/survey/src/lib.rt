@@ -22,7 +22,7 @@ use fileline::seen::Seen;
 use sheet::Sheet;
 
 // What judging ends in: 20 or 21, at a row and a field; or the bytes of all lines behind the first.
-#[derive(Drop)]
+#[derive(Clone, Copy)]
 pub enum Surveyed {
     Improper(u64, u64),
     Unfit(u64, u64),

@@ -8,14 +8,14 @@ use rows::read::Check;
 use rows::walk::{Before, Stage};
 
 // The first thing that the sheet cannot carry (21): its row and field; row 0 where there is none so far.
-#[derive(Drop)]
+#[derive(Clone, Copy)]
 pub struct Found {
     pub row: u64,
     pub field: u64,
 }
 
 // Before a row: what refusal 20 counts; bytes that the rows before it take, but for the open group's total; what was found.
-#[derive(Drop)]
+#[derive(Clone, Copy)]
 pub struct State {
     pub before: Before,
     pub bytes: u64,
@@ -24,7 +24,7 @@ pub struct State {
 
 // What a row leads to: the state behind an item; behind a group, with its due date; behind an account file, with its kind and the first three
 // digits of its number; or the field that is not as "The batch" says (20).
-#[derive(Drop)]
+#[derive(Clone, Copy)]
 pub enum Step {
     Item(State),
     Group(State, u64),

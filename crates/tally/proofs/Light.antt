@@ -56,7 +56,7 @@ module _ (sh : Sheet) (sane : Sane sh) where
   light {today} {a} (lines.a-group {date = date} spot _ _ _ _ _) =
       let past = due_warnings a.here sh.warnpast today date in
       a-group {v = length (notices past_day spot past)} (omega (arith, notices-length past_day spot past, due-few a.here sh.warnpast today date))
-  light {a = a} (lines.an_item {amount = amount} {bank = bank} {texts = texts} at _ _ m _ b _ _ t) =
+  light {a = a} (lines.an-item {amount = amount} {bank = bank} {texts = texts} at _ _ m _ b _ _ t) =
       let low = notices low_priority at bank.warnings in
       let low-few = bank-warnings sh.priority b.0 bank (due-bank a.due sh.priority b.0 bank b.1).0 in
       let few : length (low ++ texts.warnings) ≤ 6 =

@@ -18,7 +18,7 @@ use sheet::Sheet;
 use why::Finding;
 
 // What a file comes to: what is found in it, of a refused one; or the counts of rows and warnings.
-#[derive(Drop)]
+#[derive(Clone, Copy)]
 pub enum Outcome {
     Found(Finding),
     Passed { rows: u64, warnings: u64 },
@@ -54,7 +54,7 @@ fn at_end(f: &[u8], line: u64, x: Course) -> Outcome
 }
 
 // Where some lines lead: on, to a line where the pass stands at x; or the file has come to its outcome.
-#[derive(Drop)]
+#[derive(Clone, Copy)]
 pub enum Ahead {
     On { at: usize, line: u64, x: Course },
     Over(Outcome),

@@ -10,7 +10,7 @@ use scan::line::Cut;
 use sheet::Sheet;
 
 // How far a pass comes along a group's lines: behind the one that closes it; to one where judging halts; or to the file's end.
-#[derive(Drop)]
+#[derive(Clone, Copy)]
 pub enum Far {
     Closed {
         at: usize,

@@ -25,7 +25,7 @@ use scan::line::Cut;
 use sheet::Sheet;
 
 // What a line leaves: where the next warning goes, the kind of the account file that is open, and whether the group that is open is single.
-#[derive(Drop)]
+#[derive(Clone, Copy)]
 pub struct Step {
     pub next: usize,
     pub kind: u64,

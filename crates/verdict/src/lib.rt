@@ -17,7 +17,7 @@ use sheet::{Known, Sheet};
 use tracing::file::Outcome;
 
 // What is to be said of a file: a refusal's number, line and byte; or number 0, and the counts of rows and warnings.
-#[derive(Drop)]
+#[derive(Clone, Copy)]
 pub struct Verdict {
     pub number: u64,
     pub line: u64,

@@ -4,7 +4,7 @@
 
 // A finding: the refusal's number, 0 for a warning; the cause, which tells apart what shares a number; the line and the byte, as reading gives
 // them; how many bytes were found there; the field; and what was allowed, 0 where there are no such bounds.
-#[derive(Drop)]
+#[derive(Clone, Copy)]
 pub struct Finding {
     pub number: u64,
     pub cause: u64,

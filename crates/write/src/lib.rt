@@ -23,7 +23,7 @@ use survey::Surveyed;
 
 // The whole answer of writing: the number, its row and field; the bytes written or, where there is no room, needed.
 #[repr(C)]
-#[derive(Drop)]
+#[derive(Clone, Copy)]
 pub struct AboWritten {
     pub number: u64,
     pub row: u64,
@@ -32,7 +32,7 @@ pub struct AboWritten {
 }
 
 // What judging a batch ends in: a refusal with its row and field, or the bytes of the whole file.
-#[derive(Drop)]
+#[derive(Clone, Copy)]
 pub enum BatchJudged {
     Refused(u64, u64, u64),
     Bytes(u64),
