@@ -11,7 +11,7 @@ use lib.Seq.{length-take-le}
 use borrow.Author.Tests.{ltb-true, ltb-false, eq-eqb, ne_eqb}
 use Rattle.base.specs.Pick.{pick}
 use Rattle.base.proofs.Cases.{by-test, by-eq, pick-both}
-use Rattle.paper.specs.Lines.{Line, line, lines_from}
+use Rattle.paper.specs.Lines.{Line, lines_from}
 use Rattle.scan.specs.line.Cutting.{Cuts}
 use Rattle.scan.proofs.line.Lines.{lines_none}
 use Rattle.reader.specs.declared.Found.{Found}

@@ -1,6 +1,5 @@
-// A reader of lines: a struct that borrows a file and keeps the place where the next line starts. The borrow checker covers no function over
-// such a struct, so each is thin and proved by a walk of its code, by hand; the work is in `line_at`, `passes` and `named`, which take plain
-// values and are covered. `line_of` stands above them: whoever calls it needs no walk.
+// A reader of lines: a struct that borrows a file and keeps the place where the next line starts. The functions over it are thin: the work is in
+// `line_at`, `passes` and `named`, which take plain values. `line_of` stands above them.
 #![tactic(auto)]
 
 pub mod shown;
