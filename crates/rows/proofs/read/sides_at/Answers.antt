@@ -1,0 +1,6 @@
+-- `sides_at`: its words, one call each. Assumes nothing.
+use Rattle.rows.proofs.read.Words.{parts}
+use Rattle.rows.proofs.read.sides_at.Goals as goal
+
+pub returns : goal.returns
+returns c = search parts
