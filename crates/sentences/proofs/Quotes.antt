@@ -7,7 +7,6 @@ use native.Mathlib.Omega.{arith}
 use lib.Dec.{ltb}
 use lib.ListN.{length, take, length-take}
 use Rattle.base.proofs.Cases.{either, pick-not}
-use Rattle.paper.specs.Bytes.{bytes}
 use borrow.Author.Tests.{ltb-true, ltb-false}
 use Rattle.sentences.specs.Printable.{is_printable}
 use Rattle.sentences.specs.Quoted.{is_plain, hex_digit, quoted_byte, quoted_bytes, of_how_many, quoted, quoted_or}
