@@ -1,0 +1,35 @@
+-- `from_file` meets its contract: an account file begins, or judging halts at each other kind of line. Assumes nothing.
+use borrow.Author.Rules.{rules}
+use Rattle.tally.specs.Tally.{is_due}
+use Rattle.course.proofs.line.Leading.{others-halt}
+use Rattle.course.proofs.line.from_file.Goals as goal
+
+pub kind_of-requires : goal.kind_of-requires
+kind_of-requires c = search (others-halt, rules)
+
+pub open_file-requires : goal.open_file-requires
+open_file-requires c = search (others-halt, rules)
+
+pub returns-in-File : goal.returns-in-File
+unfolding is_due
+returns-in-File c = search (others-halt, rules)
+
+pub returns-in-Head : goal.returns-in-Head
+unfolding is_due
+returns-in-Head c = search (others-halt, rules)
+
+pub returns-in-Group : goal.returns-in-Group
+unfolding is_due
+returns-in-Group c = search (others-halt, rules)
+
+pub returns-in-Item : goal.returns-in-Item
+unfolding is_due
+returns-in-Item c = search (others-halt, rules)
+
+pub returns-in-GroupEnd : goal.returns-in-GroupEnd
+unfolding is_due
+returns-in-GroupEnd c = search (others-halt, rules)
+
+pub returns-in-FileEnd : goal.returns-in-FileEnd
+unfolding is_due
+returns-in-FileEnd c = search (others-halt, rules)
