@@ -15,7 +15,7 @@ use Rattle.base.proofs.Lists.{drop-none}
 use Rattle.sheet.specs.declared.Style.{Style}
 use Rattle.paper.specs.Warnings.{long_name}
 use Rattle.paper.specs.Bytes.{av, np, mark, null}
-use Rattle.paper.specs.Texts.{piece, divide, over, overs, cuts, taken, parts_taken, message_end}
+use Rattle.paper.specs.Texts.{piece, divide, over, overs, taken, parts_taken, message_end}
 use Rattle.text.proofs.Right.{none-taken, divide-taken}
 use Rattle.why.specs.Rule.{within, first_broken}
 use Rattle.why.specs.Texts.{unmarked, is_name, begins, parts_of, name_of, are_short, are_taken, marked_rules}

@@ -13,8 +13,8 @@ use Rattle.base.proofs.Cases.{pick_true, pick-false}
 use Rattle.base.proofs.Seek.{seek-le}
 use Rattle.base.proofs.Lists.{drop-none}
 use Rattle.sheet.specs.declared.Style.{Style}
-use Rattle.paper.specs.Bytes.{is_text, bar, av}
-use Rattle.paper.specs.Texts.{cuts, opens, taken, lacks}
+use Rattle.paper.specs.Bytes.{is_text, bar}
+use Rattle.paper.specs.Texts.{opens, taken, lacks}
 use Rattle.why.specs.Rule.{Rule, rule, within, first_broken}
 use Rattle.why.specs.Texts.{is_message, begins, parts_of, are_few, are_short, are_taken, is_short, marked_rules, plain_rules, text_rules}
 use Rattle.fault.specs.declared.field.Ruling.{Ruling}

@@ -10,7 +10,7 @@ use Rattle.base.specs.Pick.{pick}
 use Rattle.base.proofs.Lists.{drop-take}
 use Rattle.base.proofs.Seek.{never}
 use Rattle.sheet.specs.declared.Sheet.{Sheet}
-use Rattle.paper.specs.Batch.{Header, no_header}
+use Rattle.paper.specs.Batch.{no_header}
 use Rattle.paper.specs.Lines.{lines_of, lines_from}
 use Rattle.paper.specs.Entries.{counted, head_line, kind_of, on_head, on_entry}
 use Rattle.paper.specs.FirstLine.{read_first}

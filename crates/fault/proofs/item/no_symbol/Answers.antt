@@ -1,0 +1,17 @@
+-- `no_symbol`: whether what stands at `at` is no symbol, where a text may stand for it (`bare`). Assumes nothing.
+use borrow.Author.Rules.{rules}
+use Rattle.fault.proofs.line.Steps.{steps}
+use Rattle.fault.proofs.item.Onward.{bares}
+use Rattle.fault.proofs.item.no_symbol.Goals as goal
+
+pub slice_bounds-check_digits-end : goal.slice_bounds-check_digits-end
+slice_bounds-check_digits-end c = search (bares, steps, rules)
+
+pub returns-in-Kept : goal.returns-in-Kept
+returns-in-Kept c = search (bares, steps)
+
+pub returns-in-Broke : goal.returns-in-Broke
+returns-in-Broke c = search (bares, steps)
+
+pub returns : goal.returns
+returns c = search (bares, steps)

@@ -1,0 +1,22 @@
+-- `walk_file`: `1 KIND NUMBER BANK`, of a line that begins so. Assumes nothing.
+use borrow.Author.Rules.{rules}
+use Rattle.why.specs.Walk.{why_file}
+use Rattle.why.specs.Names.{field_number}
+use Rattle.why.specs.Fields.{rules_of}
+use Rattle.fault.proofs.line.Steps.{numbered}
+use Rattle.fault.proofs.line.walk_file.Goals as goal
+
+pub slice_bounds-check_kind-end : goal.slice_bounds-check_kind-end
+slice_bounds-check_kind-end c = search (numbered, rules)
+
+pub returns-then-end-s : goal.returns-then-end-s
+unfolding rules_of field_number why_file
+returns-then-end-s c = search numbered
+
+pub returns-in-Broke : goal.returns-in-Broke
+unfolding rules_of field_number why_file
+returns-in-Broke c = search numbered
+
+pub returns-else-end-s : goal.returns-else-end-s
+unfolding rules_of field_number why_file
+returns-else-end-s c = search numbered

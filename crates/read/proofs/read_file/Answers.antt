@@ -1,0 +1,13 @@
+-- `read_file` reads on the sheet that the number names.
+use borrow.Author.Rules.{rules}
+use Rattle.read.proofs.Exits.{sheets}
+use Rattle.read.proofs.read_file.Goals as goal
+
+pub read_on-requires : goal.read_on-requires
+read_on-requires c = search (sheets, rules)
+
+pub returns-in-Sheet : goal.returns-in-Sheet
+returns-in-Sheet c = search sheets
+
+pub returns-in-Nothing : goal.returns-in-Nothing
+returns-in-Nothing c = search sheets

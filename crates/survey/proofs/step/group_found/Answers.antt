@@ -1,0 +1,9 @@
+-- `group_found`: the first fault for 21 stays, else the row's own is found. Assumes nothing.
+use Rattle.survey.proofs.step.Finding.{stays, finding}
+use Rattle.survey.proofs.step.group_found.Goals as goal
+
+pub returns-then-found-gt0 : goal.returns-then-found-gt0
+returns-then-found-gt0 c = λ h p e. search stays
+
+pub returns : goal.returns
+returns c = search finding

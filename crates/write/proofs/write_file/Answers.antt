@@ -1,0 +1,13 @@
+-- `write_file` writes on the sheet that the number names.
+use borrow.Author.Rules.{rules}
+use Rattle.write.proofs.Exits.{sheets}
+use Rattle.write.proofs.write_file.Goals as goal
+
+pub write_on-requires : goal.write_on-requires
+write_on-requires c = search (sheets, rules)
+
+pub returns-in-Sheet : goal.returns-in-Sheet
+returns-in-Sheet c = search sheets
+
+pub returns-in-Nothing : goal.returns-in-Nothing
+returns-in-Nothing c = search sheets
