@@ -1,7 +1,7 @@
 #!/usr/bin/env python3
 """Takes promises (`ensures`) away from the exported calls, and looks that a demand falls with each: `demands` has functions that make the
 calls and promise what the demands say, so that each promise of each call is used. The prover must refuse `demands` and nothing below it,
-in the function that makes the call twice, because a fact fails. What is not touched is taken over from what `rt check` proved
+in the function that makes the call twice, because a fact fails. What is not touched is taken over from what `rt all check` proved
 (tools/copies.py), which comes first. The last line is 'N passed, M failed'.
 
   tools/contracts.py          one promise of each call at a time, as in the gate: first their last ones, then those before
@@ -13,7 +13,7 @@ import sys
 import tempfile
 import time
 
-from copies import ROOT, Modules, complaints, copy, is_fact, is_ours, is_proved, is_refused, rlib, rt_check, stands_on
+from copies import ROOT, Tree, below, complaints, is_fact, is_proved, is_refused
 
 CALLS = ("abo", "tell", "enrol")
 ABOVE = "demands"
@@ -24,7 +24,7 @@ def promises():
     calls, name = {}, None
     for crate in CALLS:
         for line in (ROOT / "crates" / crate / "src/lib.rt").read_text(encoding="utf-8").splitlines():
-            found = re.match(r'pub extern "C" fn (\w+)', line)
+            found = re.match(r"pub fn (\w+)", line)
             name = found.group(1) if found else None if line.startswith("}") else name
             if name and line.strip().startswith("ensures"):
                 calls.setdefault(name, []).append(line)
@@ -41,18 +41,6 @@ def rounds(one):
     return [[(call, number) for call, number in every if len(calls[call]) - number == behind] for behind in range(most)]
 
 
-def ask(tree, kept):
-    """What the prover says of the crate above, with the calls from their source and all else as it is proved."""
-    words = ["--incremental", str(kept), "-L", f"dependency={ROOT / 'target/rlib'}"]
-    below = dict.fromkeys(name for crate in (*CALLS, ABOVE) for name in stands_on(crate))
-    for name in filter(is_ours, below):
-        if name in CALLS:
-            words += ["--lib", f"{name}:{','.join(stands_on(name))}={tree / name / 'src/lib.rt'}"]
-        else:
-            words += ["--extern", f"{name}={rlib(name)}"]
-    return rt_check(tree / ABOVE, *words)
-
-
 def without(texts, pairs):
     """The sources of the calls' crates without these promises."""
     for call, number in pairs:
@@ -64,43 +52,36 @@ def without(texts, pairs):
     return texts
 
 
-def refused(tree, kept, pairs):
+def refused(tree, pairs):
     """What the prover says of the crate above without these promises: a reason that it shows nothing, or None; and its complaints."""
-    sources = [tree / crate / "src/lib.rt" for crate in CALLS]
-    texts = [source.read_text(encoding="utf-8") for source in sources]
-    for source, text in zip(sources, without(texts, pairs)):
-        source.write_text(text, encoding="utf-8")
-    status, said = ask(tree, kept)
-    for source, text in zip(sources, texts):
-        source.write_text(text, encoding="utf-8")
-    found = complaints(said.replace(f"{tree}/", ""))
-    others = [place for place, _ in found if not place.startswith(f"{ABOVE}/")]
+    sources = [f"{crate}/src/lib.rt" for crate in CALLS]
+    texts = [(tree.crates / source).read_text(encoding="utf-8") for source in sources]
+    with tree.with_texts(dict(zip(sources, without(texts, pairs)))):
+        status, said = tree.check(ABOVE)
+    found = complaints(said)
+    fell = re.search(r"^rt: the library (\w+) did not build", said, re.M)
     if not is_refused(status, said) or not found:
         return f"{ABOVE} is not refused (exit {status}): {said[-300:]}", found
-    return f"what is refused is not only {ABOVE}: {others[0]}" if others else None, found
+    return f"what is refused is not only {ABOVE}: {fell[1]}" if fell else None, found
 
 
 def falls(call, found):
     """Where a fact fails in the function that makes the call twice, or None."""
-    mine = f"{ABOVE}/proofs/{call.removeprefix('abo_')}_twice/"
-    return next((place for place, words in found if place.startswith(mine) and is_fact(words)), None)
+    mine = f"{call.removeprefix('abo_')}_twice"
+    return next((place for place, words in found if place.startswith((f"proofs/{mine}/", f"{ABOVE}::{mine}")) and is_fact(words)), None)
 
 
 def main():
     passed = tried = 0
     with tempfile.TemporaryDirectory() as folder:
-        work = pathlib.Path(folder).resolve()
-        tree, kept = work / "crates", work / "kept"
-        for name in (*CALLS, ABOVE):
-            copy(name, tree / name)
-        Modules(work / "learnt").put((*CALLS, ABOVE), kept)
-        status, said = ask(tree, kept)
+        tree = Tree(pathlib.Path(folder).resolve() / "copy", below(ABOVE))
+        status, said = tree.check(ABOVE)
         if not is_proved(status, said):
             print(f"failed: {ABOVE} is not proved with all promises: {said[-300:]}\n0 passed, 1 failed")
             return 1
         for pairs in rounds("--one" in sys.argv[1:]):
             began = time.monotonic()
-            wrong, found = refused(tree, kept, pairs)
+            wrong, found = refused(tree, pairs)
             for call, number in pairs:
                 place = None if wrong else falls(call, found)
                 tried += 1

@@ -1,26 +1,23 @@
 #!/usr/bin/env python3
 """Edits definitions of document 01, one for each kind of line and field, and of document 02's statements and day's numbers, one for each rule, and looks that
 theorems fall with each: the prover must refuse the crate that is named, and nothing below it. That is a crate that a demand stands on, with
-its theorems, worked examples and promises of code, or a table of worked examples (crates/cases). All crates below are copied with it and
-proved anew as far as the definition reaches; what it does not reach is taken over from what `rt check` proved (tools/copies.py), which comes
+its theorems, worked examples and promises of code, or a table of worked examples (crates/cases), where something must fall in that table. All crates below are
+copied with it and proved anew as far as the definition reaches; what it does not reach is taken over from what `rt all check` proved (tools/copies.py), which comes
 first. One check for each processor is made at a time (RT_JOBS says otherwise). The last line is 'N passed, M failed'.
 
   tools/definitions.py                  all of them
   tools/definitions.py gpc: 'a day,'    those that have one of these words in what is edited, in the file or in the crate that must fall
 
-A fall counts only if the same crates, copied in the same way, are proved without the edit, and if the first that the prover says is that a
-fact fails.
+A fall counts only if the first that the prover says is that a fact fails. That the crates are proved without the edit is `rt ci`'s, which comes first.
 """
 import concurrent.futures
-import os
 import pathlib
 import re
-import shutil
 import sys
 import tempfile
 import time
 
-from copies import Modules, below, complaints, copy, is_fact, is_ours, is_proved, is_refused, rt_check, stands_on
+from copies import Trees, below, complaints, is_fact, is_refused, jobs
 
 # The judge of statements up to a file's end; and what would be said there of a statement whose sums were tested, but not heeded.
 LAST = """{before}unfoldable pub judge_on : Spots → ℕ → Stage → List Record → Judged
@@ -76,7 +73,7 @@ WRONG = [
         "an item's line, read",
         "a symbol on C would begin a text",
         "ItemLine",
-        "pick (pick bare (pick (isValue (read_symbol (fieldOf s))) false true) false)",
+        "pick (pick bare (pick (is_value (read_symbol (field_of s))) false true) false)",
         "pick bare",
         "cases/Items",
     ),
@@ -92,8 +89,8 @@ WRONG = [
         "a whole file, read",
         "15 would come at account file 1,000",
         "Judge",
-        "is_full sh (at_file x) k = leb 1000 (length (x .files))",
-        "is_full sh (at_file x) k = leb 999 (length (x .files))",
+        "is_full sh (at_file x) k = leb 1000 (length x.files)",
+        "is_full sh (at_file x) k = leb 999 (length x.files)",
         "exact",
     ),
     # ---- reading: fields
@@ -181,7 +178,7 @@ WRONG = [
         "a collection's own bank, read",
         "it would be S's on every sheet",
         "Terms",
-        "(eqb bank (sh .bank))",
+        "(eqb bank sh.bank)",
         "(eqb bank 800)",
         "cases/Collections",
     ),
@@ -229,7 +226,7 @@ WRONG = [
         "a warning's place, listed",
         "a text that is cut would be warned of at the line's first byte",
         "Texts",
-        "(notice w (p .place) ∷ [])",
+        "(notice w p.place ∷ [])",
         "(notice w 0 ∷ [])",
         "cases/Warned",
     ),
@@ -246,15 +243,15 @@ WRONG = [
         "the first line, canonical",
         "the interval's ends would be swapped",
         "FirstLine",
-        "(fixed 3 (h .from) ++ (fixed 3 (h .to) ++ fixed 12 0))",
-        "(fixed 3 (h .to) ++ (fixed 3 (h .from) ++ fixed 12 0))",
+        "(fixed 3 h.from ++ (fixed 3 h.to ++ fixed 12 0))",
+        "(fixed 3 h.to ++ (fixed 3 h.from ++ fixed 12 0))",
         "roundtrip",
     ),
     (
         "an account file's line, canonical",
         "BANK would be C's on every sheet",
         "FileLine",
-        "fixed 4 (sh .bank)",
+        "fixed 4 sh.bank",
         "fixed 4 300",
         "cases/Writing",
     ),
@@ -270,8 +267,8 @@ WRONG = [
         "an item's line, canonical",
         "the symbol 0 would be missing before a text",
         "ItemLine",
-        "(32 ∷ (decimal specific ++ (32 ∷ spell_text (sh .text) parts name))))",
-        "(pick (eqb specific 0) [] (32 ∷ decimal specific) ++ (32 ∷ spell_text (sh .text) parts name)))",
+        "(32 ∷ (decimal specific ++ (32 ∷ spell_text sh.text parts name))))",
+        "(pick (eqb specific 0) [] (32 ∷ decimal specific) ++ (32 ∷ spell_text sh.text parts name)))",
         "cases/Writing",
     ),
     (
@@ -294,8 +291,8 @@ WRONG = [
         "an account, canonical",
         "the prefix 0 would be spelled",
         "Accounts",
-        "spell_account a = pick (eqb (a .prefix) 0)",
-        "spell_account a = pick (eqb (a .base) 0)",
+        "spell_account a = pick (eqb a.prefix 0)",
+        "spell_account a = pick (eqb a.base 0)",
         "cases/Writing",
     ),
     (
@@ -327,24 +324,24 @@ WRONG = [
         "the bytes of a part, carried",
         "those that the sheet does not take would be carried",
         "Texts",
-        "pick (pick (y .names) (lacks mark p) true) (taken y p) false",
-        "pick (y .names) (lacks mark p) true",
+        "pick (pick y.names (lacks mark p) true) (taken y p) false",
+        "pick y.names (lacks mark p) true",
         "text",
     ),
     (
         "an item's row",
         "its amount would stand in the place of its bank",
         "Rows",
-        "∷ x .bank ∷ x .amount ∷",
-        "∷ x .amount ∷ x .bank ∷",
+        "∷ x.bank ∷ x.amount ∷",
+        "∷ x.amount ∷ x.bank ∷",
         "rowlaws",
     ),
     (
         "an item's row, as reading leaves it",
         "its reference would be 7",
         "Rows",
-        "texts_words start spots (x .parts ++ (x .name ∷ [])) ++ blanks 3)",
-        "texts_words start spots (x .parts ++ (x .name ∷ [])) ++ (7 ∷ blanks 2))",
+        "texts_words start spots (x.parts ++ (x.name ∷ [])) ++ blanks 3)",
+        "texts_words start spots (x.parts ++ (x.name ∷ [])) ++ (7 ∷ blanks 2))",
         "rowlaws",
     ),
     (
@@ -383,23 +380,23 @@ WRONG = [
         "an item, carried",
         "any priority would be on every sheet",
         "Carried",
-        "priority_carried (sh .priority) (x .priority)",
-        "priority_carried true (x .priority)",
+        "priority_carried sh.priority x.priority",
+        "priority_carried true x.priority",
         "roundtrip",
     ),
     (
         "an account file, carried",
         "a number that repeats another's first three digits would be on K",
         "Carried",
-        "seen = series number ∷ p .seen; kind = kind; date = 0 }",
-        "seen = p .seen; kind = kind; date = 0 }",
+        "seen = series number ∷ p.seen; kind = kind; date = 0 }",
+        "seen = p.seen; kind = kind; date = 0 }",
         "roundtrip",
     ),
     (
         "a collection's item, carried",
         "its payee bank would not be tested by the group's day",
         "Carried",
-        "    (check k 5 (bank_due sh today (p .kind) (p .date) (x .bank))\n    (item_carried sh k x (rows_carried sh today h (suc k) (behind_item p) ts)))\n",
+        "    (check k 5 (bank_due sh today p.kind p.date x.bank)\n    (item_carried sh k x (rows_carried sh today h (suc k) (behind_item p) ts)))\n",
         "    (item_carried sh k x (rows_carried sh today h (suc k) (behind_item p) ts))\n",
         "roundtrip",
     ),
@@ -415,16 +412,16 @@ WRONG = [
         "the order of rules, listed",
         "a payee would be tested before the payer",
         "FirstWrong",
-        "    ∷ rule k 1 (item_payer_proper (in_single before) (x .payer))\n    ∷ rule k 3 (account_proper (x .payee))\n",
-        "    ∷ rule k 3 (account_proper (x .payee))\n    ∷ rule k 1 (item_payer_proper (in_single before) (x .payer))\n",
+        "    ∷ rule k 1 (item_payer_proper (in_single before) x.payer)\n    ∷ rule k 3 (account_proper x.payee)\n",
+        "    ∷ rule k 3 (account_proper x.payee)\n    ∷ rule k 1 (item_payer_proper (in_single before) x.payer)\n",
         "outcomes",
     ),
     (
         "a group's sum, in rows",
         "it would go on from the group before it",
         "Proper",
-        "items = b .items; single = is_nobody payer; sum = 0 }",
-        "items = b .items; single = is_nobody payer; sum = b .sum }",
+        "items = b.items; single = is_nobody payer; sum = 0 }",
+        "items = b.items; single = is_nobody payer; sum = b.sum }",
         "roundtrip",
     ),
     # ---- statements: records
@@ -433,7 +430,7 @@ WRONG = [
         "CR LF would not be asked for behind a head",
         "gpc:Records",
         "(movement_is (read_movement s)) no_record))\n    no_record",
-        "(movement_is (read_movement s)) no_record))\n    (pick (starts (bytes \"074\") s) (head_is (readHead s)) no_record)",
+        "(movement_is (read_movement s)) no_record))\n    (pick (starts (bytes \"074\") s) (head_is (read_head s)) no_record)",
         "gpcback",
     ),
     (
@@ -472,8 +469,8 @@ WRONG = [
         "a balance, canonical",
         "zero would have a minus",
         "gpc:Signed",
-        "(pick (x .minus) 45 plus ∷ [])",
-        "(pick (eqb (x .size) 0) 45 (pick (x .minus) 45 plus) ∷ [])",
+        "(pick x.minus 45 plus ∷ [])",
+        "(pick (eqb x.size 0) 45 (pick x.minus 45 plus) ∷ [])",
         "turnover",
     ),
     (
@@ -570,24 +567,24 @@ WRONG = [
         "a balance's word",
         "its minus would be the first bit alone",
         "gpc:Signed",
-        "pick (x .minus) (negative (x .size)) (x .size)",
-        "pick (x .minus) (9223372036854775808 + x .size) (x .size)",
+        "pick x.minus (negative x.size) x.size",
+        "pick x.minus (9223372036854775808 + x.size) x.size",
         "turnover",
     ),
     (
         "a head's row",
         "its turnovers would be swapped",
         "gpc:StatementRows",
-        "    ∷ signed_word (h .debit)\n    ∷ signed_word (h .credit)\n",
-        "    ∷ signed_word (h .credit)\n    ∷ signed_word (h .debit)\n",
+        "    ∷ signed_word h.debit\n    ∷ signed_word h.credit\n",
+        "    ∷ signed_word h.credit\n    ∷ signed_word h.debit\n",
         "gpcback",
     ),
     (
         "a movement's row, tested",
         "an amount might have thirteen digits",
         "gpc:StatementRows",
-        "(leb (m .amount) most12)",
-        "(leb (m .amount) 9999999999999)",
+        "(leb m.amount most12)",
+        "(leb m.amount 9999999999999)",
         "gpcback",
     ),
     (
@@ -619,8 +616,8 @@ WRONG = [
         "an account file's kind, allowed",
         "every kind would be",
         "why:Allowed",
-        "isTaken sh today c w file_kind s = isValue (read_kind sh s)",
-        "isTaken sh today c w file_kind s = true",
+        "is_taken sh today c w file_kind s = is_value (read_kind sh s)",
+        "is_taken sh today c w file_kind s = true",
         "why",
     ),
     (
@@ -635,15 +632,15 @@ WRONG = [
         "a total that is not the sum, found",
         "the finding would name the refusal of a warning",
         "why:Finding",
-        "(finding 10 100 (x .head .line)",
-        "(finding 0 100 (x .head .line)",
+        "(finding 10 100 x.head.line",
+        "(finding 0 100 x.head.line",
         "why",
     ),
     (
         "a total that differs, listed",
         "it would be listed for the items behind the first alone",
         "why:Warned",
-        "(λ i. i .amount + ahead sh today c ts)",
+        "(λ i. i.amount + ahead sh today c ts)",
         "(λ i. ahead sh today c ts)",
         "why",
     ),
@@ -668,16 +665,16 @@ WRONG = [
         "a sheet's line",
         "rows would be told in the place of warnings",
         "verdict:Sheets",
-        "(accepted_words (v .warnings))",
-        "(accepted_words (v .rows))",
+        "(accepted_words v.warnings)",
+        "(accepted_words v.rows)",
         "verdict",
     ),
     (
         "the bit of a sheet",
         "sheet n would have bit n",
         "verdict:Sheets",
-        "(2 ^ (sh .number - 1)) 0",
-        "(2 ^ sh .number) 0",
+        "(2 ^ (sh.number - 1)) 0",
+        "(2 ^ sh.number) 0",
         "verdict",
     ),
     (
@@ -805,8 +802,8 @@ WRONG = [
         "which sheets look at a register",
         "all that read a header would",
         "against:Against",
-        "pick (sh .interval) (run_on",
-        "pick (sh .header) (run_on",
+        "pick sh.interval (run_on",
+        "pick sh.header (run_on",
         "against",
     ),
     (
@@ -828,65 +825,22 @@ WRONG = [
 ]
 
 
-def link(folder, to):
-    """The same modules in another folder. The prover puts a new file in the place of a module that has changed, so links will do."""
-    shutil.copytree(folder, to, copy_function=os.link)
-
-
-class Fallen:
-    """A crate that edits must make fall, or a table of one: copied with all crates below, over the modules that their proofs left."""
-
-    def __init__(self, name, work, modules):
-        self.crate, _, self.table = name.partition("/")
-        self.work = work / name.replace("/", ".")
-        self.plain, self.kept = self.work / "plain", self.work / "kept"
-        for one in below(self.crate):
-            copy(one, self.plain / one)
-        if self.table:
-            self.leave_table()
-        link(modules, self.kept)
-        status, said = self.ask(self.plain, self.kept)
-        self.wrong = None if is_proved(status, said) else f"{name} is not proved without the edit: {said[-300:]}"
-
-    def leave_table(self):
-        proofs = self.plain / self.crate / "proofs"
-        for path in proofs.glob("*.antt"):
-            if path.stem != self.table:
-                path.unlink()
-        (proofs / "Lib.antt").write_text(f"pub mod {self.table}\n")
-
-    def ask(self, tree, kept):
-        """What the prover says of the crate and all below it, each from its source."""
-        words = ["--incremental", str(kept)]
-        for name in below(self.crate)[1:]:
-            words += ["--lib", f"{name}:{','.join(('std', *filter(is_ours, stands_on(name))))}={tree / name / 'src/lib.rt'}"]
-        status, said = rt_check(tree / self.crate, *words)
-        return status, said.replace(f"{tree}/", "")
-
-    def tried(self, label, file, old, new):
-        """What is wrong with the edit or with what the prover says of it, or None; and the place where a fact fails."""
-        if self.wrong:
-            return self.wrong, None
-        place = self.work / label
-        tree, kept = place / "crates", place / "kept"
-        shutil.copytree(self.plain, tree)
-        link(self.kept, kept)
-        path = tree / file
-        text = path.read_text(encoding="utf-8")
-        if text.count(old) != 1:
-            return f"what it takes out stands {text.count(old)} times in {file}", None
-        path.write_text(text.replace(old, new), encoding="utf-8")
-        status, said = self.ask(tree, kept)
-        shutil.rmtree(place)
-        found = complaints(said)
-        if not is_refused(status, said) or not found:
-            return f"{self.crate} is not refused (exit {status}): {said[-300:]}", None
-        others = [at for at, _ in found if not at.startswith(f"{self.crate}/")]
-        others += [f for f in re.findall(r"^fn (\w+)::\w+.*: not proved", said, re.M) if f != self.crate]
-        if others:
-            return f"what is refused is not only {self.crate}: {others[0]}", None
-        at, words = found[0]
-        return None if is_fact(words) else f"refused, but not because a fact fails: {at}: {words[:300]}", at
+def tried(tree, name, file, old, new):
+    """What is wrong with the edit of a definition or with what the prover says of the crate that must fall, or None; and the place where a fact fails."""
+    crate, _, table = name.partition("/")
+    text = (tree.crates / file).read_text(encoding="utf-8")
+    if text.count(old) != 1:
+        return f"what it takes out stands {text.count(old)} times in {file}", None
+    with tree.with_texts({file: text.replace(old, new)}):
+        status, said = tree.check(crate)
+    found = [(at, words) for at, words in complaints(said) if not table or at.startswith(f"proofs/{table}.antt:")]
+    if not is_refused(status, said) or not found:
+        return f"{crate} is not refused (exit {status}): {said[-300:]}", None
+    fell = re.search(r"^rt: the library (\w+) did not build", said, re.M)
+    if fell:
+        return f"what is refused is not only {crate}: {fell[1]}", None
+    at, words = found[0]
+    return None if is_fact(words) else f"refused, but not because a fact fails: {at}: {words[:300]}", at
 
 
 def path_of(file):
@@ -897,27 +851,24 @@ def path_of(file):
 
 def main():
     asked = sys.argv[1:]
-    tried = [w for w in WRONG if not asked or any(word in part for word in asked for part in (w[0], w[2], w[-1]))]
+    chosen = [w for w in WRONG if not asked or any(word in part for word in asked for part in (w[0], w[2], w[-1]))]
     passed = 0
-    jobs = int(os.environ.get("RT_JOBS", os.cpu_count() or 1))
-    with tempfile.TemporaryDirectory() as folder, concurrent.futures.ThreadPoolExecutor(jobs) as pool:
-        work = pathlib.Path(folder).resolve()
-        names = sorted({name for *_, name in tried})
-        modules = work / "modules"
-        Modules(work / "learnt").put({one for name in names for one in below(name.partition("/")[0])}, modules)
-        fallen = dict(zip(names, pool.map(lambda name: Fallen(name, work, modules), names)))
+    with tempfile.TemporaryDirectory() as folder, concurrent.futures.ThreadPoolExecutor(jobs()) as pool:
+        names = {below_it for *_, name in chosen for below_it in below(name.partition("/")[0])}
+        trees = Trees(pathlib.Path(folder).resolve(), sorted(names), jobs())
 
-        def one(number):
-            _, _, file, old, new, name = tried[number]
-            began = time.time()
-            return *fallen[name].tried(str(number), path_of(file), old, new), time.time() - began
+        def one(entry):
+            _, _, file, old, new, name = entry
+            with trees.lent() as tree:
+                began = time.time()
+                return *tried(tree, name, path_of(file), old, new), time.time() - began
 
-        for (title, idea, *_, name), (wrong, at, seconds) in zip(tried, pool.map(one, range(len(tried)))):
+        for (title, idea, *_, name), (wrong, at, seconds) in zip(chosen, pool.map(one, chosen)):
             fell = f"{title}: {idea}: {name} is not proved any more, as it must be (first at {at}; {seconds:.1f} s)"
             print(f"failed: {title}: {idea}: {wrong}" if wrong else fell, flush=True)
             passed += wrong is None
-    print(f"{passed} passed, {len(tried) - passed} failed")
-    return 0 if tried and passed == len(tried) else 1
+    print(f"{passed} passed, {len(chosen) - passed} failed")
+    return 0 if chosen and passed == len(chosen) else 1
 
 
 if __name__ == "__main__":

@@ -1,7 +1,7 @@
 -- The line of an account file, read with any test of its number: the test decides one thing alone. Assumes nothing.
 use mathlib.Core.Path.{◌≡◌, refl, ◌∙◌}
 use mathlib.Core.List.{List, [], ◌∷◌}
-use Prim.Native.Nat.{ℕ, ◌+◌}
+use Prim.Native.Nat.{ℕ, ◌+◌, ◌-◌, ◌*◌}
 use native.Mathlib.Omega.{arith}
 use lib.Dec.{eqb}
 use lib.ListN.{drop}
@@ -43,7 +43,7 @@ four = is_fault other4
 digits-on : (v : ℕ) (s : List ℕ) → NotNine (digits_on v s)
 unfolding digits_on
 digits-on v [] = is-value
-digits-on v (x ∷ s) = either NotNine _ (λ _. digits-on _ s) (λ _. four)
+digits-on v (x ∷ s) = either NotNine _ (λ _. digits-on (v * 10 + (x - 48)) s) (λ _. four)
 
 digits-read : (least most : ℕ) (s : List ℕ) → NotNine (digits least most s)
 unfolding digits

@@ -1,7 +1,6 @@
 -- The whole answer of reading against a register, and what it leaves in the lent rows and in the lent register. Request W-207. Assumes nothing.
 use Rattle.std.specs.Prelude.{ℕ, ◌/◌, List, ltb, length}
 use Rattle.base.specs.Pick.{pick}
-use Rattle.sheet.specs.declared.Sheet.{Sheet}
 use Rattle.sheet.specs.declared.Known.{Known}
 use Rattle.sheet.specs.declared.Known.TheVariants as known
 use Rattle.sheet.specs.Sheets.{sheet_of}
