@@ -15,7 +15,7 @@ use Rattle.sheet.specs.declared.Known.TheVariants as known
 use Rattle.sheet.specs.Sheets.{sheet_of}
 use Rattle.sheet.proofs.Laws.{Sane, sheet-sane}
 use Rattle.paper.specs.Days.{real_day}
-use Rattle.paper.specs.Judge.{Refused, Accepted, seen, judge}
+use Rattle.paper.specs.Judge.{Refused, seen, judge}
 use Rattle.paper.specs.Rows.{row_size}
 use Rattle.paper.specs.Reading.{ReadAnswer, refused_at, needs, accepted_as, row_count, answered, filled, read_with, rows_with}
 use Rattle.fileline.specs.seen.Bits.{bit}

@@ -1,7 +1,6 @@
 -- `fill_rows`: record after record the rows stand in front of the old bytes. Assumes nothing.
 use borrow.Author.Rules.{rules}
 use Rattle.statement.proofs.reading.Filling.{filling}
-use Prim.Native.Nat.{◌-◌}
 use Rattle.statement.proofs.reading.fill_rows.Goals as goal
 
 pub loop-at-init : goal.loop-at-init

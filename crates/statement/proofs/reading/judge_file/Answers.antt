@@ -1,7 +1,6 @@
 -- `judge_file`: the records passed lead to a stage from which all comes to the same. Assumes nothing.
 use borrow.Author.Rules.{rules}
 use Rattle.statement.proofs.reading.Judging.{judging}
-use Prim.Native.Nat.{◌-◌}
 use Rattle.statement.proofs.reading.judge_file.Goals as goal
 
 pub start-run-requires : goal.start-run-requires

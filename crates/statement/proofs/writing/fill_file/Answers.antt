@@ -1,7 +1,6 @@
 -- `fill_file`: row after row the records stand in front of the old bytes. Assumes nothing.
 use borrow.Author.Rules.{rules}
 use Rattle.statement.proofs.writing.Filling.{filling}
-use Prim.Native.Nat.{◌-◌}
 use Rattle.statement.proofs.writing.fill_file.Goals as goal
 
 pub loop-at-init : goal.loop-at-init

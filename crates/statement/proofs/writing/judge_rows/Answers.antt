@@ -1,7 +1,6 @@
 -- `judge_rows`: the rows passed lead to a stage from which all comes to the same. Assumes nothing.
 use borrow.Author.Rules.{rules}
 use Rattle.statement.proofs.writing.Judging.{judging}
-use Prim.Native.Nat.{◌-◌}
 use Rattle.statement.proofs.writing.judge_rows.Goals as goal
 
 pub start-run-requires : goal.start-run-requires

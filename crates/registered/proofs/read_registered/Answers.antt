@@ -1,0 +1,13 @@
+-- `read_registered` meets its contract: on the sheet that the number names, or 1. Assumes nothing.
+use borrow.Author.Rules.{rules}
+use Rattle.registered.proofs.Answers.{sheets}
+use Rattle.registered.proofs.read_registered.Goals as goal
+
+pub read_on-requires : goal.read_on-requires
+read_on-requires c = search (sheets, rules)
+
+pub returns-in-Sheet : goal.returns-in-Sheet
+returns-in-Sheet c = search sheets
+
+pub returns-in-Nothing : goal.returns-in-Nothing
+returns-in-Nothing c = search sheets
