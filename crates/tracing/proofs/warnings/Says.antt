@@ -15,7 +15,7 @@ use Rattle.paper.specs.GroupLine.{read_group}
 use Rattle.paper.specs.ItemLine.{read_item}
 use Rattle.paper.specs.Spells.{number_test, read_as, read_line}
 use Rattle.paper.specs.Rows.{accepted, single_after, single_behind}
-use Rattle.paper.specs.Judge.{State, at_group, at_item, context_of, run}
+use Rattle.paper.specs.Judge.{State, at_first, at_file, at_group, at_item, context_of, run}
 use Rattle.paper.proofs.Passing.{same_parts}
 use Rattle.numeral.specs.placed.Said.{is_said}
 use Rattle.numeral.proofs.placed.Goes.{said-counted}
@@ -100,20 +100,20 @@ module _ (sh : Sheet) (today k : ℕ) (t : Line) (ts : List Line) (x : Step) whe
   pub says : (size : ℕ) (st new : State) → Moves sh today k t st new → Keeps x st → accepts (run sh today size (suc k) ts new) ≡ true → Says (kind_of t.bytes) st new
   unfolding context_of read_line read_as number_test
   says size st new (heads (p, q)) keeps a =
-      let kind = kind-head (told-line sh today _ t.bytes _ q) in
-      rw kind (record { none = other-lines sh today k t ts _ head_line tt kind; keeps = tt })
-  says size st new (opens {kind = i} {number = n} {v = v} few (p, q)) keeps a =
-      let kind = kind-file (told-line sh today _ t.bytes _ q) in
-      let e = rw kind at (file-line-again sh today _ false t.bytes v p i n q) in
+      let kind = kind-head (told-line sh today (context_of at_first) t.bytes _ q) in
+      rw kind (record { none = other-lines sh today k t ts (context_of at_first) head_line tt kind; keeps = tt })
+  says size st new (opens {x = b} {kind = i} {number = n} {v = v} few (p, q)) keeps a =
+      let kind = kind-file (told-line sh today (context_of (at_file b)) t.bytes _ q) in
+      let e = rw kind at (file-line-again sh today (context_of (at_file b)) false t.bytes v p i n q) in
       rw kind
       (record {
         ready = file-ready i n v p e;
-        none = other-lines sh today k t ts _ file_line tt kind;
+        none = other-lines sh today k t ts (context_of (at_file b)) file_line tt kind;
         keeps = λ y m h. file-kind i n v p e y.kind m h;
       })
   says size st new (begins {x = g} {payer = payer} {total = total} {date = date} {v = v} {p = p} q) keeps a =
-      let kind = kind-group (told-line sh today _ t.bytes _ q) in
-      let (u, again) = group-again sh today _ false t.bytes v p payer total date q in
+      let kind = kind-group (told-line sh today (context_of (at_group g)) t.bytes _ q) in
+      let (u, again) = group-again sh today (context_of (at_group g)) false t.bytes v p payer total date q in
       let e = rw kind at again in
       let (ns, r, n) = listed sh today (context_of (at_group g)) t q in
       let is = alone-is payer total date u p e in
@@ -126,16 +126,16 @@ module _ (sh : Sheet) (today k : ℕ) (t : Line) (ts : List Line) (x : Step) whe
         keeps = λ y h i. (h ∙ keeps, i ∙ is);
       })
   says size st new (more {x = g} free (p, q)) (same, is) a =
-      let kind = kind-item (told-line sh today _ t.bytes _ q) in
+      let kind = kind-item (told-line sh today (context_of (at_item g)) t.bytes _ q) in
       rw kind
       (record {
-        ready = rw is (read-item sh today _ t q);
-        warns = rw is (item-lines sh today (context_of (at_item g)) k t ts kind (read-as-item sh today _ t q));
+        ready = rw is (read-item sh today (context_of (at_item g)) t q);
+        warns = rw is (item-lines sh today (context_of (at_item g)) k t ts kind (read-as-item sh today (context_of (at_item g)) t q));
         keeps = λ y h i. (h ∙ same, i ∙ is);
       })
-  says size st new (closes some (p, q) good) keeps a =
-      let kind = kind-group-end (told-line sh today _ t.bytes _ q) in
-      rw kind (record { none = other-lines sh today k t ts _ group_end tt kind; keeps = keeps.0 })
-  says size st new (finishes some (p, q)) keeps a =
-      let kind = kind-file-end (told-line sh today _ t.bytes _ q) in
-      rw kind (record { none = other-lines sh today k t ts _ file_end tt kind; keeps = tt })
+  says size st new (closes {x = g} some (p, q) good) keeps a =
+      let kind = kind-group-end (told-line sh today (context_of (at_item g)) t.bytes _ q) in
+      rw kind (record { none = other-lines sh today k t ts (context_of (at_item g)) group_end tt kind; keeps = keeps.0 })
+  says size st new (finishes {x = g} some (p, q)) keeps a =
+      let kind = kind-file-end (told-line sh today (context_of (at_group g)) t.bytes _ q) in
+      rw kind (record { none = other-lines sh today k t ts (context_of (at_group g)) file_end tt kind; keeps = tt })

@@ -1,0 +1,13 @@
+-- `verdict_for` judges on the sheet that the number names.
+use borrow.Author.Rules.{rules}
+use Rattle.verdict.proofs.Exits.{sheets}
+use Rattle.verdict.proofs.verdict_for.Goals as goal
+
+pub verdict_on-requires : goal.verdict_on-requires
+verdict_on-requires c = search (sheets, rules)
+
+pub returns-in-Sheet : goal.returns-in-Sheet
+returns-in-Sheet c = search sheets
+
+pub returns-in-Nothing : goal.returns-in-Nothing
+returns-in-Nothing c = search sheets
