@@ -1,0 +1,6 @@
+-- `write_twice`: two writings of one batch, into outputs lent alike, answer alike and leave the same.
+use Rattle.demands.proofs.Twice.{written-alike, output-alike}
+use Rattle.demands.proofs.write_twice.Goals as goal
+
+pub returns : goal.returns
+returns c = record { first_value = search written-alike; a_after = search output-alike }
