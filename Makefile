@@ -63,7 +63,7 @@ $(BUILD)/flags.used: used = $(CC) $(HOSTCC) $(MACHINE) $(CFLAGS)
 $(BUILD)/link.used: used = $(STATIC) $(LDFLAGS)
 
 ifeq ($(LIB),)
-$(archive): $(shell find crates -type f 2>/dev/null) $(BUILD)/archive.used
+$(archive): $(shell find crates -type f -not -path 'crates/*/out/*' 2>/dev/null) $(BUILD)/archive.used
 	@command -v rt >/dev/null || { echo '$(no_rt)' >&2; exit 2; }
 	@BUILD='$(BUILD)' bash tools/prove.sh
 	cp target/staticlib/libabo.a $@

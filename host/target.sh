@@ -2,7 +2,7 @@
 # that link the library's archive, and what runs them. The archive is x86-64; elsewhere programs are cross compiled, linked -static
 # and run by qemu.
 #
-#   LIB      a ready archive (default: `rt staticlib abo` proves the library and writes one)
+#   LIB      a ready archive (default: tools/prove.sh proves the library and writes one)
 #   CC, CXX  the compilers     CFLAGS  default -O2; warnings are always asked for and are errors
 #   HOSTCC   the compiler for programs of this machine, which do not link the archive (default: on x86-64 CC, else cc)
 #   BUILD    the folder that all is built in (default: build)

@@ -100,18 +100,21 @@ check "the commands that are wanted are named" said 'Missing here: gcc.' 'no apt
 # ---- tools/prove.sh, over a repository of three crates that count and one that does not ----
 
 repo=$work/repo
-mkdir -p "$repo/tools" "$repo/crates/base/src" "$repo/crates/read/src" "$repo/crates/lone/src" "$repo/crates/abo/src"
+mkdir -p "$repo/tools" "$repo/host" "$repo/crates/base/src" "$repo/crates/read/src" "$repo/crates/lone/src" "$repo/crates/abo_c/src"
 cp tools/prove.sh "$repo/tools/"
-printf '# the ground\nbase:\nread: base io   # io is of the kit\nlone: base\n\nabo: base read # the calls\n' >"$repo/crates.txt"
+cp host/target.sh "$repo/host/"
+printf '# the ground\nbase:\nread: base io   # io is of the kit\nlone: base\n\nabo_c staticlib: base read # the calls\n' >"$repo/crates.txt"
 printf '%9000s' '' >"$repo/crates/read/src/lib.rt"
-ready='rt: target/staticlib/libabo.a has the functions of abo'
+echo 'an object' >"$work/abo_c.o"
+ar=$($cc -print-prog-name=ar)
+"$ar" rc "$work/libabo_c.a" "$work/abo_c.o"
 
-plays_rt() { # CHECK STATICLIB: what `rt check` and `rt staticlib` do
-    printf '%s\n' "echo \$* >>'$work/rt'" "case \$1 in check) $1 ;; staticlib) $2 ;; esac" | plays "$work/kit/rt"
+plays_rt() { # LIB: what `rt lib` does
+    printf '%s\n' "echo \$(basename \$PWD) \$* >>'$work/rt'" "case \$1 in lib) $1 ;; esac" | plays "$work/kit/rt"
     rm -f "$work/rt"
 }
 
-proves() { # CHECK STATICLIB: prove.sh where rt does this
+proves() { # LIB: prove.sh where rt does this
     plays_rt "$@"
     PATH="$work/kit:$PATH" BUILD="$work/proved" "$bash" "$repo/tools/prove.sh"
 }
@@ -124,33 +127,33 @@ on_terminal() { # what is said where standard error is a terminal, each renewal 
     PATH="$work/kit:$PATH" BUILD="$work/proved" script -qec "bash '$repo/tools/prove.sh'" /dev/null | tr '\r' '\n'
 }
 
-each='echo fn base::f: proved; echo "rt: base proved (1 s)"; echo "rt: lone proved (1 s)"; echo a note; echo "rt: read proved (2 s)"; echo "rt: ok"'
-check "all is proved" ends 0 proves "$each" "echo 'rt: base proved (unchanged since)' >&2; echo '$ready'"
-check "what abo stands on is proved, then abo" test "$(cat "$work/rt")" = "check base read
-staticlib abo"
+base='echo fn base::f: proved; echo crate base: modules loaded=1 checked=4; echo logic=proved functions=1;'
+read='echo a note; echo crate read: modules loaded=2 checked=5; echo logic=proved functions=1;'
+abo="mkdir -p out; cp '$work/libabo_c.a' out; echo crate abo_c: modules loaded=3 checked=1; echo logic=proved functions=1"
+check "all is proved" ends 0 proves "$base $read $abo"
+check "by one call of rt, in the unit's folder" test "$(cat "$work/rt")" = 'abo_c lib'
 check "each crate is counted, once" test "$(grep -o 'crate . of 3 ([a-z]*)' "$work/said")" = "crate 1 of 3 (base)
 crate 2 of 3 (read)"
 check "with the seconds" said 's so far, about '
 check "at last all are" last_said 'proving: 3 of 3 crates are proved, '
 check "what rt says of a proved crate is not shown" refuses grep -q 'a note\|fn base' "$work/said"
 check "it is in the log" grep -qx 'a note' "$work/proved/prove.log"
-check "the rest is estimated" ends 0 proves "sleep 1; $each" "echo '$ready'"
+check "the archive has the unit's object" test "$("$ar" t "$repo/target/staticlib/libabo.a")" = abo_c.o
+check "the rest is estimated" ends 0 proves "sleep 1; $base $read $abo"
 # base weighs 1000 of 12000 and took a second; a slow machine may say more, but not less
 check "by the length of the sources" grep -Eq 'crate 1 of 3 .* about (1[1-9]|[2-9][0-9]|[0-9]{3}) s to go' "$work/said"
-same='proved (unchanged since it was last proved)'
-check "nothing has changed" ends 0 proves "echo 'rt: base $same'; echo 'rt: read $same'" "echo '$ready'"
+check "nothing has changed" ends 0 proves "echo library base: modules loaded=2 checked=0; echo crate abo_c: modules loaded=3 checked=0; echo logic=proved functions=1"
 check "that is no line for each crate" test "$(wc -l <"$work/said")" -eq 2
 check "all are proved then" last_said 'proving: 3 of 3 crates are proved, '
-check "a crate is not proved" ends 1 proves 'echo "rt: base proved (1 s)"; echo why not; echo "rt: read NOT PROVED (exit 1, 2 s)"; echo "rt: FAILED: read"; exit 1' ''
-check "what rt said of it is shown" said 'why not' 'rt: read NOT PROVED' 'The library is not proved.' "$work/proved/prove.log"
+check "a crate is not proved" ends 1 proves "$base echo why not; echo crate read: modules loaded=2 checked=5; echo logic=not-proved; echo rt: the library read did not build; exit 1"
+check "what rt said of it is shown" said 'why not' 'rt: the library read did not build' 'The library is not proved.' "$work/proved/prove.log"
 check "no more are counted" said '1 of 3 crates are proved'
-check "abo is not tried then" refuses grep -q staticlib "$work/rt"
-check "abo itself is not proved" ends 3 proves "$each" 'echo abo is wrong; exit 3'
-check "what rt said of abo is shown" said 'abo is wrong' '2 of 3 crates are proved'
+check "the unit itself is not proved" ends 3 proves "$base $read echo abo is wrong; exit 3"
+check "what rt said of it is shown too" said 'abo is wrong' '2 of 3 crates are proved'
 if command -v script >/dev/null; then
-    plays_rt "sleep 1; echo 'rt: base proved (1 s)'; echo 'rt: read $same'" "sleep 2; echo '$ready'"
+    plays_rt "sleep 1; $base sleep 2; $abo"
     check "on a terminal" ends 0 on_terminal
-    check "the line is renewed while a crate takes long" said 'crate 2 of 3 (read)'
+    check "the line is renewed while a crate takes long" said 'crate 1 of 3 (base) done, 2 s so far'
     check "what is unchanged takes no time" refuses grep -q 'crate 2 of 3.* about [0-9][0-9]' "$work/said"
     check "and at last all are proved" said '3 of 3 crates are proved'
 fi
