@@ -66,9 +66,9 @@ def said_as(name):
     return {name} | {p for p in name.split("◌") if p}
 
 
-def sources():
-    """the files of code, definitions and proofs, in order; a crate's folder out/ is made by rt and is none of them"""
-    for crate in sorted(path for path in CRATES.iterdir() if path.is_dir()):
+def sources(*crates):
+    """the files of code, definitions and proofs, of all crates or of these folders, in order; a crate's own folder out/ is made by rt and left out"""
+    for crate in crates or sorted(path for path in CRATES.iterdir() if path.is_dir()):
         for part in sorted(path for path in crate.iterdir() if path.name != "out"):
             yield from sorted(path for path in part.rglob("*") if path.suffix in (".antt", ".rt"))
 
