@@ -287,7 +287,7 @@ def found_cases(lib, rnd, count):
             if a.number == 0 and (a.refused == 1) == (i % 2 == 0):
                 break
         found = [numbers(Finding.from_buffer(lent, ctypes.sizeof(Finding) * k)) for k in range(a.count)]
-        asked = "sheet%s %d (%s)" % (LETTERS[sheet], today, quoted(text))
+        asked = "sheet_%s %d (%s)" % (LETTERS[sheet], today, quoted(text))
         if a.refused == 1:
             yield "found_in %s ≡ %s" % (asked, found[0])
         else:
@@ -445,16 +445,16 @@ def registered_cases(lib, rnd, count):
 
 # ---- modules
 
-BASE = [("Rattle·base.specs." + m, "crates/base/specs/%s.antt" % m) for m in ("Pick", "Seek", "Put")]
-SHEET = [("Rattle·sheet.specs.Sheets", "crates/sheet/specs/Sheets.antt")]
-REGISTER = [("Rattle·fileline.specs.seen.Bits", "crates/fileline/specs/seen/Bits.antt")]
-REGISTER += [("Rattle·register.specs." + m, "crates/register/specs/%s.antt" % m) for m in ("Marks", "Register")]
-AGAINST = [("Rattle·against.specs." + m, "crates/against/specs/%s.antt" % m) for m in ("Against", "Registered")]
+BASE = [("Rattle.base.specs." + m, "crates/base/specs/%s.antt" % m) for m in ("Pick", "Seek", "Put")]
+SHEET = [("Rattle.sheet.specs.Sheets", "crates/sheet/specs/Sheets.antt")]
+REGISTER = [("Rattle.fileline.specs.seen.Bits", "crates/fileline/specs/seen/Bits.antt")]
+REGISTER += [("Rattle.register.specs." + m, "crates/register/specs/%s.antt" % m) for m in ("Marks", "Register")]
+AGAINST = [("Rattle.against.specs." + m, "crates/against/specs/%s.antt" % m) for m in ("Against", "Registered")]
 
 
 def specs(crate):
     found = re.findall(r"^pub mod (\w+)", open("crates/%s/specs/Lib.antt" % crate).read(), re.M)
-    return [("Rattle·%s.specs.%s" % (crate, m), "crates/%s/specs/%s.antt" % (crate, m)) for m in found]
+    return [("Rattle.%s.specs.%s" % (crate, m), "crates/%s/specs/%s.antt" % (crate, m)) for m in found]
 
 
 def below(crate, paths):
@@ -481,8 +481,8 @@ def definitions(paths, both):
 def write_module(path, paths, also, cases, both=False):
     uses, names = definitions(paths, both)
     with open(path, "w") as f:
-        f.write("use Prim.Native.Nat.{ℕ, suc}\nuse mathlib.Core.List.{List, [], _∷_}\nuse mathlib.Core.Path.{_≡_, refl}\n")
-        f.write("use Rattle·paper.specs.Bytes.{bytes}\n" + also + "\n".join(uses) + "\n")
+        f.write("use Prim.Native.Nat.{ℕ, suc}\nuse mathlib.Core.List.{List, [], ◌∷◌}\nuse mathlib.Core.Path.{◌≡◌, refl}\n")
+        f.write("use Rattle.paper.specs.Bytes.{bytes}\n" + also + "\n".join(uses) + "\n")
         for i, case in enumerate(cases):
             f.write("\ncase%d : %s\nunfolding %s\ncase%d = refl\n" % (i, case, " ".join(names), i))
 
@@ -496,9 +496,9 @@ def main():
     registers, registered = list(register_cases(lib, rnd, 16)), list(registered_cases(lib, rnd, int(sys.argv[4]) // 4))
     with open(folder + "/Lib.antt", "w") as f:
         f.write("pub mod Cases\npub mod FoundCases\npub mod StatementCases\npub mod RegisterCases\npub mod RegisteredCases\n")
-    write_module(folder + "/Cases.antt", BASE + SHEET + specs("paper"), "use Rattle·paper.specs.Writing.{drafted}\n", cases)
+    write_module(folder + "/Cases.antt", BASE + SHEET + specs("paper"), "use Rattle.paper.specs.Writing.{drafted}\n", cases)
     write_module(folder + "/FoundCases.antt", BASE + SHEET + specs("paper") + specs("why"),
-                 "use Rattle·sheet.specs.Sheets.{%s}\n" % ", ".join("sheet" + c for c in LETTERS.values()), found)
+                 "use Rattle.sheet.specs.Sheets.{%s}\n" % ", ".join("sheet_" + c.lower() for c in LETTERS.values()), found)
     write_module(folder + "/StatementCases.antt", BASE + specs("gpc") + below("gpc", specs("paper")), "", of_statements)
     write_module(folder + "/RegisterCases.antt", BASE + below("register", specs("paper")) + REGISTER, "", registers, both=True)
     write_module(folder + "/RegisteredCases.antt", BASE + SHEET + specs("paper") + REGISTER + AGAINST, "", registered, both=True)

@@ -6,21 +6,25 @@
 set -eu
 cd "$(dirname "$0")/.."
 build=${BUILD_DIR:-build/peer}
-work=build/crosscheck
-mkdir -p "$build"
-rm -rf "$work"
-mkdir -p "$work/crates"
+# apart from the repository, whose gate takes no file of definitions or proofs outside its crates
+work=$(mktemp -d)
+trap 'rm -rf "$work"' EXIT
+mkdir -p "$build" "$work/crates"
 sources=$(ls peer/*.c | grep -v rewrite.c)
 # shellcheck disable=SC2086
 gcc -std=c11 -O2 -shared -fPIC -o "$build/libpeer.so" $sources
-cp -r crates/base crates/sheet crates/paper crates/why crates/gpc "$work/crates/"
+for crate in base sheet paper why gpc; do
+    mkdir "$work/crates/$crate"
+    cp -r "crates/$crate/src" "crates/$crate/specs" "$work/crates/$crate/"
+    [ ! -d "crates/$crate/proofs" ] || cp -r "crates/$crate/proofs" "$work/crates/$crate/"
+done
 rm -r "$work/crates/why/proofs" # they stand on more crates; its definitions do not
 # of these, the definitions that stand on no code
 definitions() { # CRATE MODULE ..
     crate=$1
     shift
     mkdir -p "$work/crates/$crate/src" "$work/crates/$crate/specs"
-    echo '// Definitions. No code.' >"$work/crates/$crate/src/lib.rt"
+    printf '%s\n' '// Definitions. No code.' '#![tactic(auto)]' >"$work/crates/$crate/src/lib.rt"
     for module in "$@"; do
         cp -r "crates/$crate/specs/$module".antt "$work/crates/$crate/specs/"
         echo "pub mod $module"
@@ -31,12 +35,11 @@ mkdir "$work/crates/fileline/specs/seen"
 cp crates/fileline/specs/seen/Bits.antt "$work/crates/fileline/specs/seen/"
 definitions register Marks Register
 definitions against Against Registered
-rm -rf "$work"/crates/*/must-fail
 mkdir -p "$work/crates/crosscheck/src" "$work/crates/crosscheck/proofs"
 printf 'base:\nsheet: base\npaper: base sheet\nwhy: base sheet paper\ngpc: base paper\nfileline: base paper\nregister: base paper fileline\nagainst: base sheet paper register\ncrosscheck: base sheet paper why gpc fileline register against\n' >"$work/crates.txt"
-echo '// Equations between the definitions and the second program. No code.' >"$work/crates/crosscheck/src/lib.rt"
+printf '%s\n' '// Equations between the definitions and the second program. No code.' '#![tactic(auto)]' >"$work/crates/crosscheck/src/lib.rt"
 cases=$(python3 tools/crosscheck.py "$build/libpeer.so" "$work/crates/crosscheck/proofs" "${1:-1}" "${2:-120}" "${3:-110}")
-if (cd "$work" && rt check crosscheck >check.log 2>&1); then
+if (cd "$work/crates/crosscheck" && rt check >"$work/check.log" 2>&1); then
     echo "$cases passed, 0 failed"
 else
     grep -a 'error' "$work/check.log" | cut -c1-300 | head -n 20

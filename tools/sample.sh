@@ -5,13 +5,13 @@
 #   tools/sample.sh FILE ..  your own
 set -eu
 cd "$(dirname "$0")/.."
-if [ ! -x target/bin/rewrite ]; then echo "proving the rewriting program and all that it stands on: some minutes, once" >&2; fi
-rt check rewrite >/dev/null
+if [ ! -x crates/rewrite/out/rewrite ]; then echo "proving the rewriting program and all that it stands on: some minutes, once" >&2; fi
+(cd crates/rewrite && rt run </dev/null) >/dev/null 2>&1 || true
 . host/target.sh
 [ $# -gt 0 ] || set -- host/runs/sheet_k.in host/runs/sheet_s.in host/runs/sheet_c_joined.in host/runs/sheet_e.in host/runs/sheet_p.in host/runs/sheet_k_total.in
 for file in "$@"; do
     echo "== $file"
     # a line's end is shown as a line's end, whichever it was
-    $run target/bin/rewrite <"$file" | tr -d '\r' |
+    $run crates/rewrite/out/rewrite <"$file" | tr -d '\r' |
         paste -d '\t' <(sed 's/\r$//' "$file" | tr '\r' '\n') - | awk -F '\t' '{ printf "%-62s | %s\n", $1, $2 }'
 done
