@@ -19,15 +19,20 @@ def rooms():
         if head:
             found.append((head.group(1), head.group(2), []))
         elif line and not line.startswith("#"):
-            found[-1][2].append(line.split(":")[0])
+            found[-1][2].append(entry(line)[0])
     return found
+
+
+def entry(line):
+    """What a line of crates.txt says: a crate's name, whether C programs link it as a static library or not, and what it stands on."""
+    name, _, below = line.partition(":")
+    return name.removesuffix(" staticlib"), below.split()
 
 
 def stands():
     """What each crate stands on, the kit's libraries apart."""
-    lines = [line.split(":") for line in (ROOT / "crates.txt").read_text().splitlines() if line and not line.startswith("#")]
-    names = {name for name, _ in lines}
-    return {name: [d for d in rest.split() if d in names] for name, rest in lines}
+    below = dict(entry(line) for line in (ROOT / "crates.txt").read_text().splitlines() if line and not line.startswith("#"))
+    return {name: [d for d in others if d in below] for name, others in below.items()}
 
 
 def steps(below):

@@ -4,9 +4,10 @@
   - crates.txt and crates/ name the same crates; a crate stands on crates above it only, and names each; README's table has the rooms of crates.txt
   - docs/CRATES.md draws the crates as crates.txt has them (tools/graph.py writes it)
   - each file of code, definitions or proofs says in its first line what it holds; lists of modules (Lib.antt, and a module's beside it) need not
+  - a crate's root has, right under its first comment, the line that lets the prover try its tactics
   - a function has at most 40 lines without its contract, and at most one loop
   - a file of definitions or proofs has at most 400 lines
-  - each file of code, definitions or proofs is laid out as `rt fmt` lays it out
+  - each file of code, definitions or proofs is laid out as `rt fmt` lays it out, which is seen on a copy of the crates
   - what an edit of must-fail/ or more-edits/ takes out stands in its file exactly once, or behind a text that does (`behind:`, more-edits/ alone);
     an edit of must-fail/ has no line `more:`, which `rt must-fail` would pass over
   - what a page links to is there, and so is each path that a page, script or C file names
@@ -22,11 +23,16 @@
   - its table of the sheets has the values of their records, and so has the table of a style's flags in Texts.antt; its table of numbers has
     those of include/abo.h, and its whole run is the rewriting program's own
 """
+import concurrent.futures
+import os
 import pathlib
 import re
+import shutil
 import subprocess
 import sys
+import tempfile
 
+import graph
 import laws
 from edits import found_at
 
@@ -53,15 +59,15 @@ def listed():
     crates = {}
     for line in (ROOT / "crates.txt").read_text().splitlines():
         if line and not line.startswith("#"):
-            name, below = line.split(":")
-            crates[name] = below.split()
+            name, below = graph.entry(line)
+            crates[name] = below
     return crates
 
 
 def named(crate, other):
     """Does a file of the crate name something of the other one?"""
-    texts = (path.read_text() for path in (ROOT / "crates" / crate).rglob("*") if path.suffix in (".rt", ".antt"))
-    return any(re.search(rf"(?<![\w:]){other}::|Rattle·{other}\.", text) for text in texts)
+    texts = (path.read_text() for path in laws.sources(ROOT / "crates" / crate))
+    return any(re.search(rf"(?<![\w:]){other}::|\bRattle\.{other}\.", text) for text in texts)
 
 
 def the_list():
@@ -89,15 +95,22 @@ def the_drawing():
 
 
 def first_lines():
-    for path in sorted((ROOT / "crates").rglob("*")):
-        if path.suffix in (".rt", ".antt") and not laws.is_list(path):
+    for path in laws.sources():
+        if not laws.is_list(path):
             first = path.read_text().split("\n", 1)[0]
             check(re.match(r"(//|--) \S", first), f"{path.relative_to(ROOT)} does not say in its first line what it holds")
 
 
+def roots():
+    for name in listed():
+        path = graph.sources(name)[0]
+        asks = re.match(r"(// .*\n)+#!\[tactic\(auto\)\]\n", path.read_text())
+        check(asks, f"{path.relative_to(ROOT)} has no line #![tactic(auto)] right under its first comment")
+
+
 def functions():
     start = re.compile(r"^(pub )?(extern \"C\" )?fn (\w+)|^pub extern \"C\" fn (\w+)")
-    for path in sorted((ROOT / "crates").rglob("*.rt")):
+    for path in (path for path in laws.sources() if path.suffix == ".rt"):
         name, lines, loops = None, 0, 0
         for line in path.read_text().splitlines():
             text = line.strip()
@@ -118,30 +131,44 @@ def functions():
 
 
 def files():
-    for path in sorted((ROOT / "crates").rglob("*.antt")):
+    for path in (path for path in laws.sources() if path.suffix == ".antt"):
         text = path.read_text()
         count = text.count("\n")
         check(count <= MOST_FILE, f"{path.relative_to(ROOT)} has {count} lines")
         check(not re.search(r"src/\w+\.rt:\d", text), f"{path.relative_to(ROOT)} names lines of the source by number")
 
 
+def laid_out(folder, crate):
+    """The crate's files that rt fmt lays out otherwise, in a copy below that folder; or why it did not."""
+    copy = folder / "crates" / crate.name
+    for path in laws.sources(crate):
+        (copy / path.relative_to(crate)).parent.mkdir(parents=True, exist_ok=True)
+        shutil.copyfile(path, copy / path.relative_to(crate))
+    run = subprocess.run(["rt", "fmt"], cwd=copy, stdin=subprocess.DEVNULL, stdout=subprocess.PIPE, stderr=subprocess.STDOUT, text=True)
+    others = {path for path in laws.sources(crate) if (copy / path.relative_to(crate)).read_bytes() != path.read_bytes()}
+    return others, run.stdout.strip() if run.returncode else ""
+
+
 def layout():
-    run = subprocess.run(["rt", "fmt", "--check"], cwd=ROOT, stdout=subprocess.PIPE, stderr=subprocess.STDOUT, text=True)
-    named = re.findall(r"^(.+) is not in the layout$", run.stdout, re.M)
-    others = {pathlib.Path(path).resolve() for path in named}
-    for path in sorted((ROOT / "crates").rglob("*")):
-        if path.suffix in (".rt", ".antt"):
-            check(path not in others, f"{path.relative_to(ROOT)} is not as rt fmt lays it out")
-    check(run.returncode == 0 or others, f"rt fmt --check does not say what is wrong: {run.stdout.strip()}")
+    crates = [path for path in sorted((ROOT / "crates").iterdir()) if any(laws.sources(path))]
+    with tempfile.TemporaryDirectory() as folder, concurrent.futures.ThreadPoolExecutor(os.cpu_count()) as pool:
+        folder = pathlib.Path(folder)
+        shutil.copy(ROOT / "crates.txt", folder)
+        for crate, (others, why) in zip(crates, pool.map(lambda crate: laid_out(folder, crate), crates)):
+            check(not why, f"rt fmt does not lay out crates/{crate.name}: {why}")
+            for path in laws.sources(crate):
+                check(path not in others, f"{path.relative_to(ROOT)} is not as rt fmt lays it out")
 
 
 def edits():
     folders = ("must-fail", "more-edits")
     for path in sorted(p for f in folders for p in (ROOT / "crates").glob(f"*/{f}/*.edit")):
-        crate, target, behind = path.parent.parent, None, None
+        crate, target, behind = path.parent.parent, "", None
         for line in path.read_text().splitlines():
             if line.startswith("file: "):
-                target, behind = (crate / line[6:]).read_text(), None
+                file, behind = crate / line[6:], None
+                check(file.is_file(), f"{path.relative_to(ROOT)}: {line[6:]} is not there")
+                target = file.read_text() if file.is_file() else ""
             if line.startswith("behind: "):
                 behind = line[8:]
             if line.startswith("more:"):
@@ -237,7 +264,7 @@ def the_rules():
         check(f"/specs/{module}.antt`" in page, f"docs/RULES.md does not say what {module}.antt states")
     for path in sorted(set(re.findall(r"`(crates/[^`]+)`", page))):
         check((ROOT / path).exists(), f"docs/RULES.md names {path}, which is not there")
-    bare = {name for file in rules.values() for name in file.shown if re.search(r"[a-z][A-Z]", name)}
+    bare = {name for file in rules.values() for name in file.shown if re.search(r"[a-z][A-Z]|[a-z]_[a-z]", name)}
     for name in sorted(bare & set(re.findall(r"`(\w+)`", page))):
         check(False, f"docs/RULES.md names {name} without its module")
 
@@ -260,7 +287,7 @@ def the_sheets():
     rows = [[cell.strip() for cell in line.split("|")[1:-1]] for line in page.splitlines() if line.startswith("|")]
     letters = next((row[1:-1] for row in rows if row[-1] == "field"), [])
     sheets = [name for name in records if "text" in records[name]]
-    check(sheets and sheets == [f"sheet{letter}" for letter in letters], "docs/RULES.md does not have the sheets in a table")
+    check(sheets and sheets == [f"sheet_{letter.lower()}" for letter in letters], "docs/RULES.md does not have the sheets in a table")
     left = set().union(*records.values()) - {"text"}
     for row in rows:
         struct, _, field = row[-1].strip("`").partition(".")
@@ -334,7 +361,7 @@ def the_tools():
         check(name in said and name in there, f"docs/WORKING.md and the folder of tools do not agree on {name}")
 
 
-looks = [the_list, the_drawing, first_lines, functions, files, layout, edits, links, paths, c_files, the_tests, unused, the_tools]
+looks = [the_list, the_drawing, first_lines, roots, functions, files, layout, edits, links, paths, c_files, the_tests, unused, the_tools]
 looks += [the_words, the_rules, the_sheets, the_numbers, the_whole_run]
 for look in looks:
     look()

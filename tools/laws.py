@@ -52,8 +52,8 @@ STANDING = {
 WORD = re.compile(r"[^\s(){},;.`\"⌜⌝]+")
 NAME = r"[^\s(){},;.`\"⌜⌝:=]+"
 DECLARED = re.compile(rf"^(\s*)((?:pub |unfoldable |abbrev )*)(record |data |ruleset )?({NAME}(?: {NAME})*)(?:\s+:(?=\s|$)| \(| \{{| =(?=\s|$))")
-USE = re.compile(r"^(?:ghost )?use (?:(\S+?)\.\{(.*?)\}|(\S+) as (\S+?)|(\S+?));?$")
-MODULE = re.compile(r"^Rattle·(\w+)(?:·\w+)?\.(specs|proofs)\.(.+)$")
+USE = re.compile(r"^(?:ghost )?use (?:(\S+?)(?:\.|::)\{(.*?)\}|(\S+) as (\S+?)|(\S+?));?$")
+MODULE = re.compile(r"^Rattle\.(\w+)\.(specs|proofs)\.(.+)$")
 
 
 def words(text):
@@ -63,7 +63,14 @@ def words(text):
 
 def said_as(name):
     """a name as it is said: of an operator, what stands between its places"""
-    return {name} | {p for p in name.split("_") if p}
+    return {name} | {p for p in name.split("◌") if p}
+
+
+def sources(*crates):
+    """the files of code, definitions and proofs, of all crates or of these folders, in order; a crate's own folder out/ is made by rt and left out"""
+    for crate in crates or sorted(path for path in CRATES.iterdir() if path.is_dir()):
+        for part in sorted(path for path in crate.iterdir() if path.name != "out"):
+            yield from sorted(path for path in part.rglob("*") if path.suffix in (".antt", ".rt"))
 
 
 class File:
@@ -82,12 +89,13 @@ class File:
         self.loose = set()  # words outside of any declaration
         self.uses = []  # line, module, name there, name here
         self.aliases = {}  # name here: line, module
+        self.means = None  # a word: what it may stand for here
         self.read()
 
     def read(self):
         stack = []  # of what the line stands in: indent, names declared there (none of a module), words of its head
-        for number, line in enumerate(self.lines):
-            text = line.split("//" if self.code else "-- ")[0]
+        for number, line in enumerate(self.joined()):
+            text = (line or "").split("//" if self.code else "-- ")[0]
             if not text.strip() or text.lstrip().startswith("--") or self.brings(number, text.strip()):
                 continue
             indent = len(text) - len(text.lstrip())
@@ -107,6 +115,16 @@ class File:
                 self.says[name] |= words(text)
             if not owner:
                 (stack[-1][2] if stack else self.loose).update(words(text))
+
+    def joined(self):
+        """the lines, but of a `use` of code over several lines the whole in the first one's place and None in the others'"""
+        lines = list(self.lines)
+        for number, line in enumerate(self.lines):
+            if self.code and re.match(r"(ghost )?use [^;]*$", line):
+                end = next((k for k in range(number, len(lines)) if lines[k].endswith(";")), number)
+                one = re.sub(r"\{ (.*?),? \}", r"{\1}", " ".join(part.strip() for part in lines[number : end + 1]))
+                lines[number : end + 1] = [one, *[None] * (end - number)]
+        return lines
 
     def declared(self, text, stack, indent):
         """the names that a line declares, if any; a fact of a `where` goes with what it stands in"""
@@ -144,6 +162,8 @@ class File:
                 self.uses.append((number, group, there, here or there))
         elif module:
             self.aliases[alias] = (number, module)
+        elif not self.code:
+            self.aliases[path.rpartition(".")[2]] = (number, path)  # a whole module, by its last name
         else:
             self.uses.append((number, path, path.split("::")[-1], path.split("::")[-1]))
         return True
@@ -164,8 +184,8 @@ def is_list(path):
 
 def load():
     files = {}
-    for path in sorted(CRATES.rglob("*")):
-        if path.suffix in (".antt", ".rt") and not is_list(path):
+    for path in sources():
+        if not is_list(path):
             file = File(path)
             files[file.key + path.suffix * file.code] = file
     return files
@@ -173,18 +193,29 @@ def load():
 
 def named(files, file, said):
     """the definitions that words of a file name"""
-    mine = [(name, file, name) for name in (*file.says, *file.parts)]
-    brought = [(here, files.get(key_of(module)), there) for _, module, there, here in file.uses]
-    for alias, (_, module) in file.aliases.items():
-        above, _, last = module.rpartition(".")
-        brought.append((alias, files.get(key_of(above)), last))
-        other = files.get(key_of(module))
-        brought += [(word, other, word[len(alias) + 1:]) for word in said if word.startswith(alias + ".")]
-    for here, other, name in mine + brought:
-        if other and said_as(here) & said:
-            name = other.parts.get(name, name)
-            if name in other.says:
+    means = meanings(files, file)
+    for word in said:
+        alias, _, rest = word.partition(".")
+        here = [(files.get(key_of(file.aliases[alias][1])), rest)] if rest and alias in file.aliases else []
+        for other, name in (*means.get(word, ()), *here):
+            name = other.parts.get(name, name) if other else None
+            if other and name in other.says:
                 yield other.key, name
+
+
+def meanings(files, file):
+    """what a word may stand for in a file: its own names, and those that it brings in"""
+    if file.means is None:
+        file.means = {}
+        every = [(name, file, name) for name in (*file.says, *file.parts)]
+        every += [(here, files.get(key_of(module)), there) for _, module, there, here in file.uses]
+        for alias, (_, module) in file.aliases.items():
+            above, _, last = module.rpartition(".")
+            every.append((alias, files.get(key_of(above)), last))
+        for here, other, name in every:
+            for word in said_as(here):
+                file.means.setdefault(word, []).append((other, name))
+    return file.means
 
 
 def roots(files):
@@ -193,7 +224,7 @@ def roots(files):
     for key, file in files.items():
         yield from named(files, file, file.said() if file.code else file.loose)
         standing = STANDING.get(key, ())
-        proof = file.path.name == "Proof.antt" or "/Proof/" in key
+        proof = file.path.name in ("Answers.antt", "Invariants.antt")
         for name in file.says:
             if standing == "*" or name in standing or proof and name in file.shown or key.startswith("paper/specs/") and name in checked:
                 yield key, name
@@ -234,17 +265,21 @@ def unused_imports(files):
 
 def tidy(file, unused):
     """a file's text without the names that it brings in for nothing, and without a `use` said twice"""
-    lines, before = [], set()
-    for number, line in enumerate(file.lines):
+    lines, before, whole = [], set(), True
+    for number, line in enumerate(file.joined()):
+        if line is None and whole:
+            lines.append(file.lines[number])
+        if line is None:
+            continue
         gone = {name for at, name in unused if at == number}
-        found = USE.match(line)
+        found, whole = USE.match(line), not gone
         if gone and found.group(1):
             kept = [n for n in found.group(2).split(", ") if n.split(" as ")[-1] not in gone]
             line = line.replace("{" + found.group(2) + "}", "{" + ", ".join(kept) + "}") if kept else None
         elif gone:
             line = None
         if line is not None and not (found and line in before):
-            lines.append(line)
+            lines.append(file.lines[number] if whole else line)
         before.add(line)
     return "\n".join(lines) + "\n"
 
@@ -259,7 +294,7 @@ def spoken(files):
     for line in files["demands/proofs/Demands/Words"].lines:
         found = re.match(r"pub use (\S+?)\.\{(.*?)\}$", line)
         todo += [(key_of(found.group(1)), name) for name in found.group(2).split(", ")] if found else []
-    for key in ("abo/src/lib.rt", "tell/src/lib.rt", "enrol/src/lib.rt", "demands/src/lib.rt"):
+    for key in (f"{crate}/src/lib.rt" for crate in ("abo", "tell", "enrol", "abo_c", "tell_c", "enrol_c", "demands")):
         promised = (line for line in files[key].lines if line.strip().startswith(("requires", "ensures")))
         todo += named(files, files[key], set().union(*map(words, promised)))
     seen = set()
