@@ -19,10 +19,9 @@ FUNCTION = re.compile(r"^( *)(?:pub )?(?:extern \"C\" )?fn (\w+)")
 
 # A fact fails: there is no proof of it, it does not follow, something of it is left to prove, or values are known at which it is false ..
 FACT = re.compile(r"no proof of|did not prove `|may be false|goal is false|is false at|the goal does not follow|give a proof of that|it is not proved that|`omega`|`grind`|`cc`")
-# .. or it is an equation, or what the function ensures, and another one is proved; but not where a proof written out by hand has other
-# steps than the program.
-DIFFER = re.compile(r"the two types (first )?differ|the two types are `Path |expected type `[^`]*(≡|Path)[^`]*`, but this has type `[^`]*≡|expected type `([^` ]*\.)?[Rr]eads\.Post ")
-STEPS = re.compile(r"types\.Kit|prog\.Wp")
+# .. or it is an equation, or what the function ensures, and another one is proved; but not where an answer is of another step of the program.
+DIFFER = re.compile(r"the two types (first )?differ|the two types are `Path |expected type `")
+STEPS = re.compile(r"types\.Kit|prog\.Wp|expected type `(goal\.|In-|After-|Then-|Else-|Joined-)|has type `(goal\.|[^` ]*\.Lts\.)")
 # Said of a name that is gone, which shows nothing of a contract.
 NAMES = re.compile(r"is not in scope|has no field|that can be named from here|is no name")
 # Said of all that stands on something refused.
@@ -110,6 +109,57 @@ class Trees:
 def jobs():
     """A check takes more than one processor at times, so there are fewer than processors."""
     return int(os.environ.get("RT_JOBS", max(1, (os.cpu_count() or 2) - 1)))
+
+
+class Sources:
+    """A crate and all below it, copied as sources, over the modules that checks of them kept: one run of the prover checks all that an edit reaches."""
+
+    def __init__(self, name, folder):
+        self.name, self.folder, self.names = name, folder, below(name)
+        self.crates, self.kept = folder / "plain", folder / "kept"
+        for one in self.names:
+            for part in filter(lambda p: (ROOT / "crates" / one / p).is_dir(), PARTS):
+                shutil.copytree(ROOT / "crates" / one / part, self.crates / one / part)
+        room = next((ROOT / "crates" / name / "out/incremental").iterdir()).name
+        (self.kept / room).mkdir(parents=True)
+        for one in self.names:
+            self.take(ROOT / "crates" / one / "out", self.kept / room)
+
+    def take(self, out, to):
+        """The modules of a crate, from its check and from its library."""
+        library = next(out.glob("rlib/*.rlib/toolchain/checked.a"), None)
+        if library:
+            subprocess.run(["ar", "x", str(library)], cwd=to, stdout=subprocess.DEVNULL, stderr=subprocess.DEVNULL)
+        for module in out.glob("incremental/*/*.oantt"):
+            if not (to / module.name).exists():
+                link(str(module), str(to / module.name))
+
+    def edited(self, label, texts):
+        """What the prover says with other texts, of files below crates/: its status and its words."""
+        place = self.folder / label
+        shutil.copytree(self.crates, place / "crates")
+        shutil.copytree(self.kept, place / "kept", copy_function=os.link)
+        for file, text in texts.items():
+            (place / "crates" / file).write_text(text, encoding="utf-8")
+        try:
+            return self.ask(place)
+        finally:
+            shutil.rmtree(place)
+
+    def ask(self, place):
+        kit = pathlib.Path(shutil.which("rt")).resolve().parent.parent
+        words = ["--crate-name", self.name, "src/lib.rt", "-L", f"dependency={kit}/rlibs"]
+        for one in ("core", "std"):
+            words += ["--extern", f"{one}={kit}/rlibs/{one}.rlib"]
+        for one in self.names[1:]:
+            uses = ",".join(("core", "std", *filter(is_ours, stands_on(one))))
+            words += ["--lib", f"{one}:{uses}={place}/crates/{one}/src/lib.rt"]
+        words += ["--antt-project", f"{kit}/rattle/logic/antt-project.json", "--logic-built", f"{kit}/logic_built"]
+        words += ["--incremental", str(place / "kept"), "--jobs", "1"]
+        done = subprocess.run([f"{kit}/bin/rattle", "check", *words], cwd=place / "crates" / self.name, stdin=subprocess.DEVNULL,
+                              stdout=subprocess.PIPE, stderr=subprocess.STDOUT)
+        lines = done.stdout.decode("utf-8", "replace").replace(f"{place}/crates/", "").splitlines()
+        return done.returncode, "\n".join(line for line in lines if not line.startswith("so far:"))
 
 
 def is_proved(status, said):

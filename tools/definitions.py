@@ -17,7 +17,7 @@ import sys
 import tempfile
 import time
 
-from copies import Trees, below, complaints, is_fact, is_refused, jobs
+from copies import PARTS, Sources, complaints, is_fact, is_refused, jobs
 
 # The judge of statements up to a file's end; and what would be said there of a statement whose sums were tested, but not heeded.
 LAST = """{before}unfoldable pub judge_on : Spots → ℕ → Stage → List Record → Judged
@@ -825,22 +825,34 @@ WRONG = [
 ]
 
 
-def tried(tree, name, file, old, new):
-    """What is wrong with the edit of a definition or with what the prover says of the crate that must fall, or None; and the place where a fact fails."""
-    crate, _, table = name.partition("/")
-    text = (tree.crates / file).read_text(encoding="utf-8")
-    if text.count(old) != 1:
-        return f"what it takes out stands {text.count(old)} times in {file}", None
-    with tree.with_texts({file: text.replace(old, new)}):
-        status, said = tree.check(crate)
-    found = [(at, words) for at, words in complaints(said) if not table or at.startswith(f"proofs/{table}.antt:")]
-    if not is_refused(status, said) or not found:
-        return f"{crate} is not refused (exit {status}): {said[-300:]}", None
-    fell = re.search(r"^rt: the library (\w+) did not build", said, re.M)
-    if fell:
-        return f"what is refused is not only {crate}: {fell[1]}", None
-    at, words = found[0]
-    return None if is_fact(words) else f"refused, but not because a fact fails: {at}: {words[:300]}", at
+class Fallen:
+    """A crate that edits must make fall, or a table of one: copied with all crates below, over the modules that their proofs left."""
+
+    def __init__(self, name, work):
+        self.crate, _, self.table = name.partition("/")
+        self.sources = Sources(self.crate, work / name.replace("/", "."))
+
+    def tried(self, label, file, old, new):
+        """What is wrong with the edit or with what the prover says of it, or None; and the place where a fact fails."""
+        text = (self.sources.crates / file).read_text(encoding="utf-8")
+        if text.count(old) != 1:
+            return f"what it takes out stands {text.count(old)} times in {file}", None
+        status, said = self.sources.edited(label, {file: text.replace(old, new)})
+        found = complaints(said)
+        if not is_refused(status, said) or not found:
+            return f"{self.crate} is not refused (exit {status}): {said[-300:]}", None
+        others = [at for at, _ in found if not self.is_own(at)]
+        others += [f for f in re.findall(r"^fn (\w+)::\w+.*: not proved", said, re.M) if f != self.crate]
+        if others:
+            return f"what is refused is not only {self.crate}: {others[0]}", None
+        found = [(at, words) for at, words in found if not self.table or f"proofs/{self.table}.antt:" in at]
+        if not found:
+            return f"nothing is refused in the table {self.table}", None
+        at, words = found[0]
+        return None if is_fact(words) else f"refused, but not because a fact fails: {at}: {words[:300]}", at
+
+    def is_own(self, at):
+        return at.startswith((f"{self.crate}/", f"{self.crate}::", *(f"{part}/" for part in PARTS)))
 
 
 def path_of(file):
@@ -854,16 +866,16 @@ def main():
     chosen = [w for w in WRONG if not asked or any(word in part for word in asked for part in (w[0], w[2], w[-1]))]
     passed = 0
     with tempfile.TemporaryDirectory() as folder, concurrent.futures.ThreadPoolExecutor(jobs()) as pool:
-        names = {below_it for *_, name in chosen for below_it in below(name.partition("/")[0])}
-        trees = Trees(pathlib.Path(folder).resolve(), sorted(names), jobs())
+        work = pathlib.Path(folder).resolve()
+        names = sorted({name for *_, name in chosen})
+        fallen = dict(zip(names, pool.map(lambda name: Fallen(name, work), names)))
 
-        def one(entry):
-            _, _, file, old, new, name = entry
-            with trees.lent() as tree:
-                began = time.time()
-                return *tried(tree, name, path_of(file), old, new), time.time() - began
+        def one(number):
+            _, _, file, old, new, name = chosen[number]
+            began = time.time()
+            return *fallen[name].tried(str(number), path_of(file), old, new), time.time() - began
 
-        for (title, idea, *_, name), (wrong, at, seconds) in zip(chosen, pool.map(one, chosen)):
+        for (title, idea, *_, name), (wrong, at, seconds) in zip(chosen, pool.map(one, range(len(chosen)))):
             fell = f"{title}: {idea}: {name} is not proved any more, as it must be (first at {at}; {seconds:.1f} s)"
             print(f"failed: {title}: {idea}: {wrong}" if wrong else fell, flush=True)
             passed += wrong is None
