@@ -29,7 +29,7 @@ pub mod num {
 PLACE = r"(\w+(?:\.\w+)*)"
 
 
-UNITS = ["abo", "tell", "enrol"]
+UNITS = ["abo_c", "tell_c", "enrol_c"]
 
 
 def libraries(unit):
@@ -38,8 +38,14 @@ def libraries(unit):
 
 
 def without_contracts(source):
-    source = re.sub(r"(?ms)^\s*(requires|ensures) \{.*?⌝ \}\n", "", source)
-    return re.sub(r"(?m)^\s*ghost .*\n", "", source)
+    """The source without clauses, which end where their braces do, lines for the prover, and derives: each struct gets Rust's own"""
+    kept, open_braces = [], 0
+    for line in source.splitlines(keepends=True):
+        if open_braces or re.match(r"\s*(requires|ensures)\b.*\{", line):
+            open_braces += line.count("{") - line.count("}")
+        elif not re.match(r"\s*(ghost |#!?\[(tactic|cycle|derive|repr)\b)", line):
+            kept.append(line)
+    return "".join(kept)
 
 
 def untested_indices(source):
@@ -79,7 +85,6 @@ def translated(name, names):
     source = re.sub(r"(?m)^(pub )?(struct|enum) ", r"#[derive(Clone, Copy)] \1\2 ", source)
     source = source.replace("(Clone, Copy)] pub struct Abo", "(Clone, Copy)] #[repr(C)] pub struct Abo")
     source = re.sub(r'(?m)^(\s*)(pub )?(extern "C" )?fn ', r"\1\2unsafe \3fn ", source)
-    source = source.replace("#[no_mangle]", "#[unsafe(no_mangle)]")
     source = re.sub(r'(?ms)^(pub unsafe extern "C" fn .*?)^\{(.*?^\})', lent_in_two_words, source)
     return f"pub mod {name} {{ use super::*;\n{source}\n}}\n"
 
