@@ -47,6 +47,8 @@ STANDING = {
     # contracts that are no equations leave one answer all the same
     "reader/proofs/Determined": ("finds-one",),
     "rewriting/proofs/Front": ("determined",),
+    # asked when line_of was walked by hand; its answer finds the same by itself
+    "reader/proofs/Walking": ("fits",),
 }
 
 WORD = re.compile(r"[^\s(){},;.`\"⌜⌝]+")

@@ -1,5 +1,4 @@
 -- `find_stop` meets its contract: each turn passes a byte that ends no part. Assumes nothing.
-use Prim.Native.Nat.{◌-◌}
 use native.Mathlib.Omega.{arith}
 use Rattle.text.proofs.division.Turns.{halves}
 use Rattle.text.proofs.division.find_stop.Goals as goal

@@ -1,5 +1,4 @@
 -- `part_end` meets its contract: behind each stop that ends no part, the part is still open. Assumes nothing.
-use Prim.Native.Nat.{◌-◌}
 use borrow.Author.Rules.{rules}
 use Rattle.text.proofs.division.Turns.{mark-room, open-mark, opens}
 use Rattle.text.proofs.division.part_end.Goals as goal

@@ -1,5 +1,4 @@
 -- `pass_plain` meets its contract: each turn passes a block whose bytes are all of the kind. Assumes nothing.
-use Prim.Native.Nat.{◌-◌}
 use borrow.Author.Rules.{rules}
 use Rattle.scan.proofs.block.Turns.{skips}
 use Rattle.text.proofs.division.pass_plain.Goals as goal
