@@ -287,7 +287,7 @@ def found_cases(lib, rnd, count):
             if a.number == 0 and (a.refused == 1) == (i % 2 == 0):
                 break
         found = [numbers(Finding.from_buffer(lent, ctypes.sizeof(Finding) * k)) for k in range(a.count)]
-        asked = "sheet_%s %d (%s)" % (LETTERS[sheet], today, quoted(text))
+        asked = "sheet_%s %d (%s)" % (LETTERS[sheet].lower(), today, quoted(text))
         if a.refused == 1:
             yield "found_in %s ≡ %s" % (asked, found[0])
         else:
