@@ -10,7 +10,9 @@ ghost use Rattle.numeral.specs.field.Digits.{run, Worth};
 ghost use Rattle.numeral.specs.field.Kept.{keeping, nothing};
 ghost use Rattle.numeral.specs.field.Told.{told, passed};
 
-// Digits that were read: their number, and the place behind them.
+use refusal::Refusal;
+
+// Digits that were read: their number, and the place behind them. Where they are all of a field, that is the field's end.
 #[derive(Clone, Copy)]
 pub struct Run {
     pub value: u64,
@@ -65,15 +67,8 @@ pub fn ends(s: &[u8], at: usize) -> bool
     s[at] == 32
 }
 
-// What a field of digits at its place says: its number and the field's end, or the refusal's number.
-#[derive(Clone, Copy)]
-pub enum NumAt {
-    Value(u64, usize),
-    Refused(u64),
-}
-
 // A field of `least` to `most` digits and nothing else.
-pub fn number_at(s: &[u8], at: usize, least: usize, most: usize) -> NumAt
+pub fn number_at(s: &[u8], at: usize, least: usize, most: usize) -> Result<Run, Refusal>
     requires { (at ≤ length s.now) × (most ≤ 19) }
     ensures { told result ≡ field_at (digits least most) s.now at }
 {
@@ -81,18 +76,11 @@ pub fn number_at(s: &[u8], at: usize, least: usize, most: usize) -> NumAt
     let end = got.end;
     if ends(s, end) {
         if end - at < least {
-            return NumAt::Refused(4);
+            return Err(Refusal::BadField);
         }
-        return NumAt::Value(got.value, end);
+        return Ok(got);
     }
-    NumAt::Refused(4)
-}
-
-// What is known of a field of which nothing is kept: where it ends, or the refusal's number.
-#[derive(Clone, Copy)]
-pub enum Passed {
-    At(usize),
-    Refused(u64),
+    Err(Refusal::BadField)
 }
 
 // Are the eight bytes at `at` digits? The loop has no early exit, so that the compiler compares all of them at once.
@@ -142,17 +130,17 @@ fn ten_end(s: &[u8], at: usize) -> usize
     few_end(s, at, 7)
 }
 
-// A symbol at `at`: `least` to 10 digits.
-pub fn pass_symbol(s: &[u8], at: usize, least: usize) -> Passed
+// A symbol at `at`: `least` to 10 digits. Nothing is kept of it but where it ends.
+pub fn pass_symbol(s: &[u8], at: usize, least: usize) -> Result<usize, Refusal>
     requires { at ≤ length s.now }
     ensures { passed result ≡ keeping nothing (field_at (digits least 10) s.now at) }
 {
     let end = ten_end(s, at);
     if ends(s, end) {
         if end - at < least {
-            return Passed::Refused(4);
+            return Err(Refusal::BadField);
         }
-        return Passed::At(end);
+        return Ok(end);
     }
-    Passed::Refused(4)
+    Err(Refusal::BadField)
 }

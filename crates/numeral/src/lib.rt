@@ -11,39 +11,34 @@ ghost use Rattle.base.specs.Put.{Wrote};
 ghost use Rattle.paper.specs.Numerals.{digits, decimal, fixed};
 ghost use Rattle.numeral.specs.Told.{told};
 
-// What a field of digits says: its number, or the refusal's.
-#[derive(Clone, Copy)]
-pub enum Num {
-    Value(u64),
-    Refused(u64),
-}
+use refusal::Refusal;
 
 // A field of `least` to `most` digits and nothing else.
-pub fn read_digits(f: &[u8], least: usize, most: usize) -> Num
+pub fn read_digits(f: &[u8], least: usize, most: usize) -> Result<u64, Refusal>
     requires { most ≤ 19 }
     ensures { told result ≡ digits least most f.now }
 {
     let n = f.len();
     if n < least {
-        return Num::Refused(4);
+        return Err(Refusal::BadField);
     }
     if most < n {
-        return Num::Refused(4);
+        return Err(Refusal::BadField);
     }
     let mut v: u64 = 0;
     let mut i = 0;
     while i < n {
         let b = f[i];
         if b < 48 {
-            return Num::Refused(4);
+            return Err(Refusal::BadField);
         }
         if 57 < b {
-            return Num::Refused(4);
+            return Err(Refusal::BadField);
         }
         v = v * 10 + (b - 48) as u64;
         i += 1;
     }
-    Num::Value(v)
+    Ok(v)
 }
 
 // How many digits a number below 10 ^ 10 has.

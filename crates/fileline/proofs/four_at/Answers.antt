@@ -3,8 +3,8 @@ use borrow.Author.Rules.{rules}
 use Rattle.fileline.proofs.Four.{fours}
 use Rattle.fileline.proofs.four_at.Goals as goal
 
-pub four-requires : goal.four-requires
-four-requires c = search (fours, rules)
+pub four-value-requires : goal.four-value-requires
+four-value-requires c = search (fours, rules)
 
 pub returns-then-four_digits : goal.returns-then-four_digits
 returns-then-four_digits c = search (fours, rules)

@@ -15,10 +15,10 @@ pub returns-then-has : goal.returns-then-has
 unfolding fault_in
 returns-then-has c = search picks depth 8
 
-pub returns-then-interval : goal.returns-then-interval
+pub returns-else-interval : goal.returns-else-interval
 unfolding fault_in
-returns-then-interval c = search picks depth 8
+returns-else-interval c = search picks depth 8
 
-pub returns : goal.returns
+pub returns-else-has : goal.returns-else-has
 unfolding fault_in
-returns c = search picks depth 8
+returns-else-has c = search picks depth 8

@@ -1,5 +1,7 @@
 -- A field of the line s that is judged, for whoever reads on: n is what the judge answered, f what is kept of the value. Assumes nothing.
-use Rattle.std.proofs.Common.{◌≡◌, ℕ, ◌≤◌, true, List, length, drop, sym, ap, ◌∙◌, arith}
+use Rattle.std.proofs.Common.{◌≡◌, ℕ, ◌≤◌, true, Result, Ok, Err, List, length, drop, sym, ap, ◌∙◌, arith}
+use Rattle.refusal.specs.declared.Refusal.{Refusal}
+use Rattle.refusal.specs.Numbers.{number_of}
 use Rattle.paper.specs.Read.{Field}
 use Rattle.paper.specs.Bytes.{field_of}
 use Rattle.paper.specs.ItemLine.{is_value}
@@ -8,8 +10,6 @@ use Rattle.numeral.specs.field.At.{At, found, missed, field_at}
 use Rattle.numeral.proofs.field.Steps.{found-value, found_within, found-field, missed-field}
 use Rattle.numeral.specs.field.Kept.{keeping, nothing}
 use Rattle.numeral.specs.field.Told.{passed}
-use Rattle.numeral.specs.declared.field.Passed.{Passed}
-use Rattle.numeral.specs.declared.field.Passed.TheVariants as pass
 
 -- ---- what was there, where this is kept
 
@@ -44,13 +44,13 @@ module _ {A B : Type 0} (f : A → B) (read : List ℕ → Field A) (s : List �
 
 -- ---- a field of which nothing is kept
 
-module _ {A : Type 0} (read : List ℕ → Field A) (s : List ℕ) (at : ℕ) (n : Passed) (g : passed n ≡ keeping nothing (field_at read s at)) where
-  module _ (e : ℕ) (f : n ≡ pass.At e) where
+module _ {A : Type 0} (read : List ℕ → Field A) (s : List ℕ) (at : ℕ) (n : Result ℕ Refusal) (g : passed n ≡ keeping nothing (field_at read s at)) where
+  module _ (e : ℕ) (f : n ≡ Ok e) where
     pub passed-within : at ≤ length s → e ≤ length s
     passed-within l = kept-within nothing read s at tt e (rw f at g) l
 
     pub passed-field : {Z : Type 0} (k : ℕ → List ℕ → Said Z) → field read at (drop at s) (λ v a t. k a t) ≡ k e (drop e s)
     passed-field k = kept_field nothing read s at tt e (rw f at g) (λ v a t. k a t)
 
-  pub refused-field : {Z : Type 0} (c : ℕ) → n ≡ pass.Refused c → (k : A → ℕ → List ℕ → Said Z) → field read at (drop at s) k ≡ no c at
-  refused-field c f k = missed-kept nothing read s at c (rw f at g) k
+  pub refused-field : {Z : Type 0} (c : Refusal) → n ≡ Err c → (k : A → ℕ → List ℕ → Said Z) → field read at (drop at s) k ≡ no (number_of c) at
+  refused-field c f k = missed-kept nothing read s at (number_of c) (rw f at g) k

@@ -1,14 +1,15 @@
 -- A field that is read on at its place: a number, and then what it must be. One step of an answer r through it, for `search`.
 -- Assumes nothing.
-use Rattle.std.proofs.Common.{◌≡◌, ℕ, ◌+◌, ◌<◌, ◌≤◌, Bool, true, false, eqb, ltb, List, drop, sym, refl, ap, ◌∙◌, le-ltb, lt-ltb, eq-eqb, ne_eqb}
+use Rattle.std.proofs.Common.{◌≡◌, ℕ, ◌+◌, ◌<◌, ◌≤◌, Bool, true, false, eqb, ltb, Result, Ok, Err, List, drop, sym, refl, ap, ◌∙◌, le-ltb, lt-ltb, eq-eqb, ne_eqb}
 use Rattle.base.specs.Pick.{pick}
 use Rattle.base.specs.Seek.{seek}
 use Rattle.base.proofs.Cases.{pick_true, pick-false}
+use Rattle.refusal.specs.declared.Refusal.{Refusal}
+use Rattle.refusal.specs.Numbers.{number_of}
 use Rattle.paper.specs.Read.{Field, value, fault, given}
 use Rattle.paper.specs.Bytes.{space, field_of}
 use Rattle.numeral.specs.field.At.{At, found, missed, ending, field_at}
-use Rattle.numeral.specs.declared.field.NumAt.{NumAt}
-use Rattle.numeral.specs.declared.field.NumAt.TheVariants.{Value, Refused}
+use Rattle.numeral.specs.declared.field.Run.{Run}
 use Rattle.numeral.specs.field.Told.{told}
 
 -- the value is read on, and its field's end stays
@@ -29,12 +30,12 @@ module _ {A B : Type 0} (k : A → Field B) where
 
 -- ---- steps: n is what a callee answered
 
-module _ {B : Type 0} (r : At B) (x : At ℕ) (k : ℕ → Field B) (n : NumAt) (g : told n ≡ x) where
-  pub on_value : (v e : ℕ) → n ≡ Value v e → r ≡ ending e (k v) → r ≡ onward x k
+module _ {B : Type 0} (r : At B) (x : At ℕ) (k : ℕ → Field B) (n : Result Run Refusal) (g : told n ≡ x) where
+  pub on_value : (d : Run) → n ≡ Ok d → r ≡ ending d.end (k d.value) → r ≡ onward x k
   unfolding onward
-  on_value v e f q = q ∙ rw (← g, f)
+  on_value d f q = q ∙ rw (← g, f)
 
-  pub on-refused : (c : ℕ) → n ≡ Refused c → r ≡ missed c → r ≡ onward x k
+  pub on-refused : (c : Refusal) → n ≡ Err c → r ≡ missed (number_of c) → r ≡ onward x k
   unfolding onward
   on-refused c f q = q ∙ rw (← g, f)
 

@@ -1,10 +1,10 @@
 -- A field that is read by its bytes, from its place to the end e that was found. Assumes nothing.
-use Rattle.std.proofs.Common.{◌≡◌, ℕ, ◌+◌, ◌-◌, List, take, drop, arith}
+use Rattle.std.proofs.Common.{◌≡◌, ℕ, ◌+◌, ◌-◌, Result, Ok, Err, List, take, drop, arith}
 use Rattle.base.specs.Seek.{seek}
+use Rattle.refusal.specs.declared.Refusal.{Refusal}
+use Rattle.refusal.specs.Numbers.{number_of}
 use Rattle.paper.specs.Read.{Field, value, fault}
 use Rattle.paper.specs.Bytes.{space, field_of}
-use Rattle.numeral.specs.declared.Num.{Num}
-use Rattle.numeral.specs.declared.Num.TheVariants.{Value, Refused}
 use Rattle.numeral.specs.Told.{told}
 use Rattle.numeral.specs.field.At.{found, missed, ending, field_at}
 
@@ -23,11 +23,11 @@ module _ {A : Type 0} (read : List ℕ → Field A) (s : List ℕ) (at e : ℕ) 
     whole-missed n f = rw (← whole-field, ← g, f)
 
 -- the reader answered m
-module _ (read : List ℕ → Field ℕ) (s : List ℕ) (at e : ℕ) (h : e ≡ at + seek space (drop at s)) (m : Num) (g : told m ≡ read (take (e - at) (drop at s))) where
-  pub whole-value : (v : ℕ) → m ≡ Value v → found v e ≡ field_at read s at
+module _ (read : List ℕ → Field ℕ) (s : List ℕ) (at e : ℕ) (h : e ≡ at + seek space (drop at s)) (m : Result ℕ Refusal) (g : told m ≡ read (take (e - at) (drop at s))) where
+  pub whole-value : (v : ℕ) → m ≡ Ok v → found v e ≡ field_at read s at
   whole-value v f = whole-found read s at e h (told m) g v (rw f)
 
-  pub whole-refused : (n : ℕ) → m ≡ Refused n → missed n ≡ field_at read s at
-  whole-refused n f = whole-missed read s at e h (told m) g n (rw f)
+  pub whole-refused : (n : Refusal) → m ≡ Err n → missed (number_of n) ≡ field_at read s at
+  whole-refused n f = whole-missed read s at e h (told m) g (number_of n) (rw f)
 
 pub ruleset wholes = (whole-value, whole-refused)

@@ -1,8 +1,9 @@
 -- A line that says something, step by step: its fields are there, and so are the spaces between them. Assumes nothing.
-use Rattle.std.proofs.Common.{◌≡◌, ℕ, ◌+◌, ◌<◌, true, List, length, drop, sym, refl, ◌∙◌, arith, drop_of_length-le}
+use Rattle.std.proofs.Common.{◌≡◌, ℕ, ◌+◌, ◌<◌, true, Result, Ok, List, length, drop, sym, refl, ◌∙◌, arith, drop_of_length-le}
 use Rattle.base.specs.Seek.{seek}
 use Rattle.base.proofs.Cases.{by-lt}
 use Rattle.base.proofs.Seek.{never}
+use Rattle.refusal.specs.declared.Refusal.{Refusal}
 use Rattle.paper.specs.Read.{Field, value, fault}
 use Rattle.paper.specs.Bytes.{space, field_of}
 use Rattle.paper.specs.Entries.{Said, Listed, got, no, counted, on_field, field, gap}
@@ -10,8 +11,6 @@ use Rattle.paper.specs.ItemLine.{is_value}
 use Rattle.numeral.specs.field.At.{found, field_at}
 use Rattle.numeral.specs.field.Kept.{keeping, nothing}
 use Rattle.numeral.specs.field.Told.{passed}
-use Rattle.numeral.specs.declared.field.Passed.{Passed}
-use Rattle.numeral.specs.declared.field.Passed.TheVariants.{At}
 use Rattle.numeral.proofs.field.Steps.{found-end, found-field, step-gap}
 use Rattle.numeral.proofs.field.Kept.{was-found, kept-says}
 use Rattle.numeral.specs.placed.Known.{There}
@@ -72,7 +71,7 @@ module _ {A : Type 0} (read : List ℕ → Field A) (s : List ℕ) (at : ℕ) wh
 
 -- ---- a field that was judged, with the line going on behind it: n is what the judge answered
 
-pub passed-there : {A : Type 0} (read : List ℕ → Field A) (s : List ℕ) (at : ℕ) (n : Passed) → passed n ≡ keeping nothing (field_at read s at) → (e : ℕ) → n ≡ At e → e < length s → There read s at
+pub passed-there : {A : Type 0} (read : List ℕ → Field A) (s : List ℕ) (at : ℕ) (n : Result ℕ Refusal) → passed n ≡ keeping nothing (field_at read s at) → (e : ℕ) → n ≡ Ok e → e < length s → There read s at
 passed-there read s at n g e f l =
     let q : found tt e ≡ keeping nothing (field_at read s at) = rw f at g in
     let v = was-found nothing (field_at read s at) tt e q in
