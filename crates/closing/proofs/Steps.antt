@@ -8,11 +8,12 @@ use native.Mathlib.Omega.{arith}
 use lib.ListN.{length, get_or, drop, drop_of_length-le}
 use lib.Seq.{drop-cons}
 use borrow.Author.Tests.{eq-eqb, ne_eqb}
+use Rattle.std.proofs.Common.{Result}
 use Rattle.base.specs.Pick.{pick}
 use Rattle.base.specs.Seek.{starts}
 use Rattle.paper.specs.Entries.{Entry, Listed, plain, no, line_end}
 use Rattle.paper.specs.ClosingLine.{plus_at, read_close}
-use Rattle.closing.specs.declared.CloseRead.{CloseRead}
+use Rattle.refusal.specs.declared.Flaw.{Flaw}
 use Rattle.closing.specs.Told.{told}
 
 -- ---- a plus at `at`
@@ -44,7 +45,7 @@ same true = refl
 same false = refl
 
 -- r is what `plus_at` answered
-module _ (r : CloseRead) (near : Bool) where
+module _ (r : Result (Unit {0}) Flaw) (near : Bool) where
   pub close-space : (s : List ℕ) → get_or s 1 0 ≡ 32 → ((e : Entry) → told e r ≡ plus_at e 2 (drop 2 s)) → (e : Entry) → told e r ≡ read_close near e s
   unfolding read_close starts pick
   close-space [] h q e = absurd (omega arith)

@@ -6,36 +6,31 @@ ghost use Rattle.paper.specs.Entries.{Entry};
 ghost use Rattle.paper.specs.ClosingLine.{plus_at, read_close};
 ghost use Rattle.closing.specs.Told.{told};
 
-// What a closing line says: that it closes, or the refusal's number and its place in the line.
-#[derive(Clone, Copy)]
-pub enum CloseRead {
-    Closed,
-    Refused(u64, usize),
-}
+use refusal::{Flaw, Refusal};
 
 // A plus at `at`, and nothing more.
-fn plus_at(s: &[u8], at: usize) -> CloseRead
+fn plus_at(s: &[u8], at: usize) -> Result<(), Flaw>
     ensures { (e : Entry) → told e result ≡ plus_at e at (drop at s.now) }
 {
     if s.len() <= at {
-        return CloseRead::Refused(4, at);
+        return Err(Flaw(Refusal::BadField, at));
     }
     if s[at] == 43 {
         let after = at + 1;
         if s.len() <= after {
-            return CloseRead::Closed;
+            return Ok(());
         }
-        return CloseRead::Refused(4, after);
+        return Err(Flaw(Refusal::BadField, after));
     }
-    CloseRead::Refused(4, at)
+    Err(Flaw(Refusal::BadField, at))
 }
 
 // A line that was known as a closing one by its first byte: behind it a space and a plus, or, where `near`, a plus at once.
-pub fn close_line(s: &[u8], near: bool) -> CloseRead
+pub fn close_line(s: &[u8], near: bool) -> Result<(), Flaw>
     ensures { (e : Entry) → told e result ≡ read_close near e s.now }
 {
     if s.len() < 2 {
-        return CloseRead::Refused(4, 1);
+        return Err(Flaw(Refusal::BadField, 1));
     }
     if s[1] == 32 {
         return plus_at(s, 2);
@@ -43,5 +38,5 @@ pub fn close_line(s: &[u8], near: bool) -> CloseRead
     if near {
         return plus_at(s, 1);
     }
-    CloseRead::Refused(4, 1)
+    Err(Flaw(Refusal::BadField, 1))
 }
