@@ -1,4 +1,5 @@
 -- The answer of reading against a register and the bytes that it leaves, beside those of reading. Assumes nothing.
+use Rattle.std.proofs.Common.{Option, Some, None}
 use Prim.Native.Nat.{ℕ, ◌/◌, ◌^◌, ◌≤◌, ◌<◌}
 use mathlib.Core.Path.{◌≡◌, refl, sym, ap, ◌∙◌}
 use mathlib.Core.Bool.{Bool, true, false}
@@ -10,8 +11,6 @@ use lib.ListN.{length}
 use Rattle.base.specs.Pick.{pick}
 use Rattle.base.proofs.Cases.{by-test, pick_same, pick_true}
 use Rattle.sheet.specs.declared.Sheet.{Sheet}
-use Rattle.sheet.specs.declared.Known.{Known}
-use Rattle.sheet.specs.declared.Known.TheVariants as known
 use Rattle.sheet.specs.Sheets.{sheet_of}
 use Rattle.paper.specs.Days.{real_day}
 use Rattle.paper.specs.Batch.{Batch, Header}
@@ -58,11 +57,11 @@ module _ (today : ℕ) (f lent register : List ℕ) where
   kept-day sh reg true bad = kept-answer sh reg sh.interval (judge_on reg sh today f) bad
   kept-day sh reg false bad = (refl, refl)
 
-  kept-sheet : (k : Known) → ((registered_with k today f room (register_of register)).number ≡ 0 → ⊥)
+  kept-sheet : (k : Option Sheet) → ((registered_with k today f room (register_of register)).number ≡ 0 → ⊥)
       → (registered_rows_with k today f lent (register_of register) ≡ lent) × (register_with k today f room register ≡ register)
   unfolding registered_with registered_rows_with register_with
-  kept-sheet (known.Sheet sh) bad = kept-day sh (register_of register) (real_day today) bad
-  kept-sheet known.Nothing bad = (refl, refl)
+  kept-sheet (Some sh) bad = kept-day sh (register_of register) (real_day today) bad
+  kept-sheet None bad = (refl, refl)
 
 pub registered-kept : (sheet today : ℕ) (f lent register : List ℕ) → ((registered_answer sheet today f lent register).number ≡ 0 → ⊥)
     → (registered_rows sheet today f lent register ≡ lent) × (register_after sheet today f lent register ≡ register)
@@ -71,7 +70,7 @@ registered-kept sheet today f lent register = kept-sheet today f lent register (
 
 -- ---- a known sheet
 
-module _ (sheet : ℕ) (sh : Sheet) (named : sheet_of sheet ≡ known.Sheet sh) (today : ℕ) (f lent register : List ℕ) where
+module _ (sheet : ℕ) (sh : Sheet) (named : sheet_of sheet ≡ Some sh) (today : ℕ) (f lent register : List ℕ) where
   -- where the register makes no difference, it is reading's own answer, and its rows
   same_answer : judge_on (register_of register) sh today f ≡ judge sh today f → registered_answer sheet today f lent register ≡ read_answer sheet today f lent
   unfolding registered_answer registered_with read_answer read_with

@@ -1,4 +1,5 @@
 -- What stands behind the first 8,193 bytes of an input changes nothing: the rewriting program need not read it. Assumes nothing.
+use Rattle.std.proofs.Common.{Option, Some, None}
 use mathlib.Core.Path.{◌≡◌, refl, sym, ap, ◌∙◌}
 use mathlib.Core.List.{List, [], ◌∷◌}
 use Prim.Native.Nat.{ℕ, zero, suc, ◌≤◌, ◌<◌}
@@ -9,8 +10,6 @@ use lib.Seq.{take_all, length-take-le}
 use borrow.Author.Tests.{lt-ltb, le-ltb}
 use Rattle.base.specs.Pick.{pick}
 use Rattle.base.proofs.Cases.{by-lt, by-test, pick_true}
-use Rattle.sheet.specs.declared.Known.{Known}
-use Rattle.sheet.specs.declared.Known.TheVariants as known
 use Rattle.sheet.specs.declared.Sheet.{Sheet}
 use Rattle.sheet.specs.Sheets.{sheet_by}
 use Rattle.paper.specs.Read.{Field, value, fault, given}
@@ -46,10 +45,10 @@ unfolding day_field
 field-take n [] six = refl
 field-take n (x ∷ s) six = rw (day-take n s six)
 
-sheet-take : (n : ℕ) (k : Known) (rest input : List ℕ) → 6 < n → on_sheet k (take (suc n) rest) input ≡ on_sheet k rest input
+sheet-take : (n : ℕ) (k : Option Sheet) (rest input : List ℕ) → 6 < n → on_sheet k (take (suc n) rest) input ≡ on_sheet k rest input
 unfolding on_sheet
-sheet-take n known.Nothing rest input six = refl
-sheet-take n (known.Sheet sh) rest input six = ap (on_day sh input) (field-take n rest six)
+sheet-take n None rest input six = refl
+sheet-take n (Some sh) rest input six = ap (on_day sh input) (field-take n rest six)
 
 letter-take : (n : ℕ) (l input : List ℕ) → 6 < n → on_letter (take (suc (suc n)) l) input ≡ on_letter l input
 unfolding on_letter
@@ -64,10 +63,10 @@ module _ (a b : List ℕ) (long : 8192 < length a) (same : 8192 < length b) wher
   day-alike sh (value today) = pick_true _ _ (lt-ltb 8192 (length a) long) ∙ sym (pick_true _ _ (lt-ltb 8192 (length b) same))
   day-alike sh (fault n) = refl
 
-  sheet-alike : (k : Known) (rest : List ℕ) → on_sheet k rest a ≡ on_sheet k rest b
+  sheet-alike : (k : Option Sheet) (rest : List ℕ) → on_sheet k rest a ≡ on_sheet k rest b
   unfolding on_sheet
-  sheet-alike known.Nothing rest = refl
-  sheet-alike (known.Sheet sh) rest = day-alike sh (day_field rest)
+  sheet-alike None rest = refl
+  sheet-alike (Some sh) rest = day-alike sh (day_field rest)
 
   letter-alike : (l : List ℕ) → on_letter l a ≡ on_letter l b
   unfolding on_letter

@@ -1,4 +1,5 @@
 -- What users quote of the demands. Assumes nothing.
+use Rattle.std.proofs.Common.{Some}
 use mathlib.Core.Path.{◌≡◌}
 use mathlib.Core.Bool.{Bool, true}
 use mathlib.Core.List.{List}
@@ -6,7 +7,6 @@ use mathlib.Core.Logic.{◌↔◌}
 use Prim.Native.Nat.{ℕ, suc, ◌*◌, ◌/◌, ◌%◌, ◌^◌, ◌≤◌, ◌<◌}
 use lib.ListN.{length, take}
 use Rattle.sheet.specs.declared.Sheet.{Sheet}
-use Rattle.sheet.specs.declared.Known.TheVariants as known
 use Rattle.sheet.specs.Sheets.{sheet_c, sheet_p, sheet_of}
 use Rattle.sheet.proofs.Laws as sheets
 use Rattle.paper.specs.Days.{real_day, month_ahead, collect_allowed}
@@ -128,7 +128,7 @@ module _ (today : ℕ) where
 
 -- ---- for a known sheet and a real day
 
-module _ (sheet : ℕ) (sh : Sheet) (named : sheet_of sheet ≡ known.Sheet sh) (today : ℕ) where
+module _ (sheet : ℕ) (sh : Sheet) (named : sheet_of sheet ≡ Some sh) (today : ℕ) where
   module _ (f : List ℕ) (h : Header) (b : Batch) (w : ℕ) (s : Spells sh today f h b w) where
     abbrev judged : judge sh today f ≡ Accepted h b w
     judged = (exact.exact sh today f h b w).1 s

@@ -84,7 +84,7 @@ writing-gives sheet today h rows texts out = write-numbers.writes sheet today h 
 
 -- ---- what follows speaks of a known sheet and a real day
 
-module _ (sheet : ℕ) (sh : Sheet) (named : sheet_of sheet ≡ known.Sheet sh) (today : ℕ) (day : real_day today ≡ true) where
+module _ (sheet : ℕ) (sh : Sheet) (named : sheet_of sheet ≡ Some sh) (today : ℕ) (day : real_day today ≡ true) where
   -- ---- Demand 2, reading
 
   -- With room for its rows a file is accepted as a batch, with a header and warnings, exactly if it breaks no rule and spells these,

@@ -1,6 +1,7 @@
 -- What is demanded of the two calls that say what is found in a file (document 02, W-205), on one page. The contracts of the calls name
 -- `list_answer` and `list_after` of abo_findings (crate findings), `explanation` of abo_explain (crate explain), whose answer and output are document 01's
 -- `written_in` and `output_after`; both are of one list, `findings`. The functions that make calls are in ../src/lib.rt. Assumes nothing.
+use Rattle.std.proofs.Common.{Some}
 use mathlib.Core.Path.{◌≡◌, refl}
 use mathlib.Core.Bool.{true}
 use mathlib.Core.List.{List, [], ◌∷◌}
@@ -10,7 +11,6 @@ use lib.ListN.{length}
 use Rattle.base.specs.Pick.{pick}
 use Rattle.base.specs.Seek.{all}
 use Rattle.sheet.specs.declared.Sheet.{Sheet}
-use Rattle.sheet.specs.declared.Known.TheVariants as known
 use Rattle.sheet.specs.Sheets.{sheet_of}
 use Rattle.sheet.proofs.Laws.{sheet-sane}
 use Rattle.paper.specs.Days.{real_day}
@@ -61,7 +61,7 @@ listing-refused = determined.lent-kept
 
 -- ---- what follows speaks of a known sheet and a real day
 
-module _ (sheet : ℕ) (sh : Sheet) (named : sheet_of sheet ≡ known.Sheet sh) (today : ℕ) (day : real_day today ≡ true) where
+module _ (sheet : ℕ) (sh : Sheet) (named : sheet_of sheet ≡ Some sh) (today : ℕ) (day : real_day today ≡ true) where
   -- the text is made of the findings that the list has, by one definition,
   pub one-text : (f : List ℕ) → explanation sheet today f ≡ drafted (text_on sh today f)
   unfolding explanation explanation_with pick
@@ -109,5 +109,5 @@ module _ (sheet : ℕ) (sh : Sheet) (named : sheet_of sheet ≡ known.Sheet sh) 
   every-sheet f = every.every-sheet sh today f day
   -- and so does its bit in the list.
 
-pub every-bit : (today : ℕ) (f : List ℕ) (n : ℕ) (sh : Sheet) → sheet_of (n + 1) ≡ known.Sheet sh → accepting today f / 2 ^ n % 2 ≡ 1 ↔ SpellsSome sh today f
+pub every-bit : (today : ℕ) (f : List ℕ) (n : ℕ) (sh : Sheet) → sheet_of (n + 1) ≡ Some sh → accepting today f / 2 ^ n % 2 ≡ 1 ↔ SpellsSome sh today f
 every-bit = every.every-bit

@@ -1,6 +1,7 @@
 -- What is demanded of the five calls that keep the day's numbers (document 02, W-207), on one page. The contracts of the calls name
 -- `start_answer`, `start_after`, `lowest_answer`, `free_answer`, `give_answer`, `give_after` (crate register) and `registered_answer`, `registered_rows`,
 -- `register_after` (crate against). The functions that make calls are in ../src/lib.rt. Assumes nothing.
+use Rattle.std.proofs.Common.{Some}
 use Prim.Native.Nat.{ℕ, ◌+◌, ◌/◌, ◌^◌, ◌≤◌, ◌<◌}
 use mathlib.Core.Path.{◌≡◌}
 use mathlib.Core.Bool.{true, false}
@@ -8,7 +9,6 @@ use mathlib.Core.List.{List, [], ◌∷◌}
 use mathlib.Core.Logic.{◌↔◌}
 use lib.ListN.{length}
 use Rattle.sheet.specs.declared.Sheet.{Sheet}
-use Rattle.sheet.specs.declared.Known.TheVariants as known
 use Rattle.sheet.specs.Sheets.{sheet_of}
 use Rattle.sheet.proofs.Laws.{sane}
 use Rattle.paper.specs.Days.{real_day}
@@ -147,7 +147,7 @@ give-back-and-ask = give-back-and-ask-call.met
 
 -- ---- Reading against it: a known sheet
 
-module _ (sheet : ℕ) (sh : Sheet) (named : sheet_of sheet ≡ known.Sheet sh) (today : ℕ) (f lent register : List ℕ) where
+module _ (sheet : ℕ) (sh : Sheet) (named : sheet_of sheet ≡ Some sh) (today : ℕ) (f lent register : List ℕ) where
   -- A sheet without K's number rule neither looks at the register nor changes it, whatever it holds.
   pub other-sheets : sh.interval ≡ false → (registered_answer sheet today f lent register ≡ read_answer sheet today f lent)
       × (registered_rows sheet today f lent register ≡ rows_after sheet today f lent) × (register_after sheet today f lent register ≡ register)

@@ -1,4 +1,5 @@
 -- How explaining ends: the text put or not, 2 and 1. Assumes nothing.
+use Rattle.std.proofs.Common.{Option, Some, None}
 use mathlib.Core.Path.{◌≡◌, sym, ◌∙◌}
 use mathlib.Core.Bool.{Bool, true, false}
 use mathlib.Core.List.{List}
@@ -9,8 +10,6 @@ use lib.Seq.{take-append_seam}
 use borrow.Author.Tests.{lt-ltb, le-ltb}
 use Rattle.base.specs.Pick.{pick}
 use Rattle.sheet.specs.declared.Sheet.{Sheet}
-use Rattle.sheet.specs.declared.Known.{Known}
-use Rattle.sheet.specs.declared.Known.TheVariants as known
 use Rattle.sheet.specs.Sheets.{sheet_of}
 use Rattle.sheet.proofs.Laws.{sheet-sane}
 use Rattle.paper.specs.Days.{real_day}
@@ -87,19 +86,19 @@ module _ (sh : Sheet) (today : ℕ) (f l l1 : List ℕ) (a : TextAnswer) (t : Bo
   pub real-known : t ≡ true → real_day today ≡ true
   real-known e = sym g ∙ e
 
-  pub that-day : t ≡ true → a ≡ text_answer (written_in (length l) (drafted (text_on sh today f))) → a ≡ text_answer (written_in (length l) (explanation_with (known.Sheet sh) today f))
+  pub that-day : t ≡ true → a ≡ text_answer (written_in (length l) (drafted (text_on sh today f))) → a ≡ text_answer (written_in (length l) (explanation_with (Some sh) today f))
   unfolding explanation_with pick
   that-day e h = h ∙ rw (← g, e)
 
-  pub output-that-day : t ≡ true → l1 ≡ output_after l (drafted (text_on sh today f)) → l1 ≡ output_after l (explanation_with (known.Sheet sh) today f)
+  pub output-that-day : t ≡ true → l1 ≡ output_after l (drafted (text_on sh today f)) → l1 ≡ output_after l (explanation_with (Some sh) today f)
   unfolding explanation_with pick
   output-that-day e h = h ∙ rw (← g, e)
 
-  pub no_day : t ≡ false → a ≡ record { number = 2; bytes = 0 } → a ≡ text_answer (written_in (length l) (explanation_with (known.Sheet sh) today f))
+  pub no_day : t ≡ false → a ≡ record { number = 2; bytes = 0 } → a ≡ text_answer (written_in (length l) (explanation_with (Some sh) today f))
   unfolding explanation_with written_in pick
   no_day e h = h ∙ rw (← g, e)
 
-  pub output-no-day : t ≡ false → l1 ≡ l → l1 ≡ output_after l (explanation_with (known.Sheet sh) today f)
+  pub output-no-day : t ≡ false → l1 ≡ l → l1 ≡ output_after l (explanation_with (Some sh) today f)
   unfolding explanation_with output_after pick
   output-no-day e h = h ∙ rw (← g, e)
 
@@ -107,24 +106,24 @@ pub ruleset on-days = (real-known, that-day, output-that-day, no_day, output-no-
 
 -- ---- 1: r is the sheet that the number names
 
-module _ (r : Known) (n : ℕ) (g : r ≡ sheet_of n) where
-  pub sheet-known : (sh : Sheet) → r ≡ known.Sheet sh → sheet_of n ≡ known.Sheet sh
+module _ (r : Option Sheet) (n : ℕ) (g : r ≡ sheet_of n) where
+  pub sheet-known : (sh : Sheet) → r ≡ Some sh → sheet_of n ≡ Some sh
   sheet-known sh e = sym g ∙ e
 
   module _ (today : ℕ) (f l l1 : List ℕ) (a : TextAnswer) where
-    pub on-sheet : (sh : Sheet) → r ≡ known.Sheet sh → a ≡ text_answer (written_in (length l) (explanation_with (known.Sheet sh) today f)) → a ≡ text_answer (written_in (length l) (explanation n today f))
+    pub on-sheet : (sh : Sheet) → r ≡ Some sh → a ≡ text_answer (written_in (length l) (explanation_with (Some sh) today f)) → a ≡ text_answer (written_in (length l) (explanation n today f))
     unfolding explanation
     on-sheet sh e h = h ∙ rw (← g, e)
 
-    pub output-on-sheet : (sh : Sheet) → r ≡ known.Sheet sh → l1 ≡ output_after l (explanation_with (known.Sheet sh) today f) → l1 ≡ output_after l (explanation n today f)
+    pub output-on-sheet : (sh : Sheet) → r ≡ Some sh → l1 ≡ output_after l (explanation_with (Some sh) today f) → l1 ≡ output_after l (explanation n today f)
     unfolding explanation
     output-on-sheet sh e h = h ∙ rw (← g, e)
 
-    pub no_sheet : r ≡ known.Nothing → a ≡ record { number = 1; bytes = 0 } → a ≡ text_answer (written_in (length l) (explanation n today f))
+    pub no_sheet : r ≡ None → a ≡ record { number = 1; bytes = 0 } → a ≡ text_answer (written_in (length l) (explanation n today f))
     unfolding explanation explanation_with written_in
     no_sheet e h = h ∙ rw (← g, e)
 
-    pub output-no-sheet : r ≡ known.Nothing → l1 ≡ l → l1 ≡ output_after l (explanation n today f)
+    pub output-no-sheet : r ≡ None → l1 ≡ l → l1 ≡ output_after l (explanation n today f)
     unfolding explanation explanation_with output_after
     output-no-sheet e h = h ∙ rw (← g, e)
 

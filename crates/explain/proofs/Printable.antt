@@ -1,4 +1,5 @@
 -- The text can be shown as it stands: every byte is LF or 32 to 126. Assumes nothing.
+use Rattle.std.proofs.Common.{Some}
 use mathlib.Core.Path.{◌≡◌, refl}
 use mathlib.Core.Bool.{Bool, true, ◌&&◌}
 use mathlib.Core.List.{List, [], ◌∷◌}
@@ -11,7 +12,6 @@ use Rattle.base.specs.Seek.{all}
 use Rattle.base.proofs.Cases.{both}
 use Rattle.base.proofs.Seek.{all_append}
 use Rattle.sheet.specs.declared.Sheet.{Sheet}
-use Rattle.sheet.specs.declared.Known.TheVariants as known
 use Rattle.sheet.specs.Sheets.{sheets, sheet_of}
 use Rattle.sheet.proofs.Laws.{every, every-sheet}
 use Rattle.paper.specs.Judge.{Answer, Refused, Accepted, judge}
@@ -88,7 +88,7 @@ module _ (today : ℕ) (f : List ℕ) where
   lines-printable [] e = refl
   lines-printable (sh ∷ shs) e =
       let (here, there) = both (lettered sh) (every lettered shs) e in
-      let a = read_with (known.Sheet sh) today f (length f) in
+      let a = read_with (Some sh) today f (length f) in
       all_append is_printable (sheet_line sh.letter a) (lines_on today f shs)
       (fits_line sh.letter (letter-printable sh here) a).printable
       (lines-printable shs there)
@@ -108,7 +108,7 @@ listed-printable sh today f (x ∷ xs) =
     (listed-printable sh today f xs)
 
 -- on a known sheet, whatever bytes the file has and whatever the day is
-pub text-printable : (sheet : ℕ) (sh : Sheet) → sheet_of sheet ≡ known.Sheet sh → (today : ℕ) (f : List ℕ) → all is_printable (text_on sh today f) ≡ true
+pub text-printable : (sheet : ℕ) (sh : Sheet) → sheet_of sheet ≡ Some sh → (today : ℕ) (f : List ℕ) → all is_printable (text_on sh today f) ≡ true
 unfolding text_on
 text-printable sheet sh named today f =
     let plain = letter-printable sh (every-sheet sheet sh named lettered refl) in

@@ -1,9 +1,7 @@
 -- What is found in a file, in words. Document 02, W-205. Assumes nothing.
-use Rattle.std.specs.Prelude.{ℕ, List, ◌∷◌, ◌++◌}
+use Rattle.std.specs.Prelude.{ℕ, List, ◌∷◌, ◌++◌, Option, Some, None}
 use Rattle.base.specs.Pick.{pick}
 use Rattle.sheet.specs.declared.Sheet.{Sheet}
-use Rattle.sheet.specs.declared.Known.{Known}
-use Rattle.sheet.specs.declared.Known.TheVariants as known
 use Rattle.sheet.specs.Sheets.{sheet_of}
 use Rattle.paper.specs.Bytes.{bytes}
 use Rattle.paper.specs.Numerals.{decimal}
@@ -38,9 +36,9 @@ text_on sh today f =
     heading sh.letter (judge sh today f) ++ (listed (in_words sh today) f (findings sh today f) ++ sheet_lines today f)
 
 -- first 1 and 2, which have no text
-unfoldable pub explanation_with : Known → ℕ → List ℕ → Draft
-explanation_with (known.Sheet sh) today f = pick (real_day today) (drafted (text_on sh today f)) (refusal 2 0 0)
-explanation_with known.Nothing today f = refusal 1 0 0
+unfoldable pub explanation_with : Option Sheet → ℕ → List ℕ → Draft
+explanation_with (Some sh) today f = pick (real_day today) (drafted (text_on sh today f)) (refusal 2 0 0)
+explanation_with None today f = refusal 1 0 0
 
 -- The answer and the output afterwards are those of a draft: number 0 with the bytes written, 16 with the bytes needed, 1 and 2 with none.
 unfoldable pub explanation : ℕ → ℕ → List ℕ → Draft

@@ -1,8 +1,7 @@
 // What is found in a file, in sentences for the clerk: whether it is refused, why or what it warns of, and what each sheet says of it.
 #![tactic(auto)]
 
-ghost use Rattle.std.specs.Prelude.{◌≡◌, true, ◌≤◌, length};
-ghost use Rattle.sheet.specs.declared.Known.TheVariants as known;
+ghost use Rattle.std.specs.Prelude.{◌≡◌, true, ◌≤◌, length, Some};
 ghost use Rattle.sheet.specs.Sheets.{sheet_of};
 ghost use Rattle.sheet.proofs.Laws.{Sane};
 ghost use Rattle.paper.specs.Days.{real_day};
@@ -14,7 +13,7 @@ ghost use Rattle.explain.specs.Parts.{heading_in, text_in};
 ghost use Rattle.explain.specs.Told.{text_answer, told};
 
 use listing::Telling;
-use sheet::{Known, Sheet};
+use sheet::Sheet;
 use tracing::file::Outcome;
 
 // The whole answer: number 0 and the bytes written, or 16 and the bytes needed; 1 and 2 with none.
@@ -115,7 +114,7 @@ fn put_whole(t: Telling, file: &[u8], o: Outcome, lines: &[u8], out: &mut [u8]) 
 // On the sheet sh, which the number names, on a real day. The sheets' lines are put aside first, so that no sheet judges the file twice.
 fn explain_that_day(file: &[u8], sheet: u64, sh: Sheet, today: u64, out: &mut [u8]) -> AboText
     requires sane { Sane sh × (real_day today ≡ true) }
-    requires sheet_value { sheet_of sheet ≡ known.Sheet sh }
+    requires sheet_value { sheet_of sheet ≡ Some sh }
     ensures result_value { told result ≡ text_answer (written_in (length out.old) (drafted (text_on sh today file.now))) }
     ensures out_after { out.new ≡ output_after out.old (drafted (text_on sh today file.now)) }
 {
@@ -134,9 +133,9 @@ fn explain_that_day(file: &[u8], sheet: u64, sh: Sheet, today: u64, out: &mut [u
 // On the sheet sh: 2, or the text.
 fn explain_on(file: &[u8], sheet: u64, sh: Sheet, today: u64, out: &mut [u8]) -> AboText
     requires sane { Sane sh }
-    requires sheet_value { sheet_of sheet ≡ known.Sheet sh }
-    ensures result_value { told result ≡ text_answer (written_in (length out.old) (explanation_with (known.Sheet sh) today file.now)) }
-    ensures out_after { out.new ≡ output_after out.old (explanation_with (known.Sheet sh) today file.now) }
+    requires sheet_value { sheet_of sheet ≡ Some sh }
+    ensures result_value { told result ≡ text_answer (written_in (length out.old) (explanation_with (Some sh) today file.now)) }
+    ensures out_after { out.new ≡ output_after out.old (explanation_with (Some sh) today file.now) }
 {
     if calendar::real_day(today) {
         return explain_that_day(file, sheet, sh, today, out);
@@ -157,7 +156,7 @@ pub fn explain_file(file: &[u8], sheet: u64, today: u64, out: &mut [u8]) -> AboT
     ensures out_after { out.new ≡ output_after out.old (explanation sheet today file.now) }
 {
     match sheet::sheet_of(sheet) {
-        Known::Sheet(sh) => explain_on(file, sheet, sh, today, out),
-        Known::Nothing => no_text(1),
+        Some(sh) => explain_on(file, sheet, sh, today, out),
+        None => no_text(1),
     }
 }

@@ -1,4 +1,5 @@
 -- An answer of listing is known by what it tells, and a refusal leaves the lent bytes as they were. Assumes nothing.
+use Rattle.std.proofs.Common.{Option, Some, None}
 use mathlib.Core.Path.{◌≡◌, refl, ap}
 use mathlib.Core.List.{List}
 use Prim.Native.Nat.{ℕ, ◌/◌}
@@ -7,8 +8,6 @@ use lib.ListN.{length}
 use Rattle.base.specs.Pick.{pick}
 use Rattle.base.proofs.Cases.{by-test}
 use Rattle.sheet.specs.declared.Sheet.{Sheet}
-use Rattle.sheet.specs.declared.Known.{Known}
-use Rattle.sheet.specs.declared.Known.TheVariants as known
 use Rattle.sheet.specs.Sheets.{sheet_of}
 use Rattle.paper.specs.Days.{real_day}
 use Rattle.findings.specs.declared.AboList.{AboList}
@@ -31,10 +30,10 @@ unfolding list_in filled_in needs_room pick
 kept-in sh today f lent some =
     by-test (ltb (length lent / 64) (length (findings sh today f))) (λ e. rw e) (λ e. absurd (some (rw e)))
 
-kept-with : (k : Known) (today : ℕ) (f lent : List ℕ) → ((list_with k today f (length lent / 64)).number ≡ 0 → ⊥) → filled_with k today f lent ≡ lent
+kept-with : (k : Option Sheet) (today : ℕ) (f lent : List ℕ) → ((list_with k today f (length lent / 64)).number ≡ 0 → ⊥) → filled_with k today f lent ≡ lent
 unfolding list_with filled_with no_list pick
-kept-with known.Nothing today f lent some = refl
-kept-with (known.Sheet sh) today f lent some =
+kept-with None today f lent some = refl
+kept-with (Some sh) today f lent some =
     by-test (real_day today) (λ e. rw e (kept-in sh today f lent (rw e at some))) (λ e. rw e)
 
 pub lent-kept : (sheet today : ℕ) (f lent : List ℕ) → ((list_answer sheet today f lent).number ≡ 0 → ⊥) → list_after sheet today f lent ≡ lent

@@ -1,4 +1,5 @@
 -- How listing ends: from what the pass came to, to the answer and the lent bytes. Assumes nothing.
+use Rattle.std.proofs.Common.{Option, Some, None}
 use mathlib.Core.Path.{◌≡◌, sym, ap, ◌∙◌}
 use mathlib.Core.Bool.{Bool, true, false}
 use mathlib.Core.List.{List, ◌++◌}
@@ -9,8 +10,6 @@ use borrow.Author.Tests.{lt-ltb, le-ltb}
 use Rattle.base.specs.Pick.{pick}
 use Rattle.base.specs.Put.{put}
 use Rattle.sheet.specs.declared.Sheet.{Sheet}
-use Rattle.sheet.specs.declared.Known.{Known}
-use Rattle.sheet.specs.declared.Known.TheVariants as known
 use Rattle.sheet.specs.Sheets.{sheet_of}
 use Rattle.sheet.proofs.Laws.{sheet-sane}
 use Rattle.paper.specs.Days.{real_day}
@@ -67,19 +66,19 @@ module _ (sh : Sheet) (today : ℕ) (f lent : List ℕ) (a : ListAnswer) (o : Li
   pub real-known : t ≡ true → real_day today ≡ true
   real-known e = sym g ∙ e
 
-  pub that-day : (room : ℕ) → t ≡ true → a ≡ list_in room sh today f → a ≡ list_with (known.Sheet sh) today f room
+  pub that-day : (room : ℕ) → t ≡ true → a ≡ list_in room sh today f → a ≡ list_with (Some sh) today f room
   unfolding list_with pick
   that-day room e h = h ∙ rw (← g, e)
 
-  pub lent-that-day : t ≡ true → o ≡ filled_in lent sh today f → o ≡ filled_with (known.Sheet sh) today f lent
+  pub lent-that-day : t ≡ true → o ≡ filled_in lent sh today f → o ≡ filled_with (Some sh) today f lent
   unfolding filled_with pick
   lent-that-day e h = h ∙ rw (← g, e)
 
-  pub no_day : (room : ℕ) → t ≡ false → a ≡ no_list 2 → a ≡ list_with (known.Sheet sh) today f room
+  pub no_day : (room : ℕ) → t ≡ false → a ≡ no_list 2 → a ≡ list_with (Some sh) today f room
   unfolding list_with pick
   no_day room e h = h ∙ rw (← g, e)
 
-  pub lent-no-day : t ≡ false → o ≡ lent → o ≡ filled_with (known.Sheet sh) today f lent
+  pub lent-no-day : t ≡ false → o ≡ lent → o ≡ filled_with (Some sh) today f lent
   unfolding filled_with pick
   lent-no-day e h = h ∙ rw (← g, e)
 
@@ -87,24 +86,24 @@ pub ruleset on-days = (real-known, that-day, lent-that-day, no_day, lent-no-day)
 
 -- ---- 1: r is the sheet that the number names
 
-module _ (r : Known) (n : ℕ) (g : r ≡ sheet_of n) where
-  pub sheet-known : (sh : Sheet) → r ≡ known.Sheet sh → sheet_of n ≡ known.Sheet sh
+module _ (r : Option Sheet) (n : ℕ) (g : r ≡ sheet_of n) where
+  pub sheet-known : (sh : Sheet) → r ≡ Some sh → sheet_of n ≡ Some sh
   sheet-known sh e = sym g ∙ e
 
   module _ (today : ℕ) (f lent : List ℕ) (a : ListAnswer) (o : List ℕ) where
-    pub on-sheet : (sh : Sheet) → r ≡ known.Sheet sh → a ≡ list_with (known.Sheet sh) today f (length lent / 64) → a ≡ list_answer n today f lent
+    pub on-sheet : (sh : Sheet) → r ≡ Some sh → a ≡ list_with (Some sh) today f (length lent / 64) → a ≡ list_answer n today f lent
     unfolding list_answer
     on-sheet sh e h = h ∙ rw (← g, e)
 
-    pub lent-on-sheet : (sh : Sheet) → r ≡ known.Sheet sh → o ≡ filled_with (known.Sheet sh) today f lent → o ≡ list_after n today f lent
+    pub lent-on-sheet : (sh : Sheet) → r ≡ Some sh → o ≡ filled_with (Some sh) today f lent → o ≡ list_after n today f lent
     unfolding list_after
     lent-on-sheet sh e h = h ∙ rw (← g, e)
 
-    pub no_sheet : r ≡ known.Nothing → a ≡ no_list 1 → a ≡ list_answer n today f lent
+    pub no_sheet : r ≡ None → a ≡ no_list 1 → a ≡ list_answer n today f lent
     unfolding list_answer list_with
     no_sheet e h = h ∙ rw (← g, e)
 
-    pub lent-no-sheet : r ≡ known.Nothing → o ≡ lent → o ≡ list_after n today f lent
+    pub lent-no-sheet : r ≡ None → o ≡ lent → o ≡ list_after n today f lent
     unfolding list_after filled_with
     lent-no-sheet e h = h ∙ rw (← g, e)
 

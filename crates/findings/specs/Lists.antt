@@ -1,10 +1,8 @@
 -- The whole answer of listing what is found, and what it leaves in the lent bytes. Document 02, W-205; document 01, "Numbers returned". Assumes
 -- nothing.
-use Rattle.std.specs.Prelude.{ℕ, ◌/◌, List, ◌++◌, ltb, length, drop}
+use Rattle.std.specs.Prelude.{ℕ, ◌/◌, List, ◌++◌, ltb, length, drop, Option, Some, None}
 use Rattle.base.specs.Pick.{pick}
 use Rattle.sheet.specs.declared.Sheet.{Sheet}
-use Rattle.sheet.specs.declared.Known.{Known}
-use Rattle.sheet.specs.declared.Known.TheVariants as known
 use Rattle.sheet.specs.Sheets.{sheet_of}
 use Rattle.paper.specs.Days.{real_day}
 use Rattle.paper.specs.Judge.{judge}
@@ -43,9 +41,9 @@ list_in room sh today f =
     })
 
 -- first 1 and 2
-unfoldable pub list_with : Known → ℕ → List ℕ → ℕ → ListAnswer
-list_with (known.Sheet sh) today f room = pick (real_day today) (list_in room sh today f) (no_list 2)
-list_with known.Nothing today f room = no_list 1
+unfoldable pub list_with : Option Sheet → ℕ → List ℕ → ℕ → ListAnswer
+list_with (Some sh) today f room = pick (real_day today) (list_in room sh today f) (no_list 2)
+list_with None today f room = no_list 1
 
 -- the lent bytes have room for a finding in each 64
 unfoldable pub list_answer : ℕ → ℕ → List ℕ → List ℕ → ListAnswer
@@ -60,9 +58,9 @@ filled_in lent sh today f =
     (listed (in_numbers sh today) f (findings sh today f) ++ drop (length (listed (in_numbers sh today) f (findings sh today f))) lent)
 
 -- 1 and 2 leave them alone too
-unfoldable pub filled_with : Known → ℕ → List ℕ → List ℕ → List ℕ
-filled_with (known.Sheet sh) today f lent = pick (real_day today) (filled_in lent sh today f) lent
-filled_with known.Nothing today f lent = lent
+unfoldable pub filled_with : Option Sheet → ℕ → List ℕ → List ℕ → List ℕ
+filled_with (Some sh) today f lent = pick (real_day today) (filled_in lent sh today f) lent
+filled_with None today f lent = lent
 
 -- of the sheet that the number names
 unfoldable pub list_after : ℕ → ℕ → List ℕ → List ℕ → List ℕ

@@ -3,8 +3,7 @@
 
 pub mod outcome;
 
-ghost use Rattle.std.specs.Prelude.{◌≡◌, true, ◌/◌, length};
-ghost use Rattle.sheet.specs.declared.Known.TheVariants as known;
+ghost use Rattle.std.specs.Prelude.{◌≡◌, true, ◌/◌, length, Some};
 ghost use Rattle.sheet.specs.Sheets.{sheet_of};
 ghost use Rattle.sheet.proofs.Laws.{Sane};
 ghost use Rattle.paper.specs.Days.{real_day};
@@ -12,7 +11,7 @@ ghost use Rattle.findings.specs.Lists.{no_list, needs_room, list_in, filled_in, 
 ghost use Rattle.findings.specs.Told.{told};
 
 use listing::Telling;
-use sheet::{Known, Sheet};
+use sheet::Sheet;
 
 // The whole answer: number 0, 1, 2 or 16; whether the file is refused; how many findings there are or, with 16, are needed; and the sheets that
 // accept the file, bit n - 1 for sheet n.
@@ -55,7 +54,7 @@ fn no_room(needed: u64) -> AboList
 // The list on the sheet sh, which the number names, on a real day.
 fn list_that_day(file: &[u8], sheet: u64, sh: Sheet, today: u64, out: &mut [u8]) -> AboList
     requires sane { Sane sh × (real_day today ≡ true) }
-    requires sheet_value { sheet_of sheet ≡ known.Sheet sh }
+    requires sheet_value { sheet_of sheet ≡ Some sh }
     ensures result_value { told result ≡ list_in (length out.old / 64) sh today file.now }
     ensures out_after { out.new ≡ filled_in out.old sh today file.now }
 {
@@ -85,9 +84,9 @@ fn list_that_day(file: &[u8], sheet: u64, sh: Sheet, today: u64, out: &mut [u8])
 // The list on the sheet sh: 2, or what is found.
 fn list_on(file: &[u8], sheet: u64, sh: Sheet, today: u64, out: &mut [u8]) -> AboList
     requires sane { Sane sh }
-    requires sheet_value { sheet_of sheet ≡ known.Sheet sh }
-    ensures result_value { told result ≡ list_with (known.Sheet sh) today file.now (length out.old / 64) }
-    ensures out_after { out.new ≡ filled_with (known.Sheet sh) today file.now out.old }
+    requires sheet_value { sheet_of sheet ≡ Some sh }
+    ensures result_value { told result ≡ list_with (Some sh) today file.now (length out.old / 64) }
+    ensures out_after { out.new ≡ filled_with (Some sh) today file.now out.old }
 {
     if calendar::real_day(today) {
         return list_that_day(file, sheet, sh, today, out);
@@ -101,7 +100,7 @@ pub fn list_file(file: &[u8], sheet: u64, today: u64, out: &mut [u8]) -> AboList
     ensures out_after { out.new ≡ list_after sheet today file.now out.old }
 {
     match sheet::sheet_of(sheet) {
-        Known::Sheet(sh) => list_on(file, sheet, sh, today, out),
-        Known::Nothing => no_list(1),
+        Some(sh) => list_on(file, sheet, sh, today, out),
+        None => no_list(1),
     }
 }

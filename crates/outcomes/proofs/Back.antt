@@ -1,4 +1,5 @@
 -- What is written comes back: the answers of writing and of reading the written file, put together. Assumes nothing.
+use Rattle.std.proofs.Common.{Option, Some, None}
 use mathlib.Core.Path.{◌≡◌, refl, sym, ap, ◌∙◌}
 use mathlib.Core.Bool.{true}
 use mathlib.Core.List.{List, ◌++◌}
@@ -9,8 +10,6 @@ use lib.Seq.{take_at}
 use Rattle.base.proofs.Cases.{by-lt, by-test, pick_true, pick-false}
 use borrow.Author.Tests.{lt-ltb, le-ltb}
 use Rattle.sheet.specs.declared.Sheet.{Sheet}
-use Rattle.sheet.specs.declared.Known.{Known}
-use Rattle.sheet.specs.declared.Known.TheVariants as known
 use Rattle.sheet.specs.Sheets.{sheet_of}
 use Rattle.paper.specs.Days.{real_day}
 use Rattle.paper.specs.Batch.{Header, Thing}
@@ -43,12 +42,12 @@ written-inside out (drafted s) z =
 -- ---- a draft that is a file is that of a known sheet and a real day
 
 abbrev Dated : ℕ → ℕ → Type 0
-Dated sheet today = (sh : Sheet) × (sheet_of sheet ≡ known.Sheet sh) × (real_day today ≡ true)
+Dated sheet today = (sh : Sheet) × (sheet_of sheet ≡ Some sh) × (real_day today ≡ true)
 
-dated : (sheet today : ℕ) (h : Header) (ts : List Thing) (s : List ℕ) (k : Known) → sheet_of sheet ≡ k → draft_with k today h ts ≡ drafted s → Dated sheet today
+dated : (sheet today : ℕ) (h : Header) (ts : List Thing) (s : List ℕ) (k : Option Sheet) → sheet_of sheet ≡ k → draft_with k today h ts ≡ drafted s → Dated sheet today
 unfolding draft_with
-dated sheet today h ts s known.Nothing k e = not-both (refusal 1 0 0) s e (1, 0, 0, refl)
-dated sheet today h ts s (known.Sheet sh) k e =
+dated sheet today h ts s None k e = not-both (refusal 1 0 0) s e (1, 0, 0, refl)
+dated sheet today h ts s (Some sh) k e =
     by-test (real_day today)
     (λ day. (sh, k, day))
     (λ no. not-both (refusal 2 0 0) s (sym (pick-false _ _ no) ∙ e) (2, 0, 0, refl))

@@ -1,4 +1,5 @@
 -- A refusal leaves the lent bytes as they were, whatever the sheet's number and the day. Assumes nothing.
+use Rattle.std.proofs.Common.{Option, Some, None}
 use mathlib.Core.Path.{◌≡◌, refl}
 use mathlib.Core.List.{List}
 use Prim.Native.Nat.{ℕ, ◌/◌}
@@ -6,8 +7,6 @@ use lib.Dec.{ltb}
 use lib.ListN.{length}
 use Rattle.base.specs.Pick.{pick}
 use Rattle.base.proofs.Cases.{by-test}
-use Rattle.sheet.specs.declared.Known.{Known}
-use Rattle.sheet.specs.declared.Known.TheVariants as known
 use Rattle.sheet.specs.Sheets.{sheet_of}
 use Rattle.paper.specs.Days.{real_day}
 use Rattle.paper.specs.Judge.{Answer, Refused, Accepted, judge}
@@ -25,11 +24,11 @@ judged-kept sh today f lent (Refused n l p) bad = refl
 judged-kept sh today f lent (Accepted h b w) bad =
     by-test (ltb (length lent / row_size) (row_count b)) (λ e. rw e refl) (λ e. absurd (bad (rw e refl)))
 
-known_kept : (k : Known) (today : ℕ) (f lent : List ℕ)
+known_kept : (k : Option Sheet) (today : ℕ) (f lent : List ℕ)
     → ((read_with k today f (length lent / row_size)).number ≡ 0 → ⊥) → rows_with k today f lent ≡ lent
 unfolding read_with rows_with pick
-known_kept known.Nothing today f lent bad = refl
-known_kept (known.Sheet sh) today f lent bad =
+known_kept None today f lent bad = refl
+known_kept (Some sh) today f lent bad =
     by-test (real_day today) (λ e. rw e (judged-kept sh today f lent (judge sh today f) (rw e at bad))) (λ e. rw e refl)
 
 pub rows-kept : (sheet today : ℕ) (f lent : List ℕ) → ((read_answer sheet today f lent).number ≡ 0 → ⊥) → rows_after sheet today f lent ≡ lent

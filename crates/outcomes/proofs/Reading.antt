@@ -1,4 +1,5 @@
 -- What reading answers on a known sheet and a real day, by the judge's answer. Assumes nothing.
+use Rattle.std.proofs.Common.{Some}
 use mathlib.Core.Path.{◌≡◌, refl, sym, ap, ◌∙◌}
 use mathlib.Core.Bool.{true, false}
 use mathlib.Core.List.{List, [], ◌∷◌, ◌++◌}
@@ -10,7 +11,6 @@ use lib.Seq.{take_at}
 use Rattle.base.proofs.Cases.{by-lt, pick_true, pick-false}
 use borrow.Author.Tests.{lt-ltb, le-ltb}
 use Rattle.sheet.specs.declared.Sheet.{Sheet}
-use Rattle.sheet.specs.declared.Known.TheVariants as known
 use Rattle.sheet.specs.Sheets.{sheet_of}
 use Rattle.paper.specs.Days.{real_day}
 use Rattle.paper.specs.Batch.{Batch, Header, things, batch_of}
@@ -35,7 +35,7 @@ unfolding things
 some-rows [] l = l
 some-rows (f ∷ fs) l = omega arith
 
-module _ (sheet : ℕ) (sh : Sheet) (named : sheet_of sheet ≡ known.Sheet sh) (today : ℕ) (day : real_day today ≡ true) (f lent : List ℕ) where
+module _ (sheet : ℕ) (sh : Sheet) (named : sheet_of sheet ≡ Some sh) (today : ℕ) (day : real_day today ≡ true) (f lent : List ℕ) where
   abbrev room : ℕ
   room = length lent / row_size
 

@@ -1,4 +1,5 @@
 -- Writing passes over the references of items' rows, and reading leaves none. Document 02, W-206. Assumes nothing.
+use Rattle.std.proofs.Common.{Option, Some, None}
 use mathlib.Core.Path.{◌≡◌, refl, ap}
 use mathlib.Core.Bool.{false}
 use mathlib.Core.List.{List}
@@ -10,8 +11,6 @@ use lib.Seq.{take_at}
 use Rattle.base.specs.Pick.{pick}
 use Rattle.base.proofs.Cases.{by-test}
 use Rattle.sheet.specs.declared.Sheet.{Sheet}
-use Rattle.sheet.specs.declared.Known.{Known}
-use Rattle.sheet.specs.declared.Known.TheVariants as known
 use Rattle.sheet.specs.Sheets.{sheet_of}
 use Rattle.paper.specs.Days.{real_day}
 use Rattle.paper.specs.Batch.{Header, Thing}
@@ -51,11 +50,11 @@ module _ (sh : Sheet) (today : ℕ) (f lent : List ℕ) (small : length f < 2 ^ 
       let front = take_at (rows_bytes rows) (drop (row_size * row_count b) lent) (row_size * row_count b) (row-bytes sh today f h b w e) in
       rw (t, front, rows-return sh today f h b w e small) (lines-unreferred sh today false (lines_of 0 f)))
 
-known-left : (k : Known) (today : ℕ) (f lent : List ℕ) → length f < 2 ^ 64 → (read_with k today f (length lent / row_size)).number ≡ 0
+known-left : (k : Option Sheet) (today : ℕ) (f lent : List ℕ) → length f < 2 ^ 64 → (read_with k today f (length lent / row_size)).number ≡ 0
     → Left (read_with k today f (length lent / row_size)).rows (rows_with k today f lent)
 unfolding read_with rows_with refused_at pick
-known-left known.Nothing today f lent small zero = absurd (omega arith)
-known-left (known.Sheet sh) today f lent small zero =
+known-left None today f lent small zero = absurd (omega arith)
+known-left (Some sh) today f lent small zero =
     by-test (real_day today)
     (λ e. rw e (judged-left sh today f lent small (judge sh today f) refl (rw e at zero)))
     (λ e. absurd (let z = rw e at zero in omega arith))

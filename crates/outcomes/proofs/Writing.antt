@@ -1,4 +1,5 @@
 -- What writing answers, by its draft; and that a draft is refused with 1, 2, 20 or 21 only. Assumes nothing.
+use Rattle.std.proofs.Common.{Option, Some, None}
 use mathlib.Core.Path.{◌≡◌, refl, sym, ap, ◌∙◌}
 use mathlib.Core.List.{List, ◌++◌}
 use mathlib.Core.Logic.{◌↔◌}
@@ -10,8 +11,6 @@ use Rattle.base.specs.Pick.{pick}
 use Rattle.base.proofs.Cases.{by-lt, either, pick_true, pick-false}
 use borrow.Author.Tests.{lt-ltb, le-ltb}
 use Rattle.sheet.specs.declared.Sheet.{Sheet}
-use Rattle.sheet.specs.declared.Known.{Known}
-use Rattle.sheet.specs.declared.Known.TheVariants as known
 use Rattle.sheet.specs.Sheets.{sheet_of}
 use Rattle.paper.specs.Days.{real_day}
 use Rattle.paper.specs.Rows.{rows_in, things_in}
@@ -58,10 +57,10 @@ late-numbered : (d : Draft) → Late d → Numbered d
 late-numbered (drafted s) l = tt
 late-numbered (refusal n row field) (l, m) = omega arith
 
-known-numbered : (k : Known) (today : ℕ) (h : Header) (ts : List Thing) → Numbered (draft_with k today h ts)
+known-numbered : (k : Option Sheet) (today : ℕ) (h : Header) (ts : List Thing) → Numbered (draft_with k today h ts)
 unfolding draft_with
-known-numbered known.Nothing today h ts = omega arith
-known-numbered (known.Sheet sh) today h ts =
+known-numbered None today h ts = omega arith
+known-numbered (Some sh) today h ts =
     either Numbered (real_day today) (λ e. late-numbered (draft_of sh today h ts) (draft-is-late sh today h ts)) (λ e. omega arith)
 
 pub draft-numbered : (sheet today : ℕ) (h : Header) (rows texts : List ℕ) → Numbered (draft sheet today h rows texts)

@@ -1,4 +1,5 @@
 -- What writing refuses, and what is read of what it writes, on a known sheet and a real day. Assumes nothing.
+use Rattle.std.proofs.Common.{Some}
 use mathlib.Core.Path.{◌≡◌, sym, ap, ◌∙◌}
 use mathlib.Core.Bool.{true}
 use mathlib.Core.List.{List}
@@ -6,7 +7,6 @@ use mathlib.Core.Logic.{◌↔◌}
 use Prim.Native.Nat.{ℕ, ◌/◌, ◌^◌, ◌≤◌, ◌<◌}
 use lib.ListN.{length}
 use Rattle.sheet.specs.declared.Sheet.{Sheet}
-use Rattle.sheet.specs.declared.Known.TheVariants as known
 use Rattle.sheet.specs.Sheets.{sheet_of}
 use Rattle.paper.specs.Days.{real_day}
 use Rattle.paper.specs.Batch.{Batch, Header}
@@ -24,7 +24,7 @@ use Rattle.outcomes.specs.Outcomes.{ReadsAs, Hold, WritesAs}
 use Rattle.outcomes.proofs.Reading as reading
 use Rattle.outcomes.proofs.Writing as writing
 
-module _ (sheet : ℕ) (sh : Sheet) (named : sheet_of sheet ≡ known.Sheet sh) (today : ℕ) (day : real_day today ≡ true) (h : Header) (rows texts : List ℕ) where
+module _ (sheet : ℕ) (sh : Sheet) (named : sheet_of sheet ≡ Some sh) (today : ℕ) (day : real_day today ≡ true) (h : Header) (rows texts : List ℕ) where
   -- what is written, where there is room, is the canonical file of the batch that the rows hold
   pub canonical : (out s : List ℕ) → length s ≤ length out → WritesAs sheet today h rows texts out s → (b : Batch) × Hold rows texts b × (s ≡ canon sh h b)
   canonical out s room w =

@@ -1,7 +1,6 @@
 -- What a call's answer says together with the bytes it leaves. Document 01, "What the library handles", "Numbers returned". Assumes nothing.
-use Rattle.std.specs.Prelude.{ℕ, ◌*◌, ◌/◌, ◌≤◌, ◌≡◌, List, length, take}
+use Rattle.std.specs.Prelude.{ℕ, ◌*◌, ◌/◌, ◌≤◌, ◌≡◌, List, length, take, Some}
 use Rattle.sheet.specs.declared.Sheet.{Sheet}
-use Rattle.sheet.specs.declared.Known.TheVariants as known
 use Rattle.sheet.specs.Sheets.{sheet_of}
 use Rattle.paper.specs.Batch.{Batch, Header, things}
 use Rattle.paper.specs.Rows.{row_size, rows_in, things_in}
@@ -33,7 +32,7 @@ pub record WritesAs (sheet today : ℕ) (h : Header) (rows texts out s : List �
 -- are past.
 pub record ComesBack (sheet today : ℕ) (h : Header) (rows texts f lent : List ℕ) (a : ReadAnswer) (left : List ℕ) : Type 0 where
   pub sheet-of : Sheet
-  pub named : sheet_of sheet ≡ known.Sheet sheet-of
+  pub named : sheet_of sheet ≡ Some sheet-of
   pub batch : Batch
   pub held : Hold rows texts batch
   pub back : row_count batch ≤ length lent / row_size → Accepts f a left (head_read sheet-of h) batch (past_warnings sheet-of today batch)

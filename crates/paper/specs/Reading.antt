@@ -1,9 +1,7 @@
 -- The whole answer of reading, and what it leaves in the lent rows. Document 01, "Numbers returned". Assumes nothing.
-use Rattle.std.specs.Prelude.{ℕ, ◌*◌, ◌/◌, false, List, ◌++◌, ltb, length, drop}
+use Rattle.std.specs.Prelude.{ℕ, ◌*◌, ◌/◌, false, List, ◌++◌, ltb, length, drop, Option, Some, None}
 use Rattle.base.specs.Pick.{pick}
 use Rattle.sheet.specs.declared.Sheet.{Sheet}
-use Rattle.sheet.specs.declared.Known.{Known}
-use Rattle.sheet.specs.declared.Known.TheVariants as known
 use Rattle.sheet.specs.Sheets.{sheet_of}
 use Rattle.paper.specs.Days.{real_day}
 use Rattle.paper.specs.Batch.{Batch, Header, no_header, things}
@@ -44,9 +42,9 @@ answered room (Refused n l p) = refused_at n l p
 answered room (Accepted h b w) = pick (ltb room (row_count b)) (needs (row_count b)) (accepted_as h (row_count b) w)
 
 -- first 1 and 2, then the file
-unfoldable pub read_with : Known → ℕ → List ℕ → ℕ → ReadAnswer
-read_with (known.Sheet sh) today f room = pick (real_day today) (answered room (judge sh today f)) (refused_at 2 0 0)
-read_with known.Nothing today f room = refused_at 1 0 0
+unfoldable pub read_with : Option Sheet → ℕ → List ℕ → ℕ → ReadAnswer
+read_with (Some sh) today f room = pick (real_day today) (answered room (judge sh today f)) (refused_at 2 0 0)
+read_with None today f room = refused_at 1 0 0
 
 -- room is how many whole rows the lent bytes have
 unfoldable pub read_answer : ℕ → ℕ → List ℕ → List ℕ → ReadAnswer
@@ -62,9 +60,9 @@ filled sh today f lent (Accepted h b w) =
     (rows_bytes (lines_rows sh today false (lines_of 0 f)) ++ drop (row_size * row_count b) lent)
 
 -- 1 and 2 leave the rows alone too
-unfoldable pub rows_with : Known → ℕ → List ℕ → List ℕ → List ℕ
-rows_with (known.Sheet sh) today f lent = pick (real_day today) (filled sh today f lent (judge sh today f)) lent
-rows_with known.Nothing today f lent = lent
+unfoldable pub rows_with : Option Sheet → ℕ → List ℕ → List ℕ → List ℕ
+rows_with (Some sh) today f lent = pick (real_day today) (filled sh today f lent (judge sh today f)) lent
+rows_with None today f lent = lent
 
 -- of the sheet that the number names
 unfoldable pub rows_after : ℕ → ℕ → List ℕ → List ℕ → List ℕ

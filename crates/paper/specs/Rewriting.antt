@@ -1,9 +1,7 @@
 -- The rewriting program: what it writes for what it reads. Document 01, "A whole run". Assumes nothing.
-use Rattle.std.specs.Prelude.{ℕ, List, [], ◌∷◌, eqb, ltb, length}
+use Rattle.std.specs.Prelude.{ℕ, List, [], ◌∷◌, eqb, ltb, length, Option, Some, None}
 use Rattle.base.specs.Pick.{pick}
 use Rattle.sheet.specs.declared.Sheet.{Sheet}
-use Rattle.sheet.specs.declared.Known.{Known}
-use Rattle.sheet.specs.declared.Known.TheVariants as known
 use Rattle.sheet.specs.Sheets.{sheet_by}
 use Rattle.paper.specs.Read.{Field, value, fault}
 use Rattle.paper.specs.Days.{short_day}
@@ -42,9 +40,9 @@ day_field [] = fault 2
 day_field (x ∷ s) = pick (eqb x 32) (short_day s) (fault 2)
 
 -- 1 where the letter names no sheet
-unfoldable pub on_sheet : Known → List ℕ → List ℕ → List ℕ
-on_sheet (known.Sheet sh) rest input = on_day sh input (day_field rest)
-on_sheet known.Nothing rest input = refused_line 1 0 0
+unfoldable pub on_sheet : Option Sheet → List ℕ → List ℕ → List ℕ
+on_sheet (Some sh) rest input = on_day sh input (day_field rest)
+on_sheet None rest input = refused_line 1 0 0
 
 -- the first byte is the sheet's letter, else 1; so it is for no input at all
 unfoldable pub on_letter : List ℕ → List ℕ → List ℕ

@@ -1,9 +1,7 @@
 -- The whole answer of writing, and what it leaves in the lent output. Document 01, "Numbers returned". Assumes nothing.
-use Rattle.std.specs.Prelude.{ℕ, ◌≡◌, List, ◌++◌, ltb, length, drop}
+use Rattle.std.specs.Prelude.{ℕ, ◌≡◌, List, ◌++◌, ltb, length, drop, Option, Some, None}
 use Rattle.base.specs.Pick.{pick}
 use Rattle.sheet.specs.declared.Sheet.{Sheet}
-use Rattle.sheet.specs.declared.Known.{Known}
-use Rattle.sheet.specs.declared.Known.TheVariants as known
 use Rattle.sheet.specs.Sheets.{sheet_of}
 use Rattle.paper.specs.Days.{real_day}
 use Rattle.paper.specs.Batch.{Header, Thing, batch_of}
@@ -36,9 +34,9 @@ draft_of sh today h ts =
     (drafted (canon sh h (batch_of ts))))))
 
 -- 1 and 2 come before
-unfoldable pub draft_with : Known → ℕ → Header → List Thing → Draft
-draft_with (known.Sheet sh) today h ts = pick (real_day today) (draft_of sh today h ts) (refusal 2 0 0)
-draft_with known.Nothing today h ts = refusal 1 0 0
+unfoldable pub draft_with : Option Sheet → ℕ → Header → List Thing → Draft
+draft_with (Some sh) today h ts = pick (real_day today) (draft_of sh today h ts) (refusal 2 0 0)
+draft_with None today h ts = refusal 1 0 0
 
 -- of lent rows, with the lent bytes their texts lie in
 unfoldable pub draft : ℕ → ℕ → Header → List ℕ → List ℕ → Draft

@@ -1,4 +1,5 @@
 -- How the functions of reading end: from what a function is told to the whole answer and the lent rows. Assumes nothing.
+use Rattle.std.proofs.Common.{Option, Some, None}
 use mathlib.Core.Path.{◌≡◌, sym, ap, subst, ◌∙◌}
 use mathlib.Core.Bool.{Bool, true, false}
 use mathlib.Core.List.{List, ◌++◌}
@@ -6,8 +7,6 @@ use Prim.Native.Nat.{ℕ, ◌/◌, ◌≤◌, ◌<◌}
 use native.Mathlib.Omega.{arith}
 use lib.ListN.{length, drop}
 use Rattle.sheet.specs.declared.Sheet.{Sheet}
-use Rattle.sheet.specs.declared.Known.{Known}
-use Rattle.sheet.specs.declared.Known.TheVariants as known
 use Rattle.sheet.specs.Sheets.{sheet_of}
 use Rattle.sheet.proofs.Laws.{Sane, sheet-sane}
 use Rattle.paper.specs.Days.{real_day}
@@ -26,22 +25,22 @@ use Rattle.read.proofs.Laws as laws
 -- ---- the sheet
 
 -- r is the sheet that the number names
-module _ (r : Known) (n : ℕ) (g : r ≡ sheet_of n) where
+module _ (r : Option Sheet) (n : ℕ) (g : r ≡ sheet_of n) where
   module _ (today : ℕ) (f lent : List ℕ) (a : ReadAnswer) (o : List ℕ) where
-    pub on-sheet : (sh : Sheet) → r ≡ known.Sheet sh → a ≡ read_with (known.Sheet sh) today f (length lent / row_size) → a ≡ read_answer n today f lent
+    pub on-sheet : (sh : Sheet) → r ≡ Some sh → a ≡ read_with (Some sh) today f (length lent / row_size) → a ≡ read_answer n today f lent
     unfolding read_answer
     on-sheet sh e h = h ∙ rw (← g, e)
 
-    pub on-sheet-rows : (sh : Sheet) → r ≡ known.Sheet sh → o ≡ rows_with (known.Sheet sh) today f lent → o ≡ rows_after n today f lent
+    pub on-sheet-rows : (sh : Sheet) → r ≡ Some sh → o ≡ rows_with (Some sh) today f lent → o ≡ rows_after n today f lent
     unfolding rows_after
     on-sheet-rows sh e h = h ∙ rw (← g, e)
 
     -- 1: the number names none
-    pub no_sheet : r ≡ known.Nothing → a ≡ refused_at 1 0 0 → a ≡ read_answer n today f lent
+    pub no_sheet : r ≡ None → a ≡ refused_at 1 0 0 → a ≡ read_answer n today f lent
     unfolding read_answer read_with
     no_sheet e h = h ∙ rw (← g, e)
 
-    pub no-sheet-rows : r ≡ known.Nothing → o ≡ lent → o ≡ rows_after n today f lent
+    pub no-sheet-rows : r ≡ None → o ≡ lent → o ≡ rows_after n today f lent
     unfolding rows_after rows_with
     no-sheet-rows e h = h ∙ rw (← g, e)
 
@@ -55,18 +54,18 @@ module _ (sh : Sheet) (today : ℕ) (f lent : List ℕ) (a : ReadAnswer) (room :
     pub real-known : t ≡ true → real_day today ≡ true
     real-known e = sym g ∙ e
 
-    pub no_day : t ≡ false → a ≡ refused_at 2 0 0 → a ≡ read_with (known.Sheet sh) today f room
+    pub no_day : t ≡ false → a ≡ refused_at 2 0 0 → a ≡ read_with (Some sh) today f room
     no_day e h = h ∙ laws.no_day sh today f lent (sym g ∙ e) room
 
-    pub no-day-rows : t ≡ false → lent ≡ rows_with (known.Sheet sh) today f lent
+    pub no-day-rows : t ≡ false → lent ≡ rows_with (Some sh) today f lent
     no-day-rows e = laws.no-day-rows sh today f lent (sym g ∙ e)
 
   -- j is what the file was judged to be
   module _ (j : FileJudged) (g : told f j ≡ tally sh today f) where
-    pub refused : (n l p : ℕ) → j ≡ judged.Refused n l p → real_day today ≡ true → a ≡ refused_at n l p → a ≡ read_with (known.Sheet sh) today f room
+    pub refused : (n l p : ℕ) → j ≡ judged.Refused n l p → real_day today ≡ true → a ≡ refused_at n l p → a ≡ read_with (Some sh) today f room
     refused n l p e real h = h ∙ laws.refused-answer sh today f lent real n l p (sym g ∙ ap (told f) e) room
 
-    pub refused-rows : (n l p : ℕ) → j ≡ judged.Refused n l p → real_day today ≡ true → lent ≡ rows_with (known.Sheet sh) today f lent
+    pub refused-rows : (n l p : ℕ) → j ≡ judged.Refused n l p → real_day today ≡ true → lent ≡ rows_with (Some sh) today f lent
     refused-rows n l p e real = laws.refused-rows sh today f lent real n l p (sym g ∙ ap (told f) e)
 
     pub accepted : (h : Head) (n w : ℕ) → j ≡ judged.Accepted h n w → tally sh today f ≡ Yes (head_of f h) n w
@@ -80,15 +79,15 @@ pub ruleset judging = (real-known, no_day, no-day-rows, refused, refused-rows, a
 -- ---- the rows
 
 module _ (sh : Sheet) (today : ℕ) (f lent : List ℕ) (real : real_day today ≡ true) (h : Header) (n w : ℕ) (e : tally sh today f ≡ Yes h n w) where
-  pub short : (a : ReadAnswer) (room : ℕ) → room < n → a ≡ needs n → a ≡ read_with (known.Sheet sh) today f room
+  pub short : (a : ReadAnswer) (room : ℕ) → room < n → a ≡ needs n → a ≡ read_with (Some sh) today f room
   short a room s g = g ∙ laws.short-answer sh today f lent real h n w e room s
 
-  pub full : (g : Header) (room : ℕ) → n ≤ room → g ≡ h → accepted_as g n w ≡ read_with (known.Sheet sh) today f room
+  pub full : (g : Header) (room : ℕ) → n ≤ room → g ≡ h → accepted_as g n w ≡ read_with (Some sh) today f room
   full g room s x = ap (λ (k : Header). accepted_as k n w) x ∙ laws.full-answer sh today f lent real h n w e room s
 
   pub full-rows : (o : List ℕ) → n ≤ length lent / row_size
       → o ≡ rows_bytes (lines_rows sh today false (lines_of 0 f)) ++ drop (length (rows_bytes (lines_rows sh today false (lines_of 0 f)))) lent
-      → o ≡ rows_with (known.Sheet sh) today f lent
+      → o ≡ rows_with (Some sh) today f lent
   full-rows o s g = g ∙ laws.full-rows sh today f lent real h n w e s
 
 pub ruleset filling = (short, laws.short-rows, laws.full-room, laws.lines-said, full, full-rows)

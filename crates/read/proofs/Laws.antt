@@ -1,4 +1,5 @@
 -- The whole answer and the lent rows afterwards, by the judge's answer in brief. Assumes nothing.
+use Rattle.std.proofs.Common.{Some}
 use mathlib.Core.Path.{◌≡◌, sym, ap, ◌∙◌}
 use mathlib.Core.Bool.{true, false}
 use mathlib.Core.List.{List, ◌++◌}
@@ -8,7 +9,6 @@ use lib.ListN.{length, drop}
 use borrow.Author.Tests.{lt-ltb, le-ltb}
 use Rattle.base.specs.Pick.{pick}
 use Rattle.sheet.specs.declared.Sheet.{Sheet}
-use Rattle.sheet.specs.declared.Known.TheVariants as known
 use Rattle.paper.specs.Days.{real_day}
 use Rattle.paper.specs.Batch.{Batch, Header, things}
 use Rattle.paper.specs.Lines.{lines_of}
@@ -26,11 +26,11 @@ use Rattle.read.proofs.Said.{file-said}
 
 module _ (sh : Sheet) (today : ℕ) (f lent : List ℕ) where
   -- 2: today is no day
-  pub no_day : real_day today ≡ false → (room : ℕ) → refused_at 2 0 0 ≡ read_with (known.Sheet sh) today f room
+  pub no_day : real_day today ≡ false → (room : ℕ) → refused_at 2 0 0 ≡ read_with (Some sh) today f room
   unfolding read_with pick
   no_day e room = rw e
 
-  pub no-day-rows : real_day today ≡ false → lent ≡ rows_with (known.Sheet sh) today f lent
+  pub no-day-rows : real_day today ≡ false → lent ≡ rows_with (Some sh) today f lent
   unfolding rows_with pick
   no-day-rows e = rw e
 
@@ -40,11 +40,11 @@ module _ (sh : Sheet) (today : ℕ) (f lent : List ℕ) where
       judged-no : judge sh today f ≡ Refused n l p
       judged-no = refused-is _ n l p (sym (tally-is sh today f) ∙ e)
 
-      pub refused-answer : (room : ℕ) → refused_at n l p ≡ read_with (known.Sheet sh) today f room
+      pub refused-answer : (room : ℕ) → refused_at n l p ≡ read_with (Some sh) today f room
       unfolding read_with answered pick
       refused-answer room = rw (real, judged-no)
 
-      pub refused-rows : lent ≡ rows_with (known.Sheet sh) today f lent
+      pub refused-rows : lent ≡ rows_with (Some sh) today f lent
       unfolding rows_with filled pick
       refused-rows = rw (real, judged-no)
 
@@ -58,16 +58,16 @@ module _ (sh : Sheet) (today : ℕ) (f lent : List ℕ) where
       lines-said = let j = judged-yes in file-said sh today f h j.0 w j.1
 
       -- there are fewer: 16, and the rows are left alone
-      pub short-answer : (room : ℕ) → room < n → needs n ≡ read_with (known.Sheet sh) today f room
+      pub short-answer : (room : ℕ) → room < n → needs n ≡ read_with (Some sh) today f room
       unfolding read_with answered pick
       short-answer room s = let j = judged-yes in rw (real, j.1, ← j.2, lt-ltb _ _ s)
 
-      pub short-rows : length lent / row_size < n → lent ≡ rows_with (known.Sheet sh) today f lent
+      pub short-rows : length lent / row_size < n → lent ≡ rows_with (Some sh) today f lent
       unfolding rows_with filled pick
       short-rows s = let j = judged-yes in rw (real, j.1, ← j.2, lt-ltb _ _ s)
 
       -- there are enough: 0, and the file's rows stand in front of the old bytes
-      pub full-answer : (room : ℕ) → n ≤ room → accepted_as h n w ≡ read_with (known.Sheet sh) today f room
+      pub full-answer : (room : ℕ) → n ≤ room → accepted_as h n w ≡ read_with (Some sh) today f room
       unfolding read_with answered pick
       full-answer room s = let j = judged-yes in rw (real, j.1, ← j.2, le-ltb _ _ s)
 
@@ -81,6 +81,6 @@ module _ (sh : Sheet) (today : ℕ) (f lent : List ℕ) where
       -- and behind them stand the old ones
       pub full-rows : n ≤ length lent / row_size
           → rows_bytes (lines_rows sh today false (lines_of 0 f)) ++ drop (length (rows_bytes (lines_rows sh today false (lines_of 0 f)))) lent
-          ≡ rows_with (known.Sheet sh) today f lent
+          ≡ rows_with (Some sh) today f lent
       unfolding rows_with filled pick
       full-rows s = let j = judged-yes in rw (bytes, real, j.1, ← j.2, le-ltb _ _ s)

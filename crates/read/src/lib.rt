@@ -2,9 +2,8 @@
 // they have room.
 #![tactic(auto)]
 
-ghost use Rattle.std.specs.Prelude.{◌≡◌, true, ◌/◌, ◌≤◌, length, take, drop};
+ghost use Rattle.std.specs.Prelude.{◌≡◌, true, ◌/◌, ◌≤◌, length, take, drop, Some};
 ghost use Rattle.base.specs.Pick.{pick};
-ghost use Rattle.sheet.specs.declared.Known.TheVariants as known;
 ghost use Rattle.sheet.proofs.Laws.{Sane};
 ghost use Rattle.paper.specs.Days.{real_day};
 ghost use Rattle.paper.specs.Batch.{spaces20};
@@ -15,7 +14,7 @@ ghost use Rattle.judge.specs.file.Answer.{head_of, Sound};
 ghost use Rattle.read.specs.Told.{told_header, told};
 
 use judge::file::{FileJudged, Head};
-use sheet::{Known, Sheet};
+use sheet::Sheet;
 
 // The header of a file. The name is 20 bytes.
 #[repr(C)]
@@ -135,8 +134,8 @@ pub fn accept(
     requires sane { Sane sh × (real_day today ≡ true) }
     requires file_value { tally sh today file.now ≡ Yes (head_of file.now head) count warnings }
     requires sound { Sound file.now head count warnings }
-    ensures result_value { told result ≡ read_with (known.Sheet sh) today file.now (length rows.old / row_size) }
-    ensures rows_after { rows.new ≡ rows_with (known.Sheet sh) today file.now rows.old }
+    ensures result_value { told result ≡ read_with (Some sh) today file.now (length rows.old / row_size) }
+    ensures rows_after { rows.new ≡ rows_with (Some sh) today file.now rows.old }
 {
     let room = rows.len() / 192;
     if (room as u64) < count {
@@ -157,8 +156,8 @@ pub fn accept(
 // The answer on the sheet sh: 2, or what the file is judged to be.
 pub fn read_on(file: &[u8], sh: Sheet, today: u64, rows: &mut [u8]) -> AboAnswer
     requires { Sane sh }
-    ensures result_value { told result ≡ read_with (known.Sheet sh) today file.now (length rows.old / row_size) }
-    ensures rows_after { rows.new ≡ rows_with (known.Sheet sh) today file.now rows.old }
+    ensures result_value { told result ≡ read_with (Some sh) today file.now (length rows.old / row_size) }
+    ensures rows_after { rows.new ≡ rows_with (Some sh) today file.now rows.old }
 {
     if calendar::real_day(today) {
         match judge::file::judge_file(file, sh, today) {
@@ -180,7 +179,7 @@ pub fn read_file(file: &[u8], sheet: u64, today: u64, rows: &mut [u8]) -> AboAns
     ensures rows_after { rows.new ≡ rows_after sheet today file.now rows.old }
 {
     match sheet::sheet_of(sheet) {
-        Known::Sheet(sh) => read_on(file, sh, today, rows),
-        Known::Nothing => refusal(1, 0, 0),
+        Some(sh) => read_on(file, sh, today, rows),
+        None => refusal(1, 0, 0),
     }
 }

@@ -1,4 +1,5 @@
 -- From the judging of a file against a register to the whole answer, the rows and the register that reading leaves. Assumes nothing.
+use Rattle.std.proofs.Common.{Option, Some, None}
 use Prim.Native.Nat.{ℕ, ◌/◌, ◌≤◌}
 use mathlib.Core.Path.{◌≡◌, sym, ap, subst, ◌∙◌}
 use mathlib.Core.Bool.{Bool, true, false, true≢false}
@@ -10,8 +11,6 @@ use borrow.Author.Tests.{leb-true}
 use Rattle.base.specs.Pick.{pick}
 use Rattle.base.proofs.Cases.{by-test, pick_true, pick-false, pick_same}
 use Rattle.sheet.specs.declared.Sheet.{Sheet}
-use Rattle.sheet.specs.declared.Known.{Known}
-use Rattle.sheet.specs.declared.Known.TheVariants as known
 use Rattle.sheet.specs.Sheets.{sheet_of}
 use Rattle.sheet.proofs.Laws.{Sane, sheet-sane}
 use Rattle.paper.specs.Days.{real_day}
@@ -38,22 +37,22 @@ use Rattle.registered.specs.Judged.{Judged}
 -- ---- the sheet
 
 -- r is the sheet that the number names
-module _ (r : Known) (n : ℕ) (g : r ≡ sheet_of n) (today : ℕ) (f lent register : List ℕ) where
-  pub on-sheet : (a : ReadAnswer) (sh : Sheet) → r ≡ known.Sheet sh → a ≡ registered_with (known.Sheet sh) today f (length lent / row_size) (register_of register)
+module _ (r : Option Sheet) (n : ℕ) (g : r ≡ sheet_of n) (today : ℕ) (f lent register : List ℕ) where
+  pub on-sheet : (a : ReadAnswer) (sh : Sheet) → r ≡ Some sh → a ≡ registered_with (Some sh) today f (length lent / row_size) (register_of register)
       → a ≡ registered_answer n today f lent register
   unfolding registered_answer
   on-sheet a sh e h = h ∙ rw (← g, e)
 
-  pub on-sheet-rows : (o : List ℕ) (sh : Sheet) → r ≡ known.Sheet sh → o ≡ registered_rows_with (known.Sheet sh) today f lent (register_of register) → o ≡ registered_rows n today f lent register
+  pub on-sheet-rows : (o : List ℕ) (sh : Sheet) → r ≡ Some sh → o ≡ registered_rows_with (Some sh) today f lent (register_of register) → o ≡ registered_rows n today f lent register
   unfolding registered_rows
   on-sheet-rows o sh e h = h ∙ rw (← g, e)
 
-  pub on-sheet-register : (o : List ℕ) (sh : Sheet) → r ≡ known.Sheet sh → o ≡ register_with (known.Sheet sh) today f (length lent / row_size) register → o ≡ register_after n today f lent register
+  pub on-sheet-register : (o : List ℕ) (sh : Sheet) → r ≡ Some sh → o ≡ register_with (Some sh) today f (length lent / row_size) register → o ≡ register_after n today f lent register
   unfolding register_after
   on-sheet-register o sh e h = h ∙ rw (← g, e)
 
   -- 1: the number names none
-  module _ (e : r ≡ known.Nothing) where
+  module _ (e : r ≡ None) where
     pub no_sheet : (a : ReadAnswer) → a ≡ refused_at 1 0 0 → a ≡ registered_answer n today f lent register
     unfolding registered_answer registered_with
     no_sheet a h = h ∙ rw (← g, e)
@@ -76,15 +75,15 @@ module _ (sh : Sheet) (today : ℕ) (f lent register : List ℕ) where
     unfolding judge_on
     alone = pick-false _ _ i
 
-    pub other-answer : (a : ReadAnswer) (room : ℕ) → a ≡ read_with (known.Sheet sh) today f room → a ≡ registered_with (known.Sheet sh) today f room (register_of register)
+    pub other-answer : (a : ReadAnswer) (room : ℕ) → a ≡ read_with (Some sh) today f room → a ≡ registered_with (Some sh) today f room (register_of register)
     unfolding read_with registered_with
     other-answer a room h = h ∙ rw alone
 
-    pub other-rows : (o : List ℕ) → o ≡ rows_with (known.Sheet sh) today f lent → o ≡ registered_rows_with (known.Sheet sh) today f lent (register_of register)
+    pub other-rows : (o : List ℕ) → o ≡ rows_with (Some sh) today f lent → o ≡ registered_rows_with (Some sh) today f lent (register_of register)
     unfolding rows_with registered_rows_with
     other-rows o h = h ∙ rw alone
 
-    pub other-register : (room : ℕ) → register ≡ register_with (known.Sheet sh) today f room register
+    pub other-register : (room : ℕ) → register ≡ register_with (Some sh) today f room register
     unfolding register_with pick
     other-register room = rw i (sym (pick_same (real_day today) register))
 
@@ -94,15 +93,15 @@ module _ (sh : Sheet) (today : ℕ) (f lent register : List ℕ) where
     real-known e = sym g ∙ e
 
     module _ (e : t ≡ false) where
-      pub no_day : (a : ReadAnswer) (room : ℕ) → a ≡ refused_at 2 0 0 → a ≡ registered_with (known.Sheet sh) today f room (register_of register)
+      pub no_day : (a : ReadAnswer) (room : ℕ) → a ≡ refused_at 2 0 0 → a ≡ registered_with (Some sh) today f room (register_of register)
       unfolding registered_with pick
       no_day a room h = h ∙ rw (sym g ∙ e)
 
-      pub no-day-rows : lent ≡ registered_rows_with (known.Sheet sh) today f lent (register_of register)
+      pub no-day-rows : lent ≡ registered_rows_with (Some sh) today f lent (register_of register)
       unfolding registered_rows_with pick
       no-day-rows = rw (sym g ∙ e)
 
-      pub no-day-register : (room : ℕ) → register ≡ register_with (known.Sheet sh) today f room register
+      pub no-day-register : (room : ℕ) → register ≡ register_with (Some sh) today f room register
       unfolding register_with pick
       no-day-register room = rw (sym g ∙ e)
 
@@ -128,15 +127,15 @@ module _ (reg : Loaded) (register : List ℕ) (g : told_register reg ≡ registe
     judged-no : judge_on (register_of register) sh today f ≡ Refused n l p
     judged-no = rw g at (refused-is (judge_on (told_register reg) sh today f) n l p (sym j.same ∙ ap (told f) e))
 
-    pub refused : (a : ReadAnswer) (room : ℕ) → a ≡ refused_at n l p → a ≡ registered_with (known.Sheet sh) today f room (register_of register)
+    pub refused : (a : ReadAnswer) (room : ℕ) → a ≡ refused_at n l p → a ≡ registered_with (Some sh) today f room (register_of register)
     unfolding registered_with answered pick
     refused a room h = h ∙ rw (real, judged-no)
 
-    pub refused-rows : lent ≡ registered_rows_with (known.Sheet sh) today f lent (register_of register)
+    pub refused-rows : lent ≡ registered_rows_with (Some sh) today f lent (register_of register)
     unfolding registered_rows_with filled pick
     refused-rows = rw (real, judged-no)
 
-    pub refused-register : (room : ℕ) → register ≡ register_with (known.Sheet sh) today f room register
+    pub refused-register : (room : ℕ) → register ≡ register_with (Some sh) today f room register
     unfolding register_with marked
     refused-register room = sym (pick_true _ _ real ∙ (pick_true _ _ i ∙ rw judged-no))
 
@@ -152,11 +151,11 @@ module _ (reg : Loaded) (register : List ℕ) (g : told_register reg ≡ registe
     agrees : judge_on (register_of register) sh today f ≡ judge sh today f
     agrees = let x = j.numbered h n w e in rw g at (x.against ∙ sym x.alone)
 
-    pub accepted : (a : ReadAnswer) (room : ℕ) → a ≡ read_with (known.Sheet sh) today f room → a ≡ registered_with (known.Sheet sh) today f room (register_of register)
+    pub accepted : (a : ReadAnswer) (room : ℕ) → a ≡ read_with (Some sh) today f room → a ≡ registered_with (Some sh) today f room (register_of register)
     unfolding read_with registered_with
     accepted a room q = q ∙ rw agrees
 
-    pub accepted-rows : (o : List ℕ) → o ≡ rows_with (known.Sheet sh) today f lent → o ≡ registered_rows_with (known.Sheet sh) today f lent (register_of register)
+    pub accepted-rows : (o : List ℕ) → o ≡ rows_with (Some sh) today f lent → o ≡ registered_rows_with (Some sh) today f lent (register_of register)
     unfolding rows_with registered_rows_with
     accepted-rows o q = q ∙ rw agrees
 
@@ -171,13 +170,13 @@ module _ (reg : Loaded) (register : List ℕ) (g : told_register reg ≡ registe
     accepted-long = long_of register _ _ register-is
 
     -- a is what reading answered, with that room
-    module _ (a : ReadAnswer) (room : ℕ) (q : a ≡ read_with (known.Sheet sh) today f room) where
+    module _ (a : ReadAnswer) (room : ℕ) (q : a ≡ read_with (Some sh) today f room) where
       has_room : (b : Bool) → ltb room (row_count (j.numbered h n w e).batch) ≡ b → a.number ≡ pick b 16 0
       unfolding read_with answered needs accepted_as pick
       has_room true t = ap (λ (x : ReadAnswer). x.number) q ∙ rw (real, (j.numbered h n w e).alone, t)
       has_room false t = ap (λ (x : ReadAnswer). x.number) q ∙ rw (real, (j.numbered h n w e).alone, t)
 
-      marking-is : register_with (known.Sheet sh) today f room register
+      marking-is : register_with (Some sh) today f room register
           ≡ pick (ltb room (row_count (j.numbered h n w e).batch)) register (marking register (register_of register) (j.numbered h n w e).batch)
       unfolding register_with marked
       marking-is = pick_true _ _ real ∙ (pick_true _ _ i ∙ ap (marked room register (register_of register)) (agrees ∙ (j.numbered h n w e).alone))
@@ -187,7 +186,7 @@ module _ (reg : Loaded) (register : List ℕ) (g : told_register reg ≡ registe
       unfolding used pick
       holds-is = (j.numbered h n w e).holds ∙ ap (λ (r : Register). with (seen (j.numbered h n w e).batch) (used r)) (g ∙ register-is)
 
-      pub marks-none : (a.number ≡ 0 → ⊥) → register ≡ register_with (known.Sheet sh) today f room register
+      pub marks-none : (a.number ≡ 0 → ⊥) → register ≡ register_with (Some sh) today f room register
       unfolding pick
       marks-none some =
           let x = j.numbered h n w e in
@@ -197,7 +196,7 @@ module _ (reg : Loaded) (register : List ℕ) (g : told_register reg ≡ registe
       unfolding pick
       apart e = omega arith
 
-      pub marks-all : a.number ≡ 0 → laid_in register reg.date (bit ended.seen.words) ≡ register_with (known.Sheet sh) today f room register
+      pub marks-all : a.number ≡ 0 → laid_in register reg.date (bit ended.seen.words) ≡ register_with (Some sh) today f room register
       unfolding marking
       marks-all zero =
           let x = j.numbered h n w e in

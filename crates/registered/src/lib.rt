@@ -2,8 +2,7 @@
 // before; what judging has seen by the end of an accepted file is the register afterwards.
 #![tactic(auto)]
 
-ghost use Rattle.std.specs.Prelude.{◌≡◌, true, ◌-◌, ◌/◌, length, take, drop};
-ghost use Rattle.sheet.specs.declared.Known.TheVariants as known;
+ghost use Rattle.std.specs.Prelude.{◌≡◌, true, ◌-◌, ◌/◌, length, take, drop, Some};
 ghost use Rattle.sheet.proofs.Laws.{Sane};
 ghost use Rattle.paper.specs.Days.{real_day};
 ghost use Rattle.paper.specs.Entries.{head_line, kind_of};
@@ -25,7 +24,7 @@ use read::AboAnswer;
 use register::Loaded;
 use scan::kind::LineKind;
 use scan::line::Cut;
-use sheet::{Known, Sheet};
+use sheet::Sheet;
 
 // ---- the file judged
 
@@ -140,9 +139,9 @@ fn read_numbered(
     register: &mut [u8],
 ) -> AboAnswer
     requires { Sane sh × (real_day today ≡ true) × (sh.interval ≡ true) }
-    ensures result_value { told_read result ≡ registered_with (known.Sheet sh) today file.now (length rows.old / row_size) (register_of register.old) }
-    ensures rows_after { rows.new ≡ registered_rows_with (known.Sheet sh) today file.now rows.old (register_of register.old) }
-    ensures register_after { register.new ≡ register_with (known.Sheet sh) today file.now (length rows.old / row_size) register.old }
+    ensures result_value { told_read result ≡ registered_with (Some sh) today file.now (length rows.old / row_size) (register_of register.old) }
+    ensures rows_after { rows.new ≡ registered_rows_with (Some sh) today file.now rows.old (register_of register.old) }
+    ensures register_after { register.new ≡ register_with (Some sh) today file.now (length rows.old / row_size) register.old }
 {
     let reg = register::load(register);
     let ended = judge_file(file, sh, today, reg);
@@ -167,9 +166,9 @@ fn read_numbered(
 // The answer on the sheet sh. Where it does not look at the register, or the day is not real, reading's own.
 fn read_on(file: &[u8], sh: Sheet, today: u64, rows: &mut [u8], register: &mut [u8]) -> AboAnswer
     requires { Sane sh }
-    ensures result_value { told_read result ≡ registered_with (known.Sheet sh) today file.now (length rows.old / row_size) (register_of register.old) }
-    ensures rows_after { rows.new ≡ registered_rows_with (known.Sheet sh) today file.now rows.old (register_of register.old) }
-    ensures register_after { register.new ≡ register_with (known.Sheet sh) today file.now (length rows.old / row_size) register.old }
+    ensures result_value { told_read result ≡ registered_with (Some sh) today file.now (length rows.old / row_size) (register_of register.old) }
+    ensures rows_after { rows.new ≡ registered_rows_with (Some sh) today file.now rows.old (register_of register.old) }
+    ensures register_after { register.new ≡ register_with (Some sh) today file.now (length rows.old / row_size) register.old }
 {
     if sh.interval {
         if calendar::real_day(today) {
@@ -193,7 +192,7 @@ pub fn read_registered(
     ensures register_after { register.new ≡ register_after sheet today file.now rows.old register.old }
 {
     match sheet::sheet_of(sheet) {
-        Known::Sheet(sh) => read_on(file, sh, today, rows, register),
-        Known::Nothing => read::refusal(1, 0, 0),
+        Some(sh) => read_on(file, sh, today, rows, register),
+        None => read::refusal(1, 0, 0),
     }
 }

@@ -1,4 +1,5 @@
 -- How the functions of rewriting end, with what the code knows at each. Assumes nothing.
+use Rattle.std.proofs.Common.{Some}
 use mathlib.Core.Path.{◌≡◌, sym, ap, ◌∙◌}
 use mathlib.Core.Bool.{true}
 use mathlib.Core.List.{List}
@@ -8,7 +9,6 @@ use lib.ListN.{length, take, drop, length-drop}
 use Rattle.base.specs.Put.{Wrote}
 use Rattle.base.proofs.Lists.{rest-whole}
 use Rattle.sheet.specs.declared.Sheet.{Sheet}
-use Rattle.sheet.specs.declared.Known.TheVariants as known
 use Rattle.sheet.specs.Sheets.{sheet_of}
 use Rattle.paper.specs.Days.{real_day}
 use Rattle.paper.specs.Judge.{judge}
@@ -35,7 +35,7 @@ line_wrote n l p h w = counted-wrote w (omega (arith, refused-most n l p)) (omeg
 -- ---- rewrite_file: a is what read_file answered, left the rows behind it
 
 module _ (sh : Sheet) (today : ℕ) (f : List ℕ)
-    (known : (sheet_of sh.number ≡ known.Sheet sh) × (real_day today ≡ true) × (length f ≤ most_input))
+    (known : (sheet_of sh.number ≡ Some sh) × (real_day today ≡ true) × (length f ≤ most_input))
     (lent : List ℕ) (room : 192 * most_rows ≤ length lent)
     (a : AboAnswer) (g : told a ≡ read_answer sh.number today f lent) (left : List ℕ) (i : left ≡ rows_after sh.number today f lent) where
   out : Outcome sh today f left (told a)
@@ -87,7 +87,7 @@ module _ (f : List ℕ) (q : Request) (g : answer f q ≡ rewriting f) (sound : 
     pub file-place : at ≤ length f
     file-place = said.2
 
-    pub file-sheet : sheet_of sh.number ≡ known.Sheet sh
+    pub file-sheet : sheet_of sh.number ≡ Some sh
     file-sheet = said.0
 
     pub file-day : real_day today ≡ true

@@ -1,4 +1,5 @@
 -- What was read of an input of 8 KiB: its answer is a refusal's, or its rows draft the canonical file, for which there is room. Assumes nothing.
+use Rattle.std.proofs.Common.{Some}
 use mathlib.Core.Path.{◌≡◌, refl, ap, ◌∙◌}
 use mathlib.Core.Bool.{true, false}
 use mathlib.Core.List.{List}
@@ -7,7 +8,6 @@ use native.Mathlib.Omega.{arith}
 use lib.ListN.{length, take, drop}
 use lib.Seq.{take_at}
 use Rattle.sheet.specs.declared.Sheet.{Sheet}
-use Rattle.sheet.specs.declared.Known.TheVariants as known
 use Rattle.sheet.specs.Sheets.{sheet_of}
 use Rattle.sheet.proofs.Laws as sheets
 use Rattle.paper.specs.Days.{real_day}
@@ -37,7 +37,7 @@ pub data Outcome (sh : Sheet) (today : ℕ) (f left : List ℕ) (a : ReadAnswer)
   accepts : a.number ≡ 0 → a.rows ≤ most_rows → length (rewritten sh (judge sh today f)) ≤ most_output
       → draft sh.number today a.header (take (192 * a.rows) left) f ≡ drafted (rewritten sh (judge sh today f)) → Outcome sh today f left a
 
-module _ (sh : Sheet) (named : sheet_of sh.number ≡ known.Sheet sh) (today : ℕ) (day : real_day today ≡ true) (f lent : List ℕ) (small : length f ≤ most_input) (room : 192 * most_rows ≤ length lent) where
+module _ (sh : Sheet) (named : sheet_of sh.number ≡ Some sh) (today : ℕ) (day : real_day today ≡ true) (f lent : List ℕ) (small : length f ≤ most_input) (room : 192 * most_rows ≤ length lent) where
   -- the rows of an accepted file hold its batch
   module _ (h : Header) (b : Batch) (w : ℕ) (e : judge sh today f ≡ Accepted h b w) where
     enough : row_count b ≤ length lent / row_size

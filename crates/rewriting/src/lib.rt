@@ -3,9 +3,8 @@
 
 pub mod request;
 
-ghost use Rattle.std.specs.Prelude.{◌≡◌, true, List, ℕ, ◌*◌, ◌≤◌, length};
+ghost use Rattle.std.specs.Prelude.{◌≡◌, true, List, ℕ, ◌*◌, ◌≤◌, length, Some};
 ghost use Rattle.base.specs.Put.{Wrote};
-ghost use Rattle.sheet.specs.declared.Known.TheVariants as known;
 ghost use Rattle.sheet.specs.Sheets.{sheet_of};
 ghost use Rattle.paper.specs.Days.{real_day};
 ghost use Rattle.paper.specs.Judge.{judge};
@@ -37,7 +36,7 @@ fn write_back(
 
 // Rewrites a file on a known sheet and a real day.
 fn rewrite_file(file: &[u8], sh: Sheet, today: u64, rows: &mut [u8], out: &mut [u8]) -> usize
-    requires number_value { (sheet_of sh.number ≡ known.Sheet sh) × (real_day today ≡ true) × (length file.now ≤ most_input) }
+    requires number_value { (sheet_of sh.number ≡ Some sh) × (real_day today ≡ true) × (length file.now ≤ most_input) }
     requires most_rows_in_bounds { (192 * most_rows ≤ length rows.old) × (most_output ≤ length out.old) }
     ensures { Wrote out.old 0 (rewritten sh (judge sh today file.now)) out.new result }
 {

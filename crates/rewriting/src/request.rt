@@ -1,13 +1,12 @@
 // The first line of the rewriting program's input: the sheet's letter, a space, and today.
-ghost use Rattle.std.specs.Prelude.{◌≡◌, ◌<◌, length, get_or};
-ghost use Rattle.sheet.specs.declared.Known.TheVariants as known;
+ghost use Rattle.std.specs.Prelude.{◌≡◌, ◌<◌, length, get_or, Some};
 ghost use Rattle.sheet.specs.Sheets.{sheet_by};
 ghost use Rattle.paper.specs.Rewriting.{day_field, rewriting};
 ghost use Rattle.numeral.specs.Told.{told};
 ghost use Rattle.rewriting.specs.request.Asked.{answer, Sound};
 
 use numeral::Num;
-use sheet::{Known, Sheet};
+use sheet::Sheet;
 
 // What is asked for: nothing, where the line or the input's length is refused with that number; or the file that begins at `at`, on a sheet
 // and a day.
@@ -33,7 +32,7 @@ fn read_today(s: &[u8]) -> Num
 // Behind the letter, which names the sheet sh: 2, then 16, then the file.
 fn on_sheet(input: &[u8], sh: Sheet) -> Request
     requires input_nonzero { 0 < length input.now }
-    requires input_value { sheet_by (get_or input.now 0 0) ≡ known.Sheet sh }
+    requires input_value { sheet_by (get_or input.now 0 0) ≡ Some sh }
     ensures result_value { answer input.now result ≡ rewriting input.now }
     ensures sound { Sound input.now result }
 {
@@ -60,7 +59,7 @@ pub fn read_request(input: &[u8]) -> Request
         return Request::Refused(1);
     }
     match sheet::sheet_by(input[0]) {
-        Known::Sheet(sh) => on_sheet(input, sh),
-        Known::Nothing => Request::Refused(1),
+        Some(sh) => on_sheet(input, sh),
+        None => Request::Refused(1),
     }
 }

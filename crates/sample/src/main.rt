@@ -5,7 +5,7 @@
 
 use calendar::term::Banks;
 use numeral::field::{NumAt, Passed};
-use sheet::{Known, Sheet};
+use sheet::Sheet;
 
 const TODAY: u64 = 20180101;
 
@@ -116,8 +116,8 @@ fn answer(line: &[u8]) {
         return;
     }
     match sheet::sheet_by(line[end + 1]) {
-        Known::Nothing => refused(1),
-        Known::Sheet(sh) => show(sh, line[end + 2], line),
+        None => refused(1),
+        Some(sh) => show(sh, line[end + 2], line),
     }
     io::write_all(1, b"\n");
 }

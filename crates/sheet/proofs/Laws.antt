@@ -1,4 +1,5 @@
 -- What holds of every sheet that a number or a letter names. Assumes nothing.
+use Rattle.std.proofs.Common.{Option, Some, None}
 use mathlib.Core.Path.{◌≡◌, refl, sym, ◌∙◌}
 use mathlib.Core.Bool.{Bool, true, false, not, ◌&&◌, ◌||◌}
 use mathlib.Core.List.{List, [], ◌∷◌}
@@ -9,8 +10,6 @@ use borrow.Author.Tests.{leb-true, ltb-true, eqb-true, eq-eqb, not-true}
 use Rattle.base.specs.Pick.{pick}
 use Rattle.base.proofs.Cases.{both, pick_true, pick-false}
 use Rattle.sheet.specs.declared.Sheet.{Sheet}
-use Rattle.sheet.specs.declared.Known.{Known}
-use Rattle.sheet.specs.declared.Known.TheVariants as known
 use Rattle.sheet.specs.Sheets.{sheets, first_named, sheet_of, sheet_by}
 
 -- ---- by its name
@@ -25,32 +24,32 @@ abbrev apart : (Sheet → ℕ) → List Sheet → Bool
 apart name [] = true
 apart name (a ∷ shs) = every (λ x. not (eqb (name x) (name a))) shs && apart name shs
 
-nothing : {P : Type 0} (s : Sheet) → known.Nothing ≡ known.Sheet s → P
+nothing : {P : Type 0} (s : Sheet) → None ≡ Some s → P
 nothing s e = absurd (let z : ◌≡◌ {A = ℕ} 0 1 = cc in omega arith)
 
 -- one test: it names a, or the others name the sheet
-either-named : {P : Type 0} (t : Bool) (a s : Sheet) (rest : Known) → (t ≡ true → a ≡ s → P) → (rest ≡ known.Sheet s → P)
-    → pick t (known.Sheet a) rest ≡ known.Sheet s → P
+either-named : {P : Type 0} (t : Bool) (a s : Sheet) (rest : Option Sheet) → (t ≡ true → a ≡ s → P) → (rest ≡ Some s → P)
+    → pick t (Some a) rest ≡ Some s → P
 unfolding pick
 either-named true a s rest p q e = p refl (cc)
 either-named false a s rest p q e = q e
 
 module _ (name : Sheet → ℕ) (n : ℕ) (s : Sheet) where
   -- what is tested of every sheet of a list holds of the one that is named
-  tested : (t : Sheet → Bool) (shs : List Sheet) → every t shs ≡ true → first_named name n shs ≡ known.Sheet s → t s ≡ true
+  tested : (t : Sheet → Bool) (shs : List Sheet) → every t shs ≡ true → first_named name n shs ≡ Some s → t s ≡ true
   tested t [] w e = nothing s e
   tested t (a ∷ shs) w e =
       let (here, there) = both (t a) (every t shs) w in
       either-named _ a s _ (λ _ same. rw same at here) (tested t shs there) e
 
   -- it has that name
-  has-name : (shs : List Sheet) → first_named name n shs ≡ known.Sheet s → name s ≡ n
+  has-name : (shs : List Sheet) → first_named name n shs ≡ Some s → name s ≡ n
   has-name [] e = nothing s e
   has-name (a ∷ shs) e = either-named _ a s _ (λ t same. rw same at (sym (eqb-true n (name a) t))) (has-name shs) e
 
   -- and where no two of them have one name of another sort, that one names it too
-  named-also : (other : Sheet → ℕ) (shs : List Sheet) → apart other shs ≡ true → first_named name n shs ≡ known.Sheet s
-      → first_named other (other s) shs ≡ known.Sheet s
+  named-also : (other : Sheet → ℕ) (shs : List Sheet) → apart other shs ≡ true → first_named name n shs ≡ Some s
+      → first_named other (other s) shs ≡ Some s
   named-also other [] w e = nothing s e
   named-also other (a ∷ shs) w e =
       let (fresh, rest) = both (every (λ x. not (eqb (other x) (other a))) shs) (apart other shs) w in
@@ -59,18 +58,18 @@ module _ (name : Sheet → ℕ) (n : ℕ) (s : Sheet) where
       (λ q. pick-false _ _ (not-true _ (tested (λ x. not (eqb (other x) (other a))) shs fresh q)) ∙ named-also other shs rest q)
       e
 
-module _ (n : ℕ) (s : Sheet) (named : sheet_of n ≡ known.Sheet s) where
+module _ (n : ℕ) (s : Sheet) (named : sheet_of n ≡ Some s) where
   -- what is tested of every known sheet holds of the one that a number names
   pub every-sheet : (t : Sheet → Bool) → every t sheets ≡ true → t s ≡ true
   unfolding sheet_of
   every-sheet t w = tested (λ x. x.number) n s t sheets w named
 
   -- its letter names it too
-  pub letter-same : sheet_by s.letter ≡ known.Sheet s
+  pub letter-same : sheet_by s.letter ≡ Some s
   unfolding sheet_of sheet_by
   letter-same = named-also (λ x. x.number) n s (λ x. x.letter) sheets refl named
 
-module _ (b : ℕ) (s : Sheet) (named : sheet_by b ≡ known.Sheet s) where
+module _ (b : ℕ) (s : Sheet) (named : sheet_by b ≡ Some s) where
   -- .. and of the one that a letter names
   pub every-letter : (t : Sheet → Bool) → every t sheets ≡ true → t s ≡ true
   unfolding sheet_by
@@ -82,7 +81,7 @@ module _ (b : ℕ) (s : Sheet) (named : sheet_by b ≡ known.Sheet s) where
   sheet-letter = has-name (λ x. x.letter) b s sheets named
 
   -- and its number names it too
-  pub number_same : sheet_of s.number ≡ known.Sheet s
+  pub number_same : sheet_of s.number ≡ Some s
   unfolding sheet_of sheet_by
   number_same = named-also (λ x. x.letter) b s (λ x. x.number) sheets refl named
 
@@ -118,7 +117,7 @@ holds-or : (t u : Bool) → (t || u) ≡ true → t ≡ false → u ≡ true
 holds-or t u e f = rw f at e
 
 -- each bound is tested of every known sheet
-pub sane : (n : ℕ) (s : Sheet) → sheet_of n ≡ known.Sheet s → Sane s
+pub sane : (n : ℕ) (s : Sheet) → sheet_of n ≡ Some s → Sane s
 sane n s h =
     let holds = every-sheet n s h in
     record {
@@ -142,5 +141,5 @@ sane n s h =
     }
 
 -- the same of a sheet that was looked up
-pub sheet-sane : (r : Known) (n : ℕ) → r ≡ sheet_of n → (s : Sheet) → r ≡ known.Sheet s → Sane s
+pub sheet-sane : (r : Option Sheet) (n : ℕ) → r ≡ sheet_of n → (s : Sheet) → r ≡ Some s → Sane s
 sheet-sane r n g s e = sane n s (sym g ∙ e)

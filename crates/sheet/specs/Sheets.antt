@@ -1,13 +1,11 @@
 -- The sheets as records of what their banks ask, and which number or letter names which. Document 01, "What the library handles",
 -- with each sheet's answers to the questions that "Accounts" and "Lines" put, and document 02, W-201. Assumes nothing.
-use Rattle.std.specs.Prelude.{ℕ, ◌≡◌, Bool, true, false, List, [], ◌∷◌, leb, eqb, ltb}
+use Rattle.std.specs.Prelude.{ℕ, ◌≡◌, Bool, true, false, List, [], ◌∷◌, leb, eqb, ltb, Option, Some, None}
 use Rattle.base.specs.Pick.{pick}
 use Rattle.sheet.specs.declared.Style.{Style}
 use Rattle.sheet.specs.declared.Sheet.{Sheet}
 use Rattle.sheet.specs.declared.Kinds.{Kinds}
 use Rattle.sheet.specs.declared.Limits.{Limits}
-use Rattle.sheet.specs.declared.Known.{Known}
-use Rattle.sheet.specs.declared.Known.TheVariants as known
 
 -- "Tail": on K and E a text begins `AV:`, has up to four parts and no name, and nothing in it is cut
 abbrev pub style_ke : Style
@@ -210,16 +208,16 @@ sheets =
     ∷ []
 
 -- the first of the sheets whose name, that is its number or its letter, is n
-abbrev pub first_named : (Sheet → ℕ) → ℕ → List Sheet → Known
-first_named name n [] = known.Nothing
-first_named name n (sh ∷ shs) = pick (eqb n (name sh)) (known.Sheet sh) (first_named name n shs)
+abbrev pub first_named : (Sheet → ℕ) → ℕ → List Sheet → Option Sheet
+first_named name n [] = None
+first_named name n (sh ∷ shs) = pick (eqb n (name sh)) (Some sh) (first_named name n shs)
 
 -- "What the library handles": the known sheet of that number, so 1 is K, 2 is S, 3 is C, 4 is E, 5 is P, and no other number names a sheet
-unfoldable pub sheet_of : ℕ → Known
+unfoldable pub sheet_of : ℕ → Option Sheet
 sheet_of n = first_named (λ (sh : Sheet). sh.number) n sheets
 
 -- "A whole run": the same by letter
-unfoldable pub sheet_by : ℕ → Known
+unfoldable pub sheet_by : ℕ → Option Sheet
 sheet_by b = first_named (λ (sh : Sheet). sh.letter) b sheets
 
 -- "Lines", KIND: K and E 1501, S and P 1501 and 1502, C 1501 to 1504

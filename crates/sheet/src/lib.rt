@@ -325,36 +325,30 @@ impl Sheet {
     }
 }
 
-#[derive(Clone, Copy)]
-pub enum Known {
-    Sheet(Sheet),
-    Nothing,
-}
-
-// The sheet that a number names.
-pub fn sheet_of(number: u64) -> Known
+// The sheet that a number names, if any.
+pub fn sheet_of(number: u64) -> Option<Sheet>
     ensures { result ≡ sheet_of number }
 {
     match number {
-        1 => Known::Sheet(Sheet::K),
-        2 => Known::Sheet(Sheet::S),
-        3 => Known::Sheet(Sheet::C),
-        4 => Known::Sheet(Sheet::E),
-        5 => Known::Sheet(Sheet::P),
-        _ => Known::Nothing,
+        1 => Some(Sheet::K),
+        2 => Some(Sheet::S),
+        3 => Some(Sheet::C),
+        4 => Some(Sheet::E),
+        5 => Some(Sheet::P),
+        _ => None,
     }
 }
 
-// The sheet that a letter names.
-pub fn sheet_by(letter: u8) -> Known
+// The sheet that a letter names, if any.
+pub fn sheet_by(letter: u8) -> Option<Sheet>
     ensures { result ≡ sheet_by letter }
 {
     match letter {
-        75 => Known::Sheet(Sheet::K),
-        83 => Known::Sheet(Sheet::S),
-        67 => Known::Sheet(Sheet::C),
-        69 => Known::Sheet(Sheet::E),
-        80 => Known::Sheet(Sheet::P),
-        _ => Known::Nothing,
+        75 => Some(Sheet::K),
+        83 => Some(Sheet::S),
+        67 => Some(Sheet::C),
+        69 => Some(Sheet::E),
+        80 => Some(Sheet::P),
+        _ => None,
     }
 }

@@ -1,12 +1,11 @@
 -- How the functions of a verdict end: from what a function is told to the verdict. Assumes nothing.
+use Rattle.std.proofs.Common.{Option, Some, None}
 use mathlib.Core.Path.{◌≡◌, sym, ◌∙◌}
 use mathlib.Core.Bool.{Bool, true, false}
 use mathlib.Core.List.{List}
 use Prim.Native.Nat.{ℕ}
 use lib.ListN.{length}
 use Rattle.sheet.specs.declared.Sheet.{Sheet}
-use Rattle.sheet.specs.declared.Known.{Known}
-use Rattle.sheet.specs.declared.Known.TheVariants as known
 use Rattle.sheet.specs.Sheets.{sheet_of}
 use Rattle.sheet.proofs.Laws.{sheet-sane}
 use Rattle.paper.specs.Days.{real_day}
@@ -27,7 +26,7 @@ module _ (sh : Sheet) (today : ℕ) (f : List ℕ) where
     pub real-known : t ≡ true → real_day today ≡ true
     real-known e = sym g ∙ e
 
-    pub no_day : t ≡ false → in_brief (No 2 0 0) ≡ verdict_of (read_with (known.Sheet sh) today f (length f))
+    pub no_day : t ≡ false → in_brief (No 2 0 0) ≡ verdict_of (read_with (Some sh) today f (length f))
     no_day e = sym (no-day-verdict sh today f (sym g ∙ e))
 
 pub ruleset verdicts = (real-known, no_day, comes-verdict)
@@ -45,14 +44,14 @@ pub ruleset outcomes = (found-verdict, passed-verdict)
 -- ---- the sheet
 
 -- r is the sheet that the number names
-module _ (r : Known) (n : ℕ) (g : r ≡ sheet_of n) where
+module _ (r : Option Sheet) (n : ℕ) (g : r ≡ sheet_of n) where
   module _ (today : ℕ) (f : List ℕ) where
-    pub on-sheet : (v : Verdict) (sh : Sheet) → r ≡ known.Sheet sh → v ≡ verdict_of (read_with (known.Sheet sh) today f (length f))
+    pub on-sheet : (v : Verdict) (sh : Sheet) → r ≡ Some sh → v ≡ verdict_of (read_with (Some sh) today f (length f))
         → v ≡ verdict_of (read_with (sheet_of n) today f (length f))
     on-sheet v sh e h = h ∙ rw (← g, e)
 
     -- 1: the number names none
-    pub no_sheet : r ≡ known.Nothing → in_brief (No 1 0 0) ≡ verdict_of (read_with (sheet_of n) today f (length f))
+    pub no_sheet : r ≡ None → in_brief (No 1 0 0) ≡ verdict_of (read_with (sheet_of n) today f (length f))
     unfolding read_with refused_at
     no_sheet e = rw (← g, e)
 

@@ -1,4 +1,5 @@
 -- Which verdict it is: 1 and 2, then what the file is judged to be; never that there is no room for rows. Assumes nothing.
+use Rattle.std.proofs.Common.{Some}
 use mathlib.Core.Path.{◌≡◌, refl, sym, ap, ◌∙◌}
 use mathlib.Core.Bool.{true, false}
 use mathlib.Core.List.{List}
@@ -7,7 +8,6 @@ use lib.ListN.{length}
 use borrow.Author.Tests.{le-ltb}
 use Rattle.base.specs.Pick.{pick}
 use Rattle.sheet.specs.declared.Sheet.{Sheet}
-use Rattle.sheet.specs.declared.Known.TheVariants as known
 use Rattle.paper.specs.Days.{real_day}
 use Rattle.paper.specs.Batch.{Batch, Header}
 use Rattle.paper.specs.Judge.{Answer, Refused, Accepted, judge}
@@ -40,11 +40,11 @@ module _ (sh : Sheet) (today : ℕ) (f : List ℕ) where
   pub judged-verdict : verdict_of (answered (length f) (judge sh today f)) ≡ in_brief (tally sh today f)
   judged-verdict = brief-verdict (length f) (judge sh today f) (count-within sh today f) ∙ ap in_brief (sym (tally-is sh today f))
 
-  pub day-verdict : real_day today ≡ true → verdict_of (read_with (known.Sheet sh) today f (length f)) ≡ in_brief (tally sh today f)
+  pub day-verdict : real_day today ≡ true → verdict_of (read_with (Some sh) today f (length f)) ≡ in_brief (tally sh today f)
   unfolding read_with pick
   day-verdict real = rw real judged-verdict
 
-  pub no-day-verdict : real_day today ≡ false → verdict_of (read_with (known.Sheet sh) today f (length f)) ≡ in_brief (No 2 0 0)
+  pub no-day-verdict : real_day today ≡ false → verdict_of (read_with (Some sh) today f (length f)) ≡ in_brief (No 2 0 0)
   unfolding read_with refused_at pick
   no-day-verdict not = rw not
 
@@ -54,5 +54,5 @@ module _ (sh : Sheet) (today : ℕ) (f : List ℕ) where
   comes-brief (outcome.Found x) (is, judged) = rw judged
   comes-brief (outcome.Passed rows warnings) c = rw (c.judged, c.counted)
 
-  pub comes-verdict : real_day today ≡ true → (o : Outcome) → Comes sh today f o → (v : Verdict) → v ≡ verdict_in o → v ≡ verdict_of (read_with (known.Sheet sh) today f (length f))
+  pub comes-verdict : real_day today ≡ true → (o : Outcome) → Comes sh today f o → (v : Verdict) → v ≡ verdict_in o → v ≡ verdict_of (read_with (Some sh) today f (length f))
   comes-verdict real o c v e = e ∙ (comes-brief o c ∙ (ap in_brief (sym (tally-is sh today f)) ∙ sym (day-verdict real)))

@@ -1,8 +1,7 @@
 -- What each known sheet says of a file on a day, in a line and in a bit. Document 02, W-205. Assumes nothing.
-use Rattle.std.specs.Prelude.{ℕ, ◌+◌, ◌-◌, ◌^◌, List, [], ◌∷◌, ◌++◌, eqb, length}
+use Rattle.std.specs.Prelude.{ℕ, ◌+◌, ◌-◌, ◌^◌, List, [], ◌∷◌, ◌++◌, eqb, length, Some}
 use Rattle.base.specs.Pick.{pick}
 use Rattle.sheet.specs.declared.Sheet.{Sheet}
-use Rattle.sheet.specs.declared.Known.TheVariants as known
 use Rattle.sheet.specs.Sheets.{sheets}
 use Rattle.paper.specs.Bytes.{bytes}
 use Rattle.paper.specs.Numerals.{decimal}
@@ -33,7 +32,7 @@ sheet_line letter a = bytes "Sheet " ++ (letter ∷ verdict_words (verdict_of a)
 -- the lines of some sheets. No rows are lent, so there is room for as many as the file has bytes: 16 cannot come from the file.
 unfoldable pub lines_on : ℕ → List ℕ → List Sheet → List ℕ
 lines_on today f [] = []
-lines_on today f (sh ∷ shs) = sheet_line sh.letter (read_with (known.Sheet sh) today f (length f)) ++ lines_on today f shs
+lines_on today f (sh ∷ shs) = sheet_line sh.letter (read_with (Some sh) today f (length f)) ++ lines_on today f shs
 
 -- of all known sheets, in the order of their numbers
 unfoldable pub sheet_lines : ℕ → List ℕ → List ℕ

@@ -3,8 +3,7 @@
 
 pub mod sheets;
 
-ghost use Rattle.std.specs.Prelude.{◌≡◌, ◌++◌, length};
-ghost use Rattle.sheet.specs.declared.Known.TheVariants as known;
+ghost use Rattle.std.specs.Prelude.{◌≡◌, ◌++◌, length, Some};
 ghost use Rattle.sheet.specs.Sheets.{sheet_of};
 ghost use Rattle.sheet.proofs.Laws.{Sane};
 ghost use Rattle.paper.specs.Numerals.{decimal};
@@ -13,7 +12,7 @@ ghost use Rattle.paper.specs.Explaining.{refused_line};
 ghost use Rattle.numeral.specs.counted.Counted.{Counted};
 ghost use Rattle.verdict.specs.Told.{verdict_of, verdict_in};
 
-use sheet::{Known, Sheet};
+use sheet::Sheet;
 use tracing::file::Outcome;
 
 // What is to be said of a file: a refusal's number, line and byte; or number 0, and the counts of rows and warnings.
@@ -54,7 +53,7 @@ pub fn verdict_of(o: Outcome) -> Verdict
 // for takes.
 fn verdict_on(file: &[u8], sh: Sheet, today: u64) -> Verdict
     requires { Sane sh }
-    ensures { result ≡ verdict_of (read_with (known.Sheet sh) today file.now (length file.now)) }
+    ensures { result ≡ verdict_of (read_with (Some sh) today file.now (length file.now)) }
 {
     if calendar::real_day(today) {
         return verdict_of(tracing::file::follow(file, sh, today));
@@ -73,8 +72,8 @@ pub fn verdict_for(file: &[u8], sheet: u64, today: u64) -> Verdict
     ensures { result ≡ verdict_of (read_with (sheet_of sheet) today file.now (length file.now)) }
 {
     match sheet::sheet_of(sheet) {
-        Known::Sheet(sh) => verdict_on(file, sh, today),
-        Known::Nothing => Verdict {
+        Some(sh) => verdict_on(file, sh, today),
+        None => Verdict {
             number: 1,
             line: 0,
             byte: 0,

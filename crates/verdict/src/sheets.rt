@@ -10,7 +10,6 @@ ghost use Rattle.verdict.specs.Told.{verdict_of};
 ghost use Rattle.verdict.specs.Sheets.{accepted_words, refused_words, verdict_words, sheet_lines, accepting};
 
 use crate::Verdict;
-use sheet::Known;
 
 // The verdict on the sheet n. That of the sheet asked for is known already, so that the file is not judged by it again.
 fn verdict_at(file: &[u8], n: u64, today: u64, asked: u64, v: Verdict) -> Verdict
@@ -78,10 +77,10 @@ pub fn put_sheets(
     let mut k: u64 = 0;
     loop {
         match sheet::sheet_of(k + 1) {
-            Known::Nothing => {
+            None => {
                 return next;
             }
-            Known::Sheet(sh) => {
+            Some(sh) => {
                 let said = verdict_at(file, k + 1, today, asked, v);
                 next = put_sheet(out, next, sh.letter, said);
             }
@@ -113,10 +112,10 @@ pub fn accepting(file: &[u8], today: u64, asked: u64, v: Verdict) -> u64
     let mut place: u64 = 0;
     loop {
         match sheet::sheet_of(place + 1) {
-            Known::Nothing => {
+            None => {
                 return set;
             }
-            Known::Sheet(_) => {
+            Some(_) => {
                 let judged = verdict_at(file, place + 1, today, asked, v);
                 set += bit_if(judged, bit);
             }

@@ -1,4 +1,5 @@
 -- How the functions of writing end: from what a function is told to what it has to tell. Assumes nothing.
+use Rattle.std.proofs.Common.{Option, Some, None}
 use mathlib.Core.Path.{◌≡◌, refl, sym, ap, ◌∙◌}
 use mathlib.Core.Bool.{Bool, true, false, not}
 use mathlib.Core.List.{List}
@@ -8,8 +9,6 @@ use borrow.Author.Tests.{le-leb, lt-leb, not-true, not-false}
 use Rattle.base.specs.Pick.{pick}
 use Rattle.base.specs.Put.{Wrote}
 use Rattle.sheet.specs.declared.Sheet.{Sheet}
-use Rattle.sheet.specs.declared.Known.{Known}
-use Rattle.sheet.specs.declared.Known.TheVariants as known
 use Rattle.sheet.specs.Sheets.{sheet_of}
 use Rattle.paper.specs.Days.{real_day}
 use Rattle.paper.specs.Batch.{Header, Thing, batch_of}
@@ -161,21 +160,21 @@ real-known t today g e = sym g ∙ e
 
 module _ (sh : Sheet) (today : ℕ) (h : Header) (ts : List Thing) (a : WriteAnswer) (room : ℕ) (o p : List ℕ) where
   module _ (t : Bool) (g : t ≡ real_day today) where
-    on-day : t ≡ true → draft_of sh today h ts ≡ draft_with (known.Sheet sh) today h ts
+    on-day : t ≡ true → draft_of sh today h ts ≡ draft_with (Some sh) today h ts
     unfolding draft_with pick
     on-day e = rw (← g, e)
 
-    pub day-answer : t ≡ true → a ≡ written_in room (draft_of sh today h ts) → a ≡ written_in room (draft_with (known.Sheet sh) today h ts)
+    pub day-answer : t ≡ true → a ≡ written_in room (draft_of sh today h ts) → a ≡ written_in room (draft_with (Some sh) today h ts)
     day-answer e k = k ∙ ap (written_in room) (on-day e)
 
-    pub day-output : t ≡ true → p ≡ output_after o (draft_of sh today h ts) → p ≡ output_after o (draft_with (known.Sheet sh) today h ts)
+    pub day-output : t ≡ true → p ≡ output_after o (draft_of sh today h ts) → p ≡ output_after o (draft_with (Some sh) today h ts)
     day-output e k = k ∙ ap (output_after o) (on-day e)
 
-    pub no_day : t ≡ false → a ≡ refused_at 2 0 0 → a ≡ written_in room (draft_with (known.Sheet sh) today h ts)
+    pub no_day : t ≡ false → a ≡ refused_at 2 0 0 → a ≡ written_in room (draft_with (Some sh) today h ts)
     unfolding draft_with written_in pick
     no_day e k = k ∙ rw (← g, e)
 
-    pub no-day-output : t ≡ false → o ≡ output_after o (draft_with (known.Sheet sh) today h ts)
+    pub no-day-output : t ≡ false → o ≡ output_after o (draft_with (Some sh) today h ts)
     unfolding draft_with output_after pick
     no-day-output e = rw (← g, e)
 
@@ -194,26 +193,26 @@ sized d j g n e = rw e at g
 pub ruleset days = (real-known, day-answer, day-output, no_day, no-day-output, sized, refused, refused-output)
 
 -- r is the sheet that the number names
-module _ (r : Known) (n : ℕ) (g : r ≡ sheet_of n) where
+module _ (r : Option Sheet) (n : ℕ) (g : r ≡ sheet_of n) where
   module _ (today : ℕ) (h : Header) (rows texts : List ℕ) (a : WriteAnswer) (room : ℕ) (o p : List ℕ) where
-    on-sheet : (sh : Sheet) → r ≡ known.Sheet sh → draft_with (known.Sheet sh) today h (things_in texts (rows_in rows)) ≡ draft n today h rows texts
+    on-sheet : (sh : Sheet) → r ≡ Some sh → draft_with (Some sh) today h (things_in texts (rows_in rows)) ≡ draft n today h rows texts
     unfolding draft
     on-sheet sh e = rw (← g, e)
 
-    pub sheet-answer : (sh : Sheet) → r ≡ known.Sheet sh → a ≡ written_in room (draft_with (known.Sheet sh) today h (things_in texts (rows_in rows)))
+    pub sheet-answer : (sh : Sheet) → r ≡ Some sh → a ≡ written_in room (draft_with (Some sh) today h (things_in texts (rows_in rows)))
         → a ≡ written_in room (draft n today h rows texts)
     sheet-answer sh e k = k ∙ ap (written_in room) (on-sheet sh e)
 
-    pub sheet-output : (sh : Sheet) → r ≡ known.Sheet sh → p ≡ output_after o (draft_with (known.Sheet sh) today h (things_in texts (rows_in rows)))
+    pub sheet-output : (sh : Sheet) → r ≡ Some sh → p ≡ output_after o (draft_with (Some sh) today h (things_in texts (rows_in rows)))
         → p ≡ output_after o (draft n today h rows texts)
     sheet-output sh e k = k ∙ ap (output_after o) (on-sheet sh e)
 
     -- 1: the number names none
-    pub no_sheet : r ≡ known.Nothing → a ≡ refused_at 1 0 0 → a ≡ written_in room (draft n today h rows texts)
+    pub no_sheet : r ≡ None → a ≡ refused_at 1 0 0 → a ≡ written_in room (draft n today h rows texts)
     unfolding draft draft_with written_in
     no_sheet e k = k ∙ rw (← g, e)
 
-    pub no-sheet-output : r ≡ known.Nothing → o ≡ output_after o (draft n today h rows texts)
+    pub no-sheet-output : r ≡ None → o ≡ output_after o (draft n today h rows texts)
     unfolding draft draft_with output_after
     no-sheet-output e = rw (← g, e)
 

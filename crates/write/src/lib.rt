@@ -2,9 +2,8 @@
 // written only if nothing is wrong and it has room for the whole file.
 #![tactic(auto)]
 
-ghost use Rattle.std.specs.Prelude.{◌≡◌, true, ◌+◌, ◌≤◌, length};
+ghost use Rattle.std.specs.Prelude.{◌≡◌, true, ◌+◌, ◌≤◌, length, Some};
 ghost use Rattle.base.specs.Pick.{pick};
-ghost use Rattle.sheet.specs.declared.Known.TheVariants as known;
 ghost use Rattle.paper.specs.Days.{real_day};
 ghost use Rattle.paper.specs.Batch.{Header, batch_of};
 ghost use Rattle.paper.specs.Proper.{fine, header_proper, batch_proper};
@@ -18,7 +17,7 @@ ghost use Rattle.write.specs.Told.{header_of, told, refused_at, counted_as, Tell
 ghost use Rattle.write.specs.declared.BatchJudged.TheVariants.{Bytes};
 
 use rows::read::Check;
-use sheet::{Known, Sheet};
+use sheet::Sheet;
 use survey::Surveyed;
 
 // The whole answer of writing: the number, its row and field; the bytes written or, where there is no room, needed.
@@ -196,8 +195,8 @@ fn write_on(
     today: u64,
     out: &mut [u8],
 ) -> AboWritten
-    ensures result_value { told result ≡ written_in (length out.old) (draft_with (known.Sheet sh) today (header_of date name.now client from to) (things_in texts.now (rows_in rows.now))) }
-    ensures out_after { out.new ≡ output_after out.old (draft_with (known.Sheet sh) today (header_of date name.now client from to) (things_in texts.now (rows_in rows.now))) }
+    ensures result_value { told result ≡ written_in (length out.old) (draft_with (Some sh) today (header_of date name.now client from to) (things_in texts.now (rows_in rows.now))) }
+    ensures out_after { out.new ≡ output_after out.old (draft_with (Some sh) today (header_of date name.now client from to) (things_in texts.now (rows_in rows.now))) }
 {
     if calendar::real_day(today) {
         match judge(rows, texts, date, name, client, from, to, sh, today) {
@@ -228,7 +227,7 @@ pub fn write_file(
     ensures out_after { out.new ≡ output_after out.old (draft sheet today (header_of date name.now client from to) rows.now texts.now) }
 {
     match sheet::sheet_of(sheet) {
-        Known::Sheet(sh) => write_on(rows, texts, date, name, client, from, to, sh, today, out),
-        Known::Nothing => refusal(1, 0, 0),
+        Some(sh) => write_on(rows, texts, date, name, client, from, to, sh, today, out),
+        None => refusal(1, 0, 0),
     }
 }

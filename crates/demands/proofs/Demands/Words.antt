@@ -2,7 +2,7 @@
 pub use lib.ListN.{length}
 -- the sheets and the days
 pub use Rattle.sheet.specs.declared.Sheet.{Sheet}
-pub use Rattle.sheet.specs.declared.Known.TheVariants as known
+pub use Rattle.std.specs.Prelude.{Some}
 pub use Rattle.sheet.specs.Sheets.{sheet_of}
 pub use Rattle.paper.specs.Days.{real_day}
 -- document 01: the batch, what a file spells, its first fault, the canonical file

@@ -12,8 +12,8 @@ list_on-requires c = search (on-sheets, rules)
 pub no_list-requires : goal.no_list-requires
 no_list-requires c = search (on-sheets, rules)
 
-pub returns-in-Sheet : goal.returns-in-Sheet
-returns-in-Sheet c = search (on-sheets, rules)
+pub returns-in-Some : goal.returns-in-Some
+returns-in-Some c = search (on-sheets, rules)
 
-pub returns-in-Nothing : goal.returns-in-Nothing
-returns-in-Nothing c = search (on-sheets, rules)
+pub returns-in-None : goal.returns-in-None
+returns-in-None c = search (on-sheets, rules)

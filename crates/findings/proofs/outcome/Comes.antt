@@ -1,4 +1,5 @@
 -- What a pass came to says what is found, how much of it, and the verdict. Assumes nothing.
+use Rattle.std.proofs.Common.{Some}
 use mathlib.Core.Path.{◌≡◌, refl, sym, ◌∙◌}
 use mathlib.Core.Bool.{true}
 use mathlib.Core.List.{List, [], ◌∷◌}
@@ -7,7 +8,6 @@ use native.Mathlib.Omega.{arith}
 use lib.ListN.{length}
 use Rattle.base.specs.Pick.{pick}
 use Rattle.sheet.specs.declared.Sheet.{Sheet}
-use Rattle.sheet.specs.declared.Known.TheVariants as known
 use Rattle.sheet.specs.Sheets.{sheet_of}
 use Rattle.paper.specs.Days.{real_day}
 use Rattle.paper.specs.Judge.{judge}
@@ -32,7 +32,7 @@ use Rattle.findings.specs.outcome.Counts.{count_in, refused_in}
 module _ (sh : Sheet) (today : ℕ) (f : List ℕ) where
   -- ---- the verdict, of the sheet that the number names
 
-  pub outcome-verdict : (sheet : ℕ) → sheet_of sheet ≡ known.Sheet sh → real_day today ≡ true → (o : Outcome) → Comes sh today f o
+  pub outcome-verdict : (sheet : ℕ) → sheet_of sheet ≡ Some sh → real_day today ≡ true → (o : Outcome) → Comes sh today f o
       → (v : Verdict) → v ≡ verdict_in o → v ≡ verdict_of (read_with (sheet_of sheet) today f (length f))
   outcome-verdict sheet named real o c v e = comes-verdict sh today f real o c v e ∙ rw named
 

@@ -1,4 +1,5 @@
 -- What reading answers, and exactly when, for every sheet's number and every day. Assumes nothing.
+use Rattle.std.proofs.Common.{Option, Some, None}
 use mathlib.Core.Path.{◌≡◌, refl, ap}
 use mathlib.Core.Bool.{true}
 use mathlib.Core.List.{List}
@@ -8,8 +9,6 @@ use native.Mathlib.Omega.{arith}
 use lib.ListN.{length}
 use Rattle.base.proofs.Cases.{by-test, by-lt, pick-false}
 use Rattle.sheet.specs.declared.Sheet.{Sheet}
-use Rattle.sheet.specs.declared.Known.{Known}
-use Rattle.sheet.specs.declared.Known.TheVariants as known
 use Rattle.sheet.specs.Sheets.{sheet_of}
 use Rattle.paper.specs.Days.{real_day}
 use Rattle.paper.specs.Batch.{Header}
@@ -50,16 +49,16 @@ module _ (sheet today : ℕ) (f lent : List ℕ) where
   by-case : {a : ReadAnswer} → ReadGives sheet today f room a → ReadGives sheet today f room (read_answer sheet today f lent)
   by-case {a} q = rw (gives a q) q
 
-  on-sheet : (sh : Sheet) → sheet_of sheet ≡ known.Sheet sh → real_day today ≡ true → (j : Answer) → judge sh today f ≡ j
+  on-sheet : (sh : Sheet) → sheet_of sheet ≡ Some sh → real_day today ≡ true → (j : Answer) → judge sh today f ≡ j
       → ReadGives sheet today f room (read_answer sheet today f lent)
   on-sheet sh e day (Refused n l p) j = by-case (fault (e, day) (judge-named sh today f n l p j) ((refused sh today f n l p).0 j))
   on-sheet sh e day (Accepted h b w) j =
       let spelled : Spelled sheet today f h (row_count b) w = (sh, b, (e, day), (exact sh today f h b w).0 j, refl) in
       by-lt room (row_count b) (λ l. by-case (no_room spelled l)) (λ l. by-case (accepted spelled l))
 
-  given : (k : Known) → sheet_of sheet ≡ k → ReadGives sheet today f room (read_answer sheet today f lent)
-  given known.Nothing e = by-case (no_sheet e)
-  given (known.Sheet sh) e = by-test (real_day today) (λ day. on-sheet sh e day (judge sh today f) refl) (λ day. by-case (no_day (sh, e, day)))
+  given : (k : Option Sheet) → sheet_of sheet ≡ k → ReadGives sheet today f room (read_answer sheet today f lent)
+  given None e = by-case (no_sheet e)
+  given (Some sh) e = by-test (real_day today) (λ day. on-sheet sh e day (judge sh today f) refl) (λ day. by-case (no_day (sh, e, day)))
 
   -- Reading gives an answer exactly if its case holds.
   pub reads : (a : ReadAnswer) → read_answer sheet today f lent ≡ a ↔ ReadGives sheet today f room a

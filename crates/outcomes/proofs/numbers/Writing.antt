@@ -1,4 +1,5 @@
 -- What writing answers, exactly when, for every sheet's number and every day. Assumes nothing.
+use Rattle.std.proofs.Common.{Option, Some, None}
 use mathlib.Core.Path.{◌≡◌, refl, ap, ◌∙◌}
 use mathlib.Core.Bool.{true}
 use mathlib.Core.List.{List}
@@ -8,8 +9,6 @@ use native.Mathlib.Omega.{arith}
 use lib.ListN.{length}
 use borrow.Author.Tests.{lt-ltb, le-ltb}
 use Rattle.base.proofs.Cases.{by-test, by-lt, pick_true, pick-false}
-use Rattle.sheet.specs.declared.Known.{Known}
-use Rattle.sheet.specs.declared.Known.TheVariants as known
 use Rattle.sheet.specs.declared.Sheet.{Sheet}
 use Rattle.sheet.specs.Sheets.{sheet_of}
 use Rattle.paper.specs.Days.{real_day}
@@ -50,7 +49,7 @@ module _ (sheet today : ℕ) (h : Header) (rows texts : List ℕ) where
 
   -- ---- on a known sheet and a real day
 
-  module _ (sh : Sheet) (named : sheet_of sheet ≡ known.Sheet sh) (day : real_day today ≡ true) where
+  module _ (sh : Sheet) (named : sheet_of sheet ≡ Some sh) (day : real_day today ≡ true) where
     abbrev said : List Thing
     said = said_by rows texts
 
@@ -105,7 +104,7 @@ module _ (sheet today : ℕ) (h : Header) (rows texts : List ℕ) (room : ℕ) w
   by-case : {a : WriteAnswer} → WriteGives sheet today h rows texts room a → WriteGives sheet today h rows texts room answer
   by-case {a} q = rw (gives a q) q
 
-  on-sheet : (sh : Sheet) → sheet_of sheet ≡ known.Sheet sh → real_day today ≡ true → WriteGives sheet today h rows texts room answer
+  on-sheet : (sh : Sheet) → sheet_of sheet ≡ Some sh → real_day today ≡ true → WriteGives sheet today h rows texts room answer
   on-sheet sh e day =
       by-rules (proper_rules sh h (said_by rows texts)) (λ row field w. by-case (improper (e, day) w))
       (λ p. by-rules (carried_rules sh today h (said_by rows texts)) (λ row field w. by-case (uncarried (e, day) p w))
@@ -114,9 +113,9 @@ module _ (sheet today : ℕ) (h : Header) (rows texts : List ℕ) (room : ℕ) w
       let file : FileOf sheet today h rows texts (length (canon sh h b)) = (sh, b, (e, day), p, c, held, refl) in
       by-lt room (length (canon sh h b)) (λ l. by-case (no_room file l)) (λ l. by-case (written file l))))
 
-  given : (k : Known) → sheet_of sheet ≡ k → WriteGives sheet today h rows texts room answer
-  given known.Nothing e = by-case (no_sheet e)
-  given (known.Sheet sh) e = by-test (real_day today) (λ day. on-sheet sh e day) (λ day. by-case (no_day (sh, e, day)))
+  given : (k : Option Sheet) → sheet_of sheet ≡ k → WriteGives sheet today h rows texts room answer
+  given None e = by-case (no_sheet e)
+  given (Some sh) e = by-test (real_day today) (λ day. on-sheet sh e day) (λ day. by-case (no_day (sh, e, day)))
 
   -- Writing gives an answer exactly if its case holds.
   pub writes : (a : WriteAnswer) → written_in room (draft sheet today h rows texts) ≡ a ↔ WriteGives sheet today h rows texts room a

@@ -1,8 +1,7 @@
 -- Which answer reading and writing give, and exactly when: a case for each number, whatever the sheet's number and the day. Document 01,
 -- "Numbers returned". Assumes nothing.
-use Rattle.std.specs.Prelude.{ℕ, ◌≤◌, ◌<◌, ◌≡◌, true, false, List, length}
+use Rattle.std.specs.Prelude.{ℕ, ◌≤◌, ◌<◌, ◌≡◌, true, false, List, length, Some, None}
 use Rattle.sheet.specs.declared.Sheet.{Sheet}
-use Rattle.sheet.specs.declared.Known.TheVariants as known
 use Rattle.sheet.specs.Sheets.{sheet_of}
 use Rattle.paper.specs.Days.{real_day}
 use Rattle.paper.specs.Batch.{Batch, Header, Thing}
@@ -21,15 +20,15 @@ use Rattle.outcomes.specs.Outcomes.{Hold}
 
 -- the number names no sheet
 abbrev pub NoSheet : ℕ → Type 0
-NoSheet sheet = sheet_of sheet ≡ known.Nothing
+NoSheet sheet = sheet_of sheet ≡ None
 
 -- it names one, and today is no real day
 abbrev pub NoDay : ℕ → ℕ → Type 0
-NoDay sheet today = (sh : Sheet) × (sheet_of sheet ≡ known.Sheet sh) × (real_day today ≡ false)
+NoDay sheet today = (sh : Sheet) × (sheet_of sheet ≡ Some sh) × (real_day today ≡ false)
 
 -- it names sh, and today is a real day
 abbrev pub Asked : ℕ → ℕ → Sheet → Type 0
-Asked sheet today sh = (sheet_of sheet ≡ known.Sheet sh) × (real_day today ≡ true)
+Asked sheet today sh = (sheet_of sheet ≡ Some sh) × (real_day today ≡ true)
 
 -- ---- reading the file f
 

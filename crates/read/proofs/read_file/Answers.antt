@@ -6,8 +6,8 @@ use Rattle.read.proofs.read_file.Goals as goal
 pub read_on-requires : goal.read_on-requires
 read_on-requires c = search (sheets, rules)
 
-pub returns-in-Sheet : goal.returns-in-Sheet
-returns-in-Sheet c = search sheets
+pub returns-in-Some : goal.returns-in-Some
+returns-in-Some c = search sheets
 
-pub returns-in-Nothing : goal.returns-in-Nothing
-returns-in-Nothing c = search sheets
+pub returns-in-None : goal.returns-in-None
+returns-in-None c = search sheets

@@ -1,4 +1,5 @@
 -- Every refusal of a file names a place in the line that `abo_line` answers for its line number. Assumes nothing.
+use Rattle.std.proofs.Common.{Option, Some, None}
 use mathlib.Core.Path.{◌≡◌, refl}
 use mathlib.Core.List.{List}
 use Prim.Native.Nat.{ℕ, ◌/◌}
@@ -7,8 +8,6 @@ use lib.Dec.{ltb}
 use lib.ListN.{length}
 use Rattle.base.specs.Pick.{pick}
 use Rattle.base.proofs.Cases.{by-test}
-use Rattle.sheet.specs.declared.Known.{Known}
-use Rattle.sheet.specs.declared.Known.TheVariants as known
 use Rattle.sheet.specs.declared.Sheet.{Sheet}
 use Rattle.sheet.specs.Sheets.{sheet_of}
 use Rattle.paper.specs.Days.{real_day}
@@ -40,10 +39,10 @@ answer-shown sh today f room (Refused n l p) e = λ j. judge-shown sh today f n 
 answer-shown sh today f room (Accepted h b w) e =
     by-test (ltb room (row_count b)) (λ t. rw t (λ j. absurd (omega (arith, j.1)))) (λ t. rw t (λ j. absurd (omega (arith, j.0))))
 
-known-shown : (k : Known) (today : ℕ) (f : List ℕ) (room : ℕ) → Shown f (read_with k today f room)
+known-shown : (k : Option Sheet) (today : ℕ) (f : List ℕ) (room : ℕ) → Shown f (read_with k today f room)
 unfolding read_with refused_at pick
-known-shown known.Nothing today f room = λ j. absurd (omega (arith, j.0))
-known-shown (known.Sheet sh) today f room =
+known-shown None today f room = λ j. absurd (omega (arith, j.0))
+known-shown (Some sh) today f room =
     by-test (real_day today) (λ t. rw t (answer-shown sh today f room (judge sh today f) refl)) (λ t. rw t (λ j. absurd (omega (arith, j.0))))
 
 -- what `abo_read` answers with 3 to 15, `abo_line` can show

@@ -1,4 +1,5 @@
 -- What the first line asks for, at each return of the functions that read it. Assumes nothing.
+use Rattle.std.proofs.Common.{Option, Some, None}
 use mathlib.Core.Path.{◌≡◌, refl, sym, ap, ◌∙◌}
 use mathlib.Core.Bool.{true, false}
 use mathlib.Core.List.{List, [], ◌∷◌}
@@ -11,8 +12,6 @@ use borrow.Author.Tests.{leb-true, lt-ltb, le-ltb, eq-eqb, ne_eqb}
 use Rattle.base.specs.Pick.{pick}
 use Rattle.base.proofs.Cases.{by-test, pick_true, pick-false}
 use Rattle.sheet.specs.declared.Sheet.{Sheet}
-use Rattle.sheet.specs.declared.Known.{Known}
-use Rattle.sheet.specs.declared.Known.TheVariants as known
 use Rattle.sheet.specs.Sheets.{sheet_of, sheet_by}
 use Rattle.sheet.proofs.Laws.{every-letter, sheet-letter, number_same}
 use Rattle.paper.specs.Read.{value, fault}
@@ -75,7 +74,7 @@ today-real (x ∷ s) d e =
 
 -- ---- the letter
 
-letter-high : (b : ℕ) (sh : Sheet) → sheet_by b ≡ known.Sheet sh → 14 ≤ b
+letter-high : (b : ℕ) (sh : Sheet) → sheet_by b ≡ Some sh → 14 ≤ b
 letter-high b sh e =
     let h = leb-true 14 sh.letter (every-letter b sh e (λ x. leb 14 x.letter) refl) in
     omega (arith, h, sheet-letter b sh e)
@@ -83,7 +82,7 @@ letter-high b sh e =
 letter-first : (b : ℕ) (s : List ℕ) → 14 ≤ b → first_line (b ∷ s) ≡ b ∷ first_line s
 letter-first b s h = plain-first b (ne_eqb b 10 (λ q. omega (arith, q, h))) (ne_eqb b 13 (λ q. omega (arith, q, h))) s
 
-on-letter : (b : ℕ) (s : List ℕ) (sh : Sheet) → sheet_by b ≡ known.Sheet sh → rewriting (b ∷ s) ≡ on_day sh (b ∷ s) (day_field (first_line s))
+on-letter : (b : ℕ) (s : List ℕ) (sh : Sheet) → sheet_by b ≡ Some sh → rewriting (b ∷ s) ≡ on_day sh (b ∷ s) (day_field (first_line s))
 unfolding rewriting on_letter on_sheet
 on-letter b s sh e = rw (letter-first b s (letter-high b sh e), e) refl
 
@@ -101,7 +100,7 @@ record Asked (f : List ℕ) (sh : Sheet) (r : Cut) : Type 0 where
   rest : drop r.next f ≡ behind_first f
   letter : 1 ≤ r.stop
 
-asked : (f : List ℕ) (sh : Sheet) (r : Cut) → 0 < length f → sheet_by (get_or f 0 0) ≡ known.Sheet sh → Cuts f 0 r → Asked f sh r
+asked : (f : List ℕ) (sh : Sheet) (r : Cut) → 0 < length f → sheet_by (get_or f 0 0) ≡ Some sh → Cuts f 0 r → Asked f sh r
 asked [] sh r l e c = absurd (omega arith)
 asked (b ∷ s) sh r l e c =
     let (front, rest) = first-cut (b ∷ s) r l c in
@@ -110,7 +109,7 @@ asked (b ∷ s) sh r l e c =
 
 -- ---- on_sheet: r is the cut
 
-module _ (f : List ℕ) (sh : Sheet) (r : Cut) (some : 0 < length f) (named : sheet_by (get_or f 0 0) ≡ known.Sheet sh) (cut : Cuts f 0 r) where
+module _ (f : List ℕ) (sh : Sheet) (r : Cut) (some : 0 < length f) (named : sheet_by (get_or f 0 0) ≡ Some sh) (cut : Cuts f 0 r) where
   pub ask-start : 1 ≤ r.stop
   ask-start = (asked f sh r some named cut).letter
 
@@ -120,7 +119,7 @@ module _ (f : List ℕ) (sh : Sheet) (r : Cut) (some : 0 < length f) (named : sh
   pub ask-inside : r.next ≤ length f
   ask-inside = cut.inside
 
-  pub ask-known : sheet_of sh.number ≡ known.Sheet sh
+  pub ask-known : sheet_of sh.number ≡ Some sh
   ask-known = number_same (get_or f 0 0) sh named
 
   -- n is what read_today answered
@@ -161,7 +160,7 @@ unfolding first_line
 end-cr b s e f = pick-false _ _ e ∙ pick_true _ _ f
 
 -- the line is empty, or it begins with a byte that is no sheet's letter
-no-letter : (b : ℕ) (s : List ℕ) → sheet_by b ≡ known.Nothing → rewriting (b ∷ s) ≡ refused_line 1 0 0
+no-letter : (b : ℕ) (s : List ℕ) → sheet_by b ≡ None → rewriting (b ∷ s) ≡ refused_line 1 0 0
 unfolding rewriting on_letter on_sheet
 no-letter b s e =
     let on : List ℕ → List ℕ = λ t. on_letter t (b ∷ s) in
@@ -169,7 +168,7 @@ no-letter b s e =
     (λ lf. ap on (end-lf b s lf))
     (λ no-lf. by-test (eqb b 13)
     (λ cr. ap on (end-cr b s no-lf cr))
-    (λ no-cr. ap on (plain-first b no-lf no-cr s) ∙ ap (λ (k : Known). on_sheet k (first_line s) (b ∷ s)) e))
+    (λ no-cr. ap on (plain-first b no-lf no-cr s) ∙ ap (λ (k : Option Sheet). on_sheet k (first_line s) (b ∷ s)) e))
 
 module _ (f : List ℕ) where
   pub ask-empty : length f ≡ 0 → refused_line 1 0 0 ≡ rewriting f
@@ -184,14 +183,14 @@ module _ (f : List ℕ) where
   ask-some n = omega arith
 
   -- k is what sheet_by answered
-  pub ask-nothing : (length f ≡ 0 → ⊥) → (k : Known) → k ≡ sheet_by (get_or f 0 0) → k ≡ known.Nothing → refused_line 1 0 0 ≡ rewriting f
+  pub ask-nothing : (length f ≡ 0 → ⊥) → (k : Option Sheet) → k ≡ sheet_by (get_or f 0 0) → k ≡ None → refused_line 1 0 0 ≡ rewriting f
   ask-nothing = nothing f
     where
-      nothing : (t : List ℕ) → (length t ≡ 0 → ⊥) → (k : Known) → k ≡ sheet_by (get_or t 0 0) → k ≡ known.Nothing → refused_line 1 0 0 ≡ rewriting t
+      nothing : (t : List ℕ) → (length t ≡ 0 → ⊥) → (k : Option Sheet) → k ≡ sheet_by (get_or t 0 0) → k ≡ None → refused_line 1 0 0 ≡ rewriting t
       nothing [] some k g e = absurd (some refl)
       nothing (b ∷ t) some k g e = sym (no-letter b t (sym g ∙ e))
 
-  pub ask-named : (k : Known) → k ≡ sheet_by (get_or f 0 0) → (sh : Sheet) → k ≡ known.Sheet sh → sheet_by (get_or f 0 0) ≡ known.Sheet sh
+  pub ask-named : (k : Option Sheet) → k ≡ sheet_by (get_or f 0 0) → (sh : Sheet) → k ≡ Some sh → sheet_by (get_or f 0 0) ≡ Some sh
   ask-named k g sh e = sym g ∙ e
 
 pub ruleset requests = (ask-empty, ask-some, ask-nothing, ask-named)

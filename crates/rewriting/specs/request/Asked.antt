@@ -1,6 +1,5 @@
 -- What a request stands for: what is written for it. Document 01, "A whole run". Assumes nothing.
-use Rattle.std.specs.Prelude.{ℕ, ◌≤◌, ◌≡◌, true, List, length, drop}
-use Rattle.sheet.specs.declared.Known.TheVariants as known
+use Rattle.std.specs.Prelude.{ℕ, ◌≤◌, ◌≡◌, true, List, length, drop, Some}
 use Rattle.sheet.specs.Sheets.{sheet_of}
 use Rattle.paper.specs.Days.{real_day}
 use Rattle.paper.specs.Judge.{judge}
@@ -18,4 +17,4 @@ answer input (request.File sh today at) = rewritten sh (judge sh today (drop at 
 abbrev pub Sound : List ℕ → Request → Type 0
 Sound input (request.Refused n) = Unit {0}
 Sound input (request.File sh today at) =
-    (sheet_of sh.number ≡ known.Sheet sh) × (real_day today ≡ true) × (at ≤ length input) × (length input ≤ 8192)
+    (sheet_of sh.number ≡ Some sh) × (real_day today ≡ true) × (at ≤ length input) × (length input ≤ 8192)

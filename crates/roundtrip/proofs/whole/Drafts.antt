@@ -1,4 +1,5 @@
 -- The answer of writing is a file exactly where every test passes; and the rows of lent bytes have four parts. Assumes nothing.
+use Rattle.std.proofs.Common.{Some}
 use mathlib.Core.Path.{◌≡◌, refl, sym, ◌∙◌}
 use mathlib.Core.Bool.{true}
 use mathlib.Core.List.{List, [], ◌∷◌}
@@ -8,7 +9,6 @@ use lib.Dec.{eqb}
 use Rattle.base.specs.Pick.{pick}
 use Rattle.base.proofs.Cases.{by-test, pick_true}
 use Rattle.sheet.specs.declared.Sheet.{Sheet}
-use Rattle.sheet.specs.declared.Known.TheVariants as known
 use Rattle.sheet.specs.Sheets.{sheet_of}
 use Rattle.paper.specs.Days.{real_day}
 use Rattle.paper.specs.Batch.{Batch, Header, Thing, things, batch_of}
@@ -81,7 +81,7 @@ rows_four t (r ∷ rs) =
     (λ g. rw (e, f, g) i)))
 
 -- 1 and 2 are not given
-pub draft-known : (sheet : ℕ) (sh : Sheet) → sheet_of sheet ≡ known.Sheet sh → (today : ℕ) → real_day today ≡ true → (h : Header) (rows texts : List ℕ)
+pub draft-known : (sheet : ℕ) (sh : Sheet) → sheet_of sheet ≡ Some sh → (today : ℕ) → real_day today ≡ true → (h : Header) (rows texts : List ℕ)
     → draft sheet today h rows texts ≡ draft_of sh today h (things_in texts (rows_in rows))
 unfolding draft draft_with
 draft-known sheet sh e today day h rows texts = rw e (pick_true _ _ day)

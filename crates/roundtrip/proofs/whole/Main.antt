@@ -1,11 +1,11 @@
 -- The laws of a whole file: reading and writing agree on what a sheet carries. Assumes nothing.
+use Rattle.std.proofs.Common.{Some}
 use mathlib.Core.Path.{◌≡◌, refl, sym, ap, ◌∙◌}
 use mathlib.Core.Bool.{true}
 use mathlib.Core.List.{List}
 use mathlib.Core.Logic.{◌↔◌}
 use Prim.Native.Nat.{ℕ, ◌≤◌}
 use Rattle.sheet.specs.declared.Sheet.{Sheet}
-use Rattle.sheet.specs.declared.Known.TheVariants as known
 use Rattle.sheet.specs.Sheets.{sheet_of}
 use Rattle.sheet.proofs.Laws as sheets
 use Rattle.sheet.proofs.Laws.{Sane}
@@ -111,7 +111,7 @@ module _ (sh : Sheet) (sane : Sane sh) (today : ℕ) where
 
 -- ---- lent rows, on a sheet that has a number and on a real day
 
-module _ (sheet : ℕ) (sh : Sheet) (named : sheet_of sheet ≡ known.Sheet sh) (today : ℕ) (day : real_day today ≡ true) (h : Header) (rows texts : List ℕ) where
+module _ (sheet : ℕ) (sh : Sheet) (named : sheet_of sheet ≡ Some sh) (today : ℕ) (day : real_day today ≡ true) (h : Header) (rows texts : List ℕ) where
   abbrev said : List Thing
   said = things_in texts (rows_in rows)
 

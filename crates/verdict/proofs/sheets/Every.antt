@@ -1,4 +1,5 @@
 -- A sheet's line, and its bit, say that the file is accepted exactly if the file spells some batch on that sheet that day. Assumes nothing.
+use Rattle.std.proofs.Common.{Some}
 use mathlib.Core.Path.{◌≡◌, refl, sym, ap, ◌∙◌}
 use mathlib.Core.Bool.{Bool, true, false}
 use mathlib.Core.List.{List, [], ◌∷◌, ◌++◌}
@@ -13,7 +14,6 @@ use lib.Pow.{shr-shr}
 use Rattle.base.specs.Pick.{pick}
 use Rattle.base.proofs.Cases.{either}
 use Rattle.sheet.specs.declared.Sheet.{Sheet}
-use Rattle.sheet.specs.declared.Known.TheVariants as known
 use Rattle.sheet.specs.Sheets.{sheets, sheet_of}
 use Rattle.paper.specs.Bytes.{bytes}
 use Rattle.paper.specs.Days.{real_day}
@@ -44,7 +44,7 @@ accepted_on sh w = bytes "Sheet " ++ (sh.letter ∷ accepted_words w)
 
 -- the line of a sheet
 abbrev pub line_on : Sheet → ℕ → List ℕ → List ℕ
-line_on sh today f = sheet_line sh.letter (read_with (known.Sheet sh) today f (length f))
+line_on sh today f = sheet_line sh.letter (read_with (Some sh) today f (length f))
 
 module _ (sh : Sheet) (today : ℕ) (f : List ℕ) where
   module _ (real : real_day today ≡ true) where
@@ -136,7 +136,7 @@ module _ (today : ℕ) (f : List ℕ) where
       ap (λ (k : ℕ). k % 2) up ∙ nth-bit i shs rest sh e
 
   -- Bit n is set exactly if the file spells some batch on the sheet n + 1.
-  pub every-bit : (n : ℕ) (sh : Sheet) → sheet_of (n + 1) ≡ known.Sheet sh → accepting today f / 2 ^ n % 2 ≡ 1 ↔ SpellsSome sh today f
+  pub every-bit : (n : ℕ) (sh : Sheet) → sheet_of (n + 1) ≡ Some sh → accepting today f / 2 ^ n % 2 ≡ 1 ↔ SpellsSome sh today f
   unfolding accepting
   every-bit n sh named =
       let all : accepting today f ≡ bits sheets = omega (arith, weights 0 sheets sheets-follow) in

@@ -1,4 +1,5 @@
 -- The known sheets one after another: k of them are done, and the number k + 1 names the first of the rest, or none is left. Assumes nothing.
+use Rattle.std.proofs.Common.{Option, Some, None}
 use mathlib.Core.Path.{◌≡◌, refl, sym, ap, ◌∙◌}
 use mathlib.Core.Bool.{Bool, true, ◌&&◌}
 use mathlib.Core.List.{List, [], ◌∷◌}
@@ -10,8 +11,6 @@ use lib.ListN.{length, drop}
 use borrow.Author.Tests.{eqb-true, eq-eqb, ne_eqb, leb-true}
 use Rattle.base.proofs.Cases.{both, pick_true, pick-false}
 use Rattle.sheet.specs.declared.Sheet.{Sheet}
-use Rattle.sheet.specs.declared.Known.{Known}
-use Rattle.sheet.specs.declared.Known.TheVariants as known
 use Rattle.sheet.specs.Sheets.{sheets, first_named, sheet_of}
 
 -- ---- the sheets of a list whose numbers follow each other
@@ -27,7 +26,7 @@ pub record Next (i n : ℕ) (shs : List Sheet) (sh : Sheet) : Type 0 where
   pub named : sh.number ≡ n
   pub few : i < length shs
 
-abbrev at : ℕ → List Sheet → Known
+abbrev at : ℕ → List Sheet → Option Sheet
 at n shs = first_named (λ (x : Sheet). x.number) n shs
 
 module _ (a : Sheet) (shs : List Sheet) (k : ℕ) (w : follow k (a ∷ shs) ≡ true) where
@@ -38,7 +37,7 @@ module _ (a : Sheet) (shs : List Sheet) (k : ℕ) (w : follow k (a ∷ shs) ≡ 
   others = (both (eqb a.number k) _ w).1
 
   -- the first of them has the first number,
-  first : at (0 + k) (a ∷ shs) ≡ known.Sheet a
+  first : at (0 + k) (a ∷ shs) ≡ Some a
   first = let e : 0 + k ≡ a.number = omega (arith, number) in pick_true _ _ (eq-eqb _ _ e)
 
   -- and every other the number of another
@@ -48,19 +47,19 @@ module _ (a : Sheet) (shs : List Sheet) (k : ℕ) (w : follow k (a ∷ shs) ≡ 
       let e : suc i + k ≡ i + suc k = omega arith in
       pick-false _ _ (ne_eqb _ _ d) ∙ ap (λ (n : ℕ). at n shs) e
 
-nothing : {P : Type 0} (s : Sheet) → known.Nothing ≡ known.Sheet s → P
+nothing : {P : Type 0} (s : Sheet) → None ≡ Some s → P
 nothing s e = absurd (let z : ◌≡◌ {A = ℕ} 0 1 = cc in omega arith)
 
-following : (i k : ℕ) (shs : List Sheet) (sh : Sheet) → follow k shs ≡ true → at (i + k) shs ≡ known.Sheet sh → Next i (i + k) shs sh
+following : (i k : ℕ) (shs : List Sheet) (sh : Sheet) → follow k shs ≡ true → at (i + k) shs ≡ Some sh → Next i (i + k) shs sh
 following i k [] sh w e = nothing sh e
 following zero k (a ∷ shs) sh w e =
-    let same : a ≡ sh = (let h : known.Sheet a ≡ known.Sheet sh = sym (first a shs k w) ∙ e in cc) in
+    let same : a ≡ sh = (let h : Some a ≡ Some sh = sym (first a shs k w) ∙ e in cc) in
     record { rest = ap (λ (x : Sheet). x ∷ shs) same; named = ap (λ (x : Sheet). x.number) (sym same) ∙ omega (arith, number a shs k w); few = omega arith }
 following (suc i) k (a ∷ shs) sh w e =
     let n = following i (suc k) shs sh (others a shs k w) (sym (later a shs k w i) ∙ e) in
     record { rest = n.rest; named = n.named ∙ omega arith; few = omega (arith, n.few) }
 
-ended : (i k : ℕ) (shs : List Sheet) → follow k shs ≡ true → at (i + k) shs ≡ known.Nothing → drop i shs ≡ []
+ended : (i k : ℕ) (shs : List Sheet) → follow k shs ≡ true → at (i + k) shs ≡ None → drop i shs ≡ []
 ended zero k [] w e = refl
 ended (suc i) k [] w e = refl
 ended zero k (a ∷ shs) w e = nothing a (sym e ∙ first a shs k w)
@@ -88,12 +87,12 @@ pub left-all : left 0 ≡ sheets
 unfolding left
 left-all = refl
 
-module _ (k : ℕ) (r : Known) (g : r ≡ sheet_of (k + 1)) where
-  pub left-none : r ≡ known.Nothing → left k ≡ []
+module _ (k : ℕ) (r : Option Sheet) (g : r ≡ sheet_of (k + 1)) where
+  pub left-none : r ≡ None → left k ≡ []
   unfolding sheet_of left
   left-none e = ended k 1 sheets sheets-follow (sym g ∙ e)
 
-  module _ (sh : Sheet) (e : r ≡ known.Sheet sh) where
+  module _ (sh : Sheet) (e : r ≡ Some sh) where
     pub here : Next k (k + 1) sheets sh
     unfolding sheet_of
     here = following k 1 sheets sh sheets-follow (sym g ∙ e)
@@ -113,5 +112,5 @@ module _ (k : ℕ) (r : Known) (g : r ≡ sheet_of (k + 1)) where
     pub turn-less : many - (k + 1) < many - k
     turn-less = omega (arith, next-few)
 
-    pub next_known : sheet_of (k + 1) ≡ known.Sheet sh
+    pub next_known : sheet_of (k + 1) ≡ Some sh
     next_known = sym g ∙ e

@@ -1,4 +1,5 @@
 -- A sheet's line by its parts, counted one after another, and how long the lines are. Assumes nothing.
+use Rattle.std.proofs.Common.{Some}
 use mathlib.Core.Path.{◌≡◌, refl}
 use mathlib.Core.List.{List, [], ◌∷◌, ◌++◌}
 use Prim.Native.Nat.{ℕ, ◌*◌, ◌≤◌}
@@ -8,7 +9,6 @@ use lib.ListN.{length, length-append}
 use borrow.Author.Tests.{eq-eqb, ne_eqb}
 use Rattle.base.proofs.Cases.{either, pick_true, pick-false}
 use Rattle.sheet.specs.declared.Sheet.{Sheet}
-use Rattle.sheet.specs.declared.Known.TheVariants as known
 use Rattle.sheet.specs.Sheets.{sheets, sheet_of}
 use Rattle.paper.specs.Bytes.{bytes}
 use Rattle.paper.specs.Numerals.{decimal}
@@ -99,7 +99,7 @@ module _ (today : ℕ) (f : List ℕ) where
   unfolding lines_on
   lines-on-short [] = omega arith
   lines-on-short (sh ∷ shs) =
-      let a = read_with (known.Sheet sh) today f (length f) in
+      let a = read_with (Some sh) today f (length f) in
       omega (arith, sheet-line-short sh.letter a, lines-on-short shs, length-append (sheet_line sh.letter a) (lines_on today f shs))
 
   -- and so the lines of all

@@ -1,4 +1,5 @@
 -- The turns over the known sheets, of which k are done: their lines stand there, or their bits are set. Assumes nothing.
+use Rattle.std.proofs.Common.{Option, Some, None}
 use mathlib.Core.Path.{◌≡◌, refl, ap, ◌∙◌}
 use mathlib.Core.Bool.{Bool, true}
 use mathlib.Core.List.{List, ◌∷◌, ◌++◌}
@@ -13,8 +14,6 @@ use borrow.Author.Tests.{ne_eqb}
 use Rattle.base.specs.Pick.{pick}
 use Rattle.base.proofs.Cases.{either}
 use Rattle.sheet.specs.declared.Sheet.{Sheet}
-use Rattle.sheet.specs.declared.Known.{Known}
-use Rattle.sheet.specs.declared.Known.TheVariants as known
 use Rattle.sheet.specs.Sheets.{sheet_of}
 use Rattle.paper.specs.Bytes.{bytes}
 use Rattle.paper.specs.Days.{real_day}
@@ -33,8 +32,8 @@ use Rattle.verdict.proofs.Laws.{in_brief, day-verdict}
 use Rattle.verdict.proofs.sheets.Following.{left, many, many-few, left-all, left-none, left-next, next-number, next-few, next_known, turn-less}
 
 -- the sheet of the number k + 1 has the verdict v
-module _ (today : ℕ) (f : List ℕ) (k : ℕ) (r : Known) (g : r ≡ sheet_of (k + 1)) (sh : Sheet) (e : r ≡ known.Sheet sh) (v : Verdict) where
-  whose : v ≡ verdict_of (read_with (sheet_of (k + 1)) today f (length f)) → v ≡ verdict_of (read_with (known.Sheet sh) today f (length f))
+module _ (today : ℕ) (f : List ℕ) (k : ℕ) (r : Option Sheet) (g : r ≡ sheet_of (k + 1)) (sh : Sheet) (e : r ≡ Some sh) (v : Verdict) where
+  whose : v ≡ verdict_of (read_with (sheet_of (k + 1)) today f (length f)) → v ≡ verdict_of (read_with (Some sh) today f (length f))
   whose h = h ∙ rw (next_known k r g sh e)
 
 -- ---- lines
@@ -53,12 +52,12 @@ module _ (today : ℕ) (f o : List ℕ) (at : ℕ) where
   pub said-next : (k : ℕ) (o1 : List ℕ) (e : ℕ) → Said today f o at k o1 e → k + 1 < 2 ^ 64
   said-next k o1 e s = omega (arith, s.few, many-few)
 
-  module _ (k : ℕ) (o1 : List ℕ) (e : ℕ) (s : Said today f o at k o1 e) (r : Known) (g : r ≡ sheet_of (k + 1)) where
-    pub said_all : r ≡ known.Nothing → Counted o at (sheet_lines today f) o1 e
+  module _ (k : ℕ) (o1 : List ℕ) (e : ℕ) (s : Said today f o at k o1 e) (r : Option Sheet) (g : r ≡ sheet_of (k + 1)) where
+    pub said_all : r ≡ None → Counted o at (sheet_lines today f) o1 e
     unfolding lines_on
     said_all z = s.all o1 e (rw (left-none k r g z) counted-nothing)
 
-    module _ (sh : Sheet) (z : r ≡ known.Sheet sh) where
+    module _ (sh : Sheet) (z : r ≡ Some sh) where
       pub said_more : (v : Verdict) → v ≡ verdict_of (read_with (sheet_of (k + 1)) today f (length f)) → (o2 : List ℕ) (e2 : ℕ)
           → Counted o1 e (bytes "Sheet " ++ (sh.letter ∷ verdict_words v)) o2 e2 → Said today f o at (k + 1) o2 e2
       unfolding lines_on sheet_line
@@ -85,7 +84,7 @@ judged-accepts sh today f (Refused n l p) e = ne_eqb n 0 (λ z. omega (arith, (j
 judged-accepts sh today f (Accepted h b w) e = refl
 
 pub verdict-accepts : (sh : Sheet) (today : ℕ) (f : List ℕ) → real_day today ≡ true
-    → eqb (verdict_of (read_with (known.Sheet sh) today f (length f))).number 0 ≡ accepts (judge sh today f)
+    → eqb (verdict_of (read_with (Some sh) today f (length f))).number 0 ≡ accepts (judge sh today f)
 verdict-accepts sh today f real =
     ap (λ (v : Verdict). eqb v.number 0) (day-verdict sh today f real ∙ ap in_brief (tally-is sh today f)) ∙ judged-accepts sh today f (judge sh today f) refl
 
@@ -98,12 +97,12 @@ module _ (today : ℕ) (f : List ℕ) where
     pub marks-next : k + 1 < 2 ^ 64
     marks-next = omega (arith, m.few, many-few)
 
-    module _ (r : Known) (g : r ≡ sheet_of (k + 1)) where
-      pub marks-all : r ≡ known.Nothing → set ≡ accepting today f
+    module _ (r : Option Sheet) (g : r ≡ sheet_of (k + 1)) where
+      pub marks-all : r ≡ None → set ≡ accepting today f
       unfolding accepting_on
       marks-all z = let t = rw (left-none k r g z) at m.all in omega (arith, t)
 
-      module _ (sh : Sheet) (z : r ≡ known.Sheet sh) where
+      module _ (sh : Sheet) (z : r ≡ Some sh) where
         bit-low : bit < 2 ^ 63
         bit-low = rw m.power (pow-lt {i = k} {j = 63} (omega (arith, next-few k r g sh z, many-few)))
 

@@ -15,14 +15,14 @@ sheet_of-requires c = search (marks, rules)
 pub enum_told-1 : goal.enum_told-1
 enum_told-1 c = search (marks, rules)
 
-pub returns-in-Nothing : goal.returns-in-Nothing
-returns-in-Nothing c = search marks
+pub returns-in-None : goal.returns-in-None
+returns-in-None c = search marks
 
-pub enum_told-in-Sheet : goal.enum_told-in-Sheet
-enum_told-in-Sheet c = search (marks, rules)
+pub enum_told-in-Some : goal.enum_told-in-Some
+enum_told-in-Some c = search (marks, rules)
 
-pub overflow_add-place-in-Sheet : goal.overflow_add-place-in-Sheet
-overflow_add-place-in-Sheet c = search (marks, rules)
+pub overflow_add-place-in-Some : goal.overflow_add-place-in-Some
+overflow_add-place-in-Some c = search (marks, rules)
 
 pub verdict_at-judged-requires : goal.verdict_at-judged-requires
 verdict_at-judged-requires c = search (marks, rules)

@@ -15,17 +15,17 @@ sheet_of-requires c = search (lines, rules)
 pub enum_told-1 : goal.enum_told-1
 enum_told-1 c = search (lines, rules)
 
-pub shape_of-out-in-Nothing : goal.shape_of-out-in-Nothing
-shape_of-out-in-Nothing c = search (lines, rules)
+pub shape_of-out-in-None : goal.shape_of-out-in-None
+shape_of-out-in-None c = search (lines, rules)
 
-pub returns-in-Nothing : goal.returns-in-Nothing
-returns-in-Nothing c = search lines
+pub returns-in-None : goal.returns-in-None
+returns-in-None c = search lines
 
 pub enum_known-sh : goal.enum_known-sh
 enum_known-sh c = search (lines, rules)
 
-pub overflow_add-k-in-Sheet : goal.overflow_add-k-in-Sheet
-overflow_add-k-in-Sheet c = search (lines, rules)
+pub overflow_add-k-in-Some : goal.overflow_add-k-in-Some
+overflow_add-k-in-Some c = search (lines, rules)
 
 pub verdict_at-said-requires : goal.verdict_at-said-requires
 verdict_at-said-requires c = search (lines, rules)
