@@ -8,6 +8,10 @@ use native.Mathlib.Omega.{arith}
 use borrow.Author.Tests.{le-leb, lt-leb}
 use lib.ListN.{length, take, drop, drop_of_length-le, length-take, length-drop}
 use lib.Seq.{drop-drop, take_all}
+use Rattle.std.proofs.Common.{Result, Ok, Err}
+use Rattle.refusal.specs.declared.Refusal.{Refusal}
+use Rattle.refusal.specs.declared.Refusal.TheVariants.{BadField, BadText}
+use Rattle.refusal.specs.Numbers.{number_of}
 use Rattle.base.specs.Pick.{pick}
 use Rattle.base.specs.Seek.{all, starts, seek}
 use Rattle.base.proofs.Cases.{by-lt, either, pick-both, pick_true, pick-false}
@@ -22,7 +26,7 @@ use Rattle.text.specs.Begun.{of_text, meant, Begins}
 use Rattle.text.specs.Finish.{fitted_one, finish_at, name_at}
 use Rattle.text.specs.declared.Begun.{Begun}
 use Rattle.text.specs.declared.Begun.TheVariants as begun
-use Rattle.text.specs.declared.TextRead.{TextRead}
+use Rattle.text.specs.declared.span.Spans.{Spans}
 use Rattle.text.specs.declared.span.Span.{Span}
 use Rattle.text.proofs.Right.{tells-same, nothing-taken, finish-right}
 use Rattle.text.proofs.Turns.{finish-alone}
@@ -70,7 +74,7 @@ module _ (y : Style) (s : List ℕ) (from e : ℕ) (h : from ≤ length s) (g : 
   pub end_after : from ≤ length (take (e - 0) s)
   end_after = omega (arith, end-within, length-take (e - 0) s)
 
-  pub message-read : y.most ≤ 4 → (p : Span) (r : TextRead) → p ≡ name_at e (length s) → r ≡ finish_at y (take (e - 0) s) from p.at p.len
+  pub message-read : y.most ≤ 4 → (p : Span) (r : Result Spans Refusal) → p ≡ name_at e (length s) → r ≡ finish_at y (take (e - 0) s) from p.at p.len
       → Tells s r (message y from (drop from s))
   unfolding message name_at pick
   message-read small p r n k =
@@ -86,7 +90,7 @@ pub ruleset messages = (end-within, end_after, message-read)
 
 -- begin_marked: b is what only_name answered, c what starts_at did
 module _ (y : Style) (s : List ℕ) (from : ℕ) (h : from ≤ length s) (b : Bool) (g : b ≡ pick y.names (starts np (drop from s)) false) where
-  pub begun-name : b ≡ true → Begins y s from begun.Name (marked y from (drop from s))
+  pub begun-name : b ≡ true → Begins y s from (Ok begun.Name) (marked y from (drop from s))
   unfolding marked
   begun-name e =
       record {
@@ -98,7 +102,7 @@ module _ (y : Style) (s : List ℕ) (from : ℕ) (h : from ≤ length s) (b : Bo
     pub av-long : c ≡ true → from + 3 ≤ length s
     av-long e = omega (arith, starts-long av (drop from s) (sym f ∙ e), length-drop from s)
 
-    pub begun-av : c ≡ true → Begins y s from (begun.Message (from + 3)) (marked y from (drop from s))
+    pub begun-av : c ≡ true → Begins y s from (Ok (begun.Message (from + 3))) (marked y from (drop from s))
     unfolding marked
     begun-av e =
         record {
@@ -107,24 +111,24 @@ module _ (y : Style) (s : List ℕ) (from : ℕ) (h : from ≤ length s) (b : Bo
         }
 
     module _ (e : c ≡ false) where
-      pub begun-may : y.may ≡ true → Begins y s from (begun.Message from) (marked y from (drop from s))
+      pub begun-may : y.may ≡ true → Begins y s from (Ok (begun.Message from)) (marked y from (drop from s))
       unfolding marked
       begun-may m = record { means = sym (pick-false _ _ (sym g ∙ n) ∙ (pick-false _ _ (sym f ∙ e) ∙ pick_true _ _ m)); room = h }
 
-      pub begun-none : y.may ≡ false → Begins y s from (begun.Refused 14) (marked y from (drop from s))
+      pub begun-none : y.may ≡ false → Begins y s from (Err BadText) (marked y from (drop from s))
       unfolding marked
       begun-none m = record { means = sym (pick-false _ _ (sym g ∙ n) ∙ (pick-false _ _ (sym f ∙ e) ∙ pick-false _ _ m)); room = tt }
 
 -- begin_text: c is what opens_at answered
 module _ (y : Style) (s : List ℕ) (from : ℕ) where
-  pub begun-plain : from ≤ length s → y.av ≡ false → Begins y s from (begun.Message from) (of_text y from (drop from s))
+  pub begun-plain : from ≤ length s → y.av ≡ false → Begins y s from (Ok (begun.Message from)) (of_text y from (drop from s))
   begun-plain h f = record { means = sym (pick-false _ _ f); room = h }
 
   module _ (f : y.av ≡ true) (c : Bool) (k : c ≡ opens (drop from s)) where
-    pub begun-open : (r : Begun) → c ≡ true → Begins y s from r (marked y from (drop from s)) → Begins y s from r (of_text y from (drop from s))
+    pub begun-open : (r : Result Begun Refusal) → c ≡ true → Begins y s from r (marked y from (drop from s)) → Begins y s from r (of_text y from (drop from s))
     begun-open r o t = record { means = t.means ∙ sym (pick_true _ _ f ∙ pick_true _ _ (sym k ∙ o)); room = t.room }
 
-    pub begun-shut : c ≡ false → Begins y s from (begun.Refused 4) (of_text y from (drop from s))
+    pub begun-shut : c ≡ false → Begins y s from (Err BadField) (of_text y from (drop from s))
     begun-shut o = record { means = sym (pick_true _ _ f ∙ pick-false _ _ (sym k ∙ o)); room = tt }
 
 pub ruleset beginnings = (begun-name, av-long, begun-av, begun-may, begun-none, begun-plain, begun-open, begun-shut)
@@ -135,29 +139,30 @@ module _ (y : Style) (s : List ℕ) (from : ℕ) (h : from ≤ length s) (b : Bo
   unfolding read_text count_text
   read-bytes e = ap count_text (sym (pick-false _ (fault 4) (sym g ∙ e)))
 
-  module _ (e : b ≡ true) (q : Begun) (t : Begins y s from q (of_text y from (drop from s))) where
+  module _ (e : b ≡ true) (q : Result Begun Refusal) (t : Begins y s from q (of_text y from (drop from s))) where
     begun-read : meant y s from q ≡ read_text y from (drop from s)
     unfolding read_text
     begun-read = t.means ∙ sym (pick_true _ _ (sym g ∙ e))
 
-    pub read-refused : (n : ℕ) → q ≡ begun.Refused n → fault n ≡ count_text (read_text y from (drop from s))
+    pub read-refused : (n : Refusal) → q ≡ Err n → fault (number_of n) ≡ count_text (read_text y from (drop from s))
     unfolding count_text
     read-refused n k = ap count_text (rw k at begun-read)
 
-    pub message-within : (at : ℕ) → q ≡ begun.Message at → at ≤ length s
-    message-within at k = rw k at t.room
+    module _ (o : Begun) (j : q ≡ Ok o) where
+      pub message-within : (at : ℕ) → o ≡ begun.Message at → at ≤ length s
+      message-within at k = rw (j, k) at t.room
 
-    pub read-message : (at : ℕ) (r : TextRead) → q ≡ begun.Message at → Tells s r (message y at (drop at s)) → told s r ≡ count_text (read_text y from (drop from s))
-    read-message at r k u = u.says ∙ ap count_text (rw k at begun-read)
+      pub read-message : (at : ℕ) (r : Result Spans Refusal) → o ≡ begun.Message at → Tells s r (message y at (drop at s)) → told s r ≡ count_text (read_text y from (drop from s))
+      read-message at r k u = u.says ∙ ap count_text (rw (j, k) at begun-read)
 
-    module _ (k : q ≡ begun.Name) where
+    module _ (o : Begun) (j : q ≡ Ok o) (k : o ≡ begun.Name) where
       pub name-within : from + 3 ≤ length s
-      name-within = rw k at t.room
+      name-within = rw (j, k) at t.room
 
       pub name-long : 3 ≤ length s - from
       name-long = omega (arith, name-within)
 
-      name-tells : y.most ≤ 4 → (r : TextRead) → r ≡ fitted_one y from 0 (from + 3) (length s - from - 3) → Tells s r (read_text y from (drop from s))
+      name-tells : y.most ≤ 4 → (r : Result Spans Refusal) → r ≡ fitted_one y from 0 (from + 3) (length s - from - 3) → Tells s r (read_text y from (drop from s))
       unfolding others seek
       name-tells small r w =
           let z : from - from ≡ 0 = omega arith in
@@ -166,16 +171,16 @@ module _ (y : Style) (s : List ℕ) (from : ℕ) (h : from ≤ length s) (b : Bo
           let n : length (drop (from + 3) s) ≤ length s - from - 3 = omega (arith, length-drop (from + 3) s) in
           let x = finish-alone y (take from s) from (from + 3) (length s - from - 3) from (rw m (omega arith)) (omega arith) (omega arith) r (rw z w) in
           tells-same (x ∙ nothing-taken y (take from s) from (from + 3) (length s - from - 3) m)
-          (rw (m, take_all (length s - from - 3) (drop (from + 3) s) n) (rw k at begun-read))
+          (rw (m, take_all (length s - from - 3) (drop (from + 3) s) n) (rw (j, k) at begun-read))
           (finish-right y small s (take from s) from refl from (omega arith) (from + 3) (length s - from - 3) (omega (arith, name-within)))
 
-      pub read_name : y.most ≤ 4 → (r : TextRead) → r ≡ fitted_one y from 0 (from + 3) (length s - from - 3) → told s r ≡ count_text (read_text y from (drop from s))
+      pub read_name : y.most ≤ 4 → (r : Result Spans Refusal) → r ≡ fitted_one y from 0 (from + 3) (length s - from - 3) → told s r ≡ count_text (read_text y from (drop from s))
       read_name small r w = (name-tells small r w).says
 
-      pub inside-name : y.most ≤ 4 → (r : TextRead) → r ≡ fitted_one y from 0 (from + 3) (length s - from - 3) → Inside s r
+      pub inside-name : y.most ≤ 4 → (r : Result Spans Refusal) → r ≡ fitted_one y from 0 (from + 3) (length s - from - 3) → Inside s r
       inside-name small r w = (name-tells small r w).inside
 
-pub tells-inside : (s : List ℕ) (r : TextRead) (x : Field Noted) → Tells s r x → Inside s r
+pub tells-inside : (s : List ℕ) (r : Result Spans Refusal) (x : Field Noted) → Tells s r x → Inside s r
 tells-inside s r x t = t.inside
 
 pub ruleset outs = (read-bytes, read-refused, message-within, read-message, name-within, name-long, read_name, inside-name, tells-inside)

@@ -7,6 +7,9 @@ use native.Mathlib.Omega.{arith}
 use lib.Dec.{eqb}
 use lib.ListN.{length, take, drop}
 use borrow.Author.Tests.{ne_eqb, lt-ltb, le-ltb, lt-leb, le-leb}
+use Rattle.std.proofs.Common.{Result, Ok, Err}
+use Rattle.refusal.specs.declared.Refusal.{Refusal}
+use Rattle.refusal.specs.declared.Refusal.TheVariants.{BadText}
 use Rattle.base.specs.Pick.{pick}
 use Rattle.base.specs.Seek.{all, starts, seek, before}
 use Rattle.base.proofs.Cases.{by-test, by-eq, by-lt, pick_true, pick-false, pick_same, both-pick}
@@ -21,8 +24,6 @@ use Rattle.text.specs.declared.span.Spans.{Spans}
 use Rattle.text.proofs.span.Right.{warned, found_right, found-held}
 use Rattle.text.specs.Told.{count_texts, count_text, Tells}
 use Rattle.text.specs.Finish.{judged, fitted_at, finish_at}
-use Rattle.text.specs.declared.TextRead.{TextRead}
-use Rattle.text.specs.declared.TextRead.TheVariants as answer
 
 -- two tests, one behind the other
 both-tests : (a b c : Bool) → pick (pick a b false) c false ≡ pick a (pick b c false) false
@@ -32,13 +33,13 @@ both-tests false b c = refl
 
 -- a test of two parts
 judge-right : (s : List ℕ) (b c : Bool) (f : Spans) (x : Noted) → texts_at s f ≡ count_texts x → Held s f
-    → Tells s (pick b (answer.Texts f) (pick c (answer.Texts f) (answer.Refused 14))) (pick (pick b true c) (value x) (fault 14))
+    → Tells s (pick b (Ok f) (pick c (Ok f) (Err BadText))) (pick (pick b true c) (value x) (fault 14))
 unfolding pick count_text
 judge-right s true c f x e h = record { says = ap value e; inside = h }
 judge-right s false true f x e h = record { says = ap value e; inside = h }
 judge-right s false false f x e h = record { says = refl; inside = tt }
 
-pub tells-same : {s : List ℕ} {r q : TextRead} {x z : Field Noted} → q ≡ r → x ≡ z → Tells s r x → Tells s q z
+pub tells-same : {s : List ℕ} {r q : Result Spans Refusal} {x z : Field Noted} → q ≡ r → x ≡ z → Tells s r x → Tells s q z
 tells-same e f t = rw (e, ← f) t
 
 -- parts and a name of any bytes
@@ -52,7 +53,7 @@ fitted-right y small s m e g from h at len room =
     let less : length (divide from (drop from m)) ≤ y.most = omega arith in
     tells-same
     (pick-false _ _ (lt-leb y.most (length (others from (drop from m))) l)
-    ∙ ap (λ (b : Bool). pick y.cuts (answer.Texts (four_from m from at len)) (pick b (answer.Texts (four_from m from at len)) (answer.Refused 14)))
+    ∙ ap (λ (b : Bool). pick y.cuts (Ok (four_from m from at len)) (pick b (Ok (four_from m from at len)) (Err BadText)))
     (ap (λ (w : ℕ). eqb w 0) (warned s m e g from h at len room few) ∙ empty-null (cuts (divide from (drop from m)) (piece at (take len (drop at s))))))
     (sym (pick-false _ _ (le-ltb y.most (length (divide from (drop from m))) less)))
     (judge-right s y.cuts (null (cuts (divide from (drop from m)) (piece at (take len (drop at s))))) (four_from m from at len) _

@@ -7,6 +7,9 @@ use native.Mathlib.Omega.{arith}
 use lib.ListN.{length, get_or, drop, drop_of_length-le, length-drop}
 use lib.Seq.{drop-cons}
 use borrow.Author.Tests.{eq-eqb, ne_eqb, le-leb, lt-leb}
+use Rattle.std.proofs.Common.{Result, Err}
+use Rattle.refusal.specs.declared.Refusal.{Refusal}
+use Rattle.refusal.specs.declared.Refusal.TheVariants.{BadText}
 use Rattle.base.specs.Seek.{seek}
 use Rattle.base.proofs.Cases.{by-eq, pick_true, pick-false}
 use Rattle.sheet.specs.declared.Style.{Style}
@@ -18,16 +21,14 @@ use Rattle.text.specs.declared.span.Spans.{Spans}
 use Rattle.text.proofs.span.Turns.{part-bar, part-next, part-upto, part-near, bars-none, four-found, one_found}
 use Rattle.text.proofs.span.Bars.{count-least, count-few}
 use Rattle.text.specs.Finish.{judged, fitted_one, fitted_at, name_at}
-use Rattle.text.specs.declared.TextRead.{TextRead}
-use Rattle.text.specs.declared.TextRead.TheVariants as answer
 
 -- fit_one
 module _ (y : Style) (from size at len : ℕ) where
-  pub one_none : y.most ≡ 0 → answer.Refused 14 ≡ fitted_one y from size at len
+  pub one_none : y.most ≡ 0 → Err BadText ≡ fitted_one y from size at len
   unfolding fitted_one
   one_none z = sym (pick_true _ _ (eq-eqb y.most 0 z))
 
-  pub one-judged : (y.most ≡ 0 → ⊥) → (f : Spans) (r : TextRead) → f ≡ one_at from size at len → r ≡ judged y f → r ≡ fitted_one y from size at len
+  pub one-judged : (y.most ≡ 0 → ⊥) → (f : Spans) (r : Result Spans Refusal) → f ≡ one_at from size at len → r ≡ judged y f → r ≡ fitted_one y from size at len
   unfolding fitted_one
   one-judged z f r ef er = er ∙ (ap (judged y) ef ∙ sym (pick-false _ _ (ne_eqb y.most 0 z)))
 
@@ -39,13 +40,13 @@ module _ (y : Style) (m : List ℕ) (from at len : ℕ) (h : from ≤ length m) 
   sum : i + j + k + l ≡ ended a + ended b + ended c + ended d
   sum = rw (ei, ej, ek, el)
 
-  pub finish-many : y.most ≤ i + j + k + l → answer.Refused 14 ≡ fitted_at y m from at len
+  pub finish-many : y.most ≤ i + j + k + l → Err BadText ≡ fitted_at y m from at len
   unfolding fitted_at
   finish-many t =
       let n = count-least m from a b c d h ea eb ec ed (i + j + k + l) sum in
       sym (pick_true _ _ (le-leb y.most (length (others from (drop from m))) (omega arith)))
 
-  pub finished : i + j + k + l < y.most → y.most ≤ 4 → (f : Spans) (r : TextRead) → f ≡ found_at a b c d at len → r ≡ judged y f → r ≡ fitted_at y m from at len
+  pub finished : i + j + k + l < y.most → y.most ≤ 4 → (f : Spans) (r : Result Spans Refusal) → f ≡ found_at a b c d at len → r ≡ judged y f → r ≡ fitted_at y m from at len
   unfolding fitted_at
   finished t u f r ef er =
       let n = count-few m from a b c d h ea eb ec ed (i + j + k + l) sum (omega arith) in
@@ -56,7 +57,7 @@ module _ (y : Style) (m : List ℕ) (from at len e : ℕ) (g : e ≡ from + seek
   none : length m ≤ e → length (others from (drop from m)) ≡ 0
   none l = sym (bars-none m from 0 from e (omega arith) g h l)
 
-  pub finish-alone : length m ≤ e → (r : TextRead) → r ≡ fitted_one y from (e - from) at len → r ≡ fitted_at y m from at len
+  pub finish-alone : length m ≤ e → (r : Result Spans Refusal) → r ≡ fitted_one y from (e - from) at len → r ≡ fitted_at y m from at len
   unfolding fitted_at fitted_one
   finish-alone l r k =
       by-eq y.most 0

@@ -1,10 +1,11 @@
 -- What an answer of the reader stands for. Assumes nothing.
-use Rattle.std.specs.Prelude.{◌≡◌, ℕ, List, length}
+use Rattle.std.specs.Prelude.{◌≡◌, ℕ, List, length, Result, Ok, Err}
+use Rattle.refusal.specs.declared.Refusal.{Refusal}
+use Rattle.refusal.specs.Numbers.{number_of}
 use Rattle.paper.specs.Read.{Field, value, fault}
 use Rattle.paper.specs.Texts.{Texts, Noted}
 use Rattle.text.specs.span.Held.{texts_at, Held}
-use Rattle.text.specs.declared.TextRead.{TextRead}
-use Rattle.text.specs.declared.TextRead.TheVariants as answer
+use Rattle.text.specs.declared.span.Spans.{Spans}
 
 -- texts whose warnings are counted, as the code does
 abbrev pub count_texts : Noted → Texts ℕ
@@ -16,16 +17,16 @@ count_text (value x) = value (count_texts x)
 count_text (fault n) = fault n
 
 -- The texts at their places in the line s, with the count of warnings; or the refusal's number.
-abbrev pub told : List ℕ → TextRead → Field (Texts ℕ)
-told s (answer.Texts f) = value (texts_at s f)
-told s (answer.Refused n) = fault n
+abbrev pub told : List ℕ → Result Spans Refusal → Field (Texts ℕ)
+told s (Ok f) = value (texts_at s f)
+told s (Err r) = fault (number_of r)
 
 -- Each place lies within the line.
-abbrev pub Inside : List ℕ → TextRead → Type 0
-Inside s (answer.Texts f) = Held s f
-Inside s (answer.Refused n) = Unit
+abbrev pub Inside : List ℕ → Result Spans Refusal → Type 0
+Inside s (Ok f) = Held s f
+Inside s (Err r) = Unit
 
 -- both: the answer r stands for x
-pub record Tells (s : List ℕ) (r : TextRead) (x : Field Noted) : Type 0 where
+pub record Tells (s : List ℕ) (r : Result Spans Refusal) (x : Field Noted) : Type 0 where
   pub says : told s r ≡ count_text x
   pub inside : Inside s r

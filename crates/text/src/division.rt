@@ -57,17 +57,13 @@ fn find_stop(s: &[u8], at: usize) -> usize
     requires { at ≤ length s.now }
     ensures { Skips is_plain s.now at result }
 {
-    let mut i = pass_half(s, pass_plain(s, at));
-    while i < s.len() {
-        if s[i] == 124 {
+    let from = pass_half(s, pass_plain(s, at));
+    for i in from..s.len() {
+        if matches!(s[i], 124 | 58) {
             return i;
         }
-        if s[i] == 58 {
-            return i;
-        }
-        i += 1;
     }
-    i
+    s.len()
 }
 
 // Does the byte at e end a ` NP:` that begins at or after `from`?

@@ -20,45 +20,46 @@ ghost use Rattle.text.specs.Begun.{of_text, Begins};
 ghost use Rattle.text.specs.Finish.{judged, fitted_one, fitted_at, finish_at, name_at};
 
 use crate::span::{Part, Span, Spans, barred, gather, one_part, part_at};
+use refusal::Refusal;
 use scan::find::find_byte;
 use scan::seek::{all_clean, all_text, starts_at};
 use sheet::Style;
 
-#[derive(Clone, Copy)]
-pub enum TextRead {
-    Texts(Spans),
-    // the refusal's number
-    Refused(u64),
-}
-
 // What is too long is cut, or refused.
-fn judge(y: Style, f: Spans) -> TextRead
+fn judge(y: Style, f: Spans) -> Result<Spans, Refusal>
     ensures { result ≡ judged y f }
 {
     let may = y.cuts;
     if may {
-        return TextRead::Texts(f);
+        return Ok(f);
     }
     let w = f.warnings;
     if w == 0 {
-        return TextRead::Texts(f);
+        return Ok(f);
     }
-    TextRead::Refused(14)
+    Err(Refusal::BadText)
 }
 
 // One part and no other, and a name at its place.
-fn fit_one(y: Style, from: usize, size: usize, at: usize, len: usize) -> TextRead
+fn fit_one(y: Style, from: usize, size: usize, at: usize, len: usize) -> Result<Spans, Refusal>
     ensures { result ≡ fitted_one y from size at len }
 {
     let most = y.most;
     if most == 0 {
-        return TextRead::Refused(14);
+        return Err(Refusal::BadText);
     }
     judge(y, one_part(from, size, at, len))
 }
 
 // The parts of m from `from` on, of which the first is a, and a name at its place.
-fn fit_parts(y: Style, m: &[u8], from: usize, a: Part, at: usize, len: usize) -> TextRead
+fn fit_parts(
+    y: Style,
+    m: &[u8],
+    from: usize,
+    a: Part,
+    at: usize,
+    len: usize,
+) -> Result<Spans, Refusal>
     requires most_bound { y.most ≤ 4 }
     requires from_in_bounds { from ≤ length m.now }
     requires a_value { a ≡ part_at m.now from }
@@ -69,14 +70,14 @@ fn fit_parts(y: Style, m: &[u8], from: usize, a: Part, at: usize, len: usize) ->
     let d = part_at(m, c.next);
     let most = y.most;
     if most <= barred(a) + barred(b) + barred(c) + barred(d) {
-        return TextRead::Refused(14);
+        return Err(Refusal::BadText);
     }
     judge(y, gather(a, b, c, d, at, len))
 }
 
 // The parts of m from `from` on, and a name at its place: m is the line up to the message's end, so that places are the line's.
 // Most texts have one part.
-fn fit_at(y: Style, m: &[u8], from: usize, at: usize, len: usize) -> TextRead
+fn fit_at(y: Style, m: &[u8], from: usize, at: usize, len: usize) -> Result<Spans, Refusal>
     requires most_bound { y.most ≤ 4 }
     requires from_in_bounds { from ≤ length m.now }
     ensures { result ≡ fitted_at y m.now from at len }
@@ -106,7 +107,7 @@ pub fn bytes_taken(y: Style, m: &[u8], from: usize) -> bool
 }
 
 // The same, where the sheet takes the message's bytes. A `|` is such a byte, so that they are looked at once, and not part by part.
-fn finish_at(y: Style, m: &[u8], from: usize, at: usize, len: usize) -> TextRead
+fn finish_at(y: Style, m: &[u8], from: usize, at: usize, len: usize) -> Result<Spans, Refusal>
     requires most_bound { y.most ≤ 4 }
     requires from_in_bounds { from ≤ length m.now }
     ensures { result ≡ finish_at y m.now from at len }
@@ -114,7 +115,7 @@ fn finish_at(y: Style, m: &[u8], from: usize, at: usize, len: usize) -> TextRead
     if bytes_taken(y, m, from) {
         return fit_at(y, m, from, at, len);
     }
-    TextRead::Refused(14)
+    Err(Refusal::BadText)
 }
 
 // The first ` NP:` of s at or after `from`, or s's length where there is none. It is looked for by its last byte, which is rare in a text.
@@ -164,7 +165,7 @@ pub fn name_at(end: usize, n: usize) -> Span
 }
 
 // The message that begins at `from`, and the name behind its ` NP:`.
-fn read_message(y: Style, s: &[u8], from: usize) -> TextRead
+fn read_message(y: Style, s: &[u8], from: usize) -> Result<Spans, Refusal>
     requires most_bound { y.most ≤ 4 }
     requires from_in_bounds { from ≤ length s.now }
     ensures { Tells s.now result (message y from (drop from s.now)) }
@@ -186,30 +187,29 @@ pub fn only_name(y: Style, s: &[u8], from: usize) -> bool
     false
 }
 
-// How a text begins: where its message does, or with `NP:` and a name alone; or the refusal's number.
+// How a text begins: where its message does, or with `NP:` and a name alone.
 #[derive(Clone, Copy)]
 pub enum Begun {
     Message(usize),
     Name,
-    Refused(u64),
 }
 
 // The beginning of a text with `AV:`, or on C of one without it.
-fn begin_marked(y: Style, s: &[u8], from: usize) -> Begun
+fn begin_marked(y: Style, s: &[u8], from: usize) -> Result<Begun, Refusal>
     requires { from ≤ length s.now }
     ensures { Begins y s.now from result (marked y from (drop from s.now)) }
 {
     if only_name(y, s, from) {
-        return Begun::Name;
+        return Ok(Begun::Name);
     }
     if starts_at(s, from, b"AV:") {
-        return Begun::Message(from + 3);
+        return Ok(Begun::Message(from + 3));
     }
     let may = y.may;
     if may {
-        return Begun::Message(from);
+        return Ok(Begun::Message(from));
     }
-    Begun::Refused(14)
+    Err(Refusal::BadText)
 }
 
 // The text has a byte or more, and the first is not a space.
@@ -227,7 +227,7 @@ pub fn opens_at(s: &[u8], from: usize) -> bool
 }
 
 // The beginning of a text whose bytes are all text bytes.
-pub fn begin_text(y: Style, s: &[u8], from: usize) -> Begun
+pub fn begin_text(y: Style, s: &[u8], from: usize) -> Result<Begun, Refusal>
     requires { from ≤ length s.now }
     ensures { Begins y s.now from result (of_text y from (drop from s.now)) }
 {
@@ -236,24 +236,23 @@ pub fn begin_text(y: Style, s: &[u8], from: usize) -> Begun
         if opens_at(s, from) {
             return begin_marked(y, s, from);
         }
-        return Begun::Refused(4);
+        return Err(Refusal::BadField);
     }
-    Begun::Message(from)
+    Ok(Begun::Message(from))
 }
 
-// The text that begins at `from` of the line s and runs to its end: where its parts and its name stand, or the number of the refusal.
-pub fn read_text(y: Style, s: &[u8], from: usize) -> TextRead
+// The text that begins at `from` of the line s and runs to its end: where its parts and its name stand.
+pub fn read_text(y: Style, s: &[u8], from: usize) -> Result<Spans, Refusal>
     requires most_bound { y.most ≤ 4 }
     requires from_in_bounds { from ≤ length s.now }
     ensures result_value { told s.now result ≡ count_text (read_text y from (drop from s.now)) }
     ensures inside { Inside s.now result }
 {
     if all_text(s, from) {
-        return match begin_text(y, s, from) {
-            Begun::Refused(n) => TextRead::Refused(n),
+        return match begin_text(y, s, from)? {
             Begun::Name => fit_one(y, from, 0, from + 3, s.len() - from - 3),
             Begun::Message(at) => read_message(y, s, at),
         };
     }
-    TextRead::Refused(4)
+    Err(Refusal::BadField)
 }

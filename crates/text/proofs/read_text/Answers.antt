@@ -1,22 +1,21 @@
 -- `text::read_text` meets its contract. Assumes nothing.
-use borrow.Author.Rules.{rules}
+use Rattle.std.proofs.lemmas.Result.{err_from_is_err_and}
 use Rattle.text.proofs.Exits.{outs}
 use Rattle.text.proofs.read_text.Goals as goal
 
-pub overflow_sub-s-in-Name : goal.overflow_sub-s-in-Name
-overflow_sub-s-in-Name c = search (outs, rules)
+pub returns-in_err-begin_text-clause-result_value : goal.returns-in_err-begin_text-clause-result_value
+returns-in_err-begin_text-clause-result_value c =
+    let p = err_from_is_err_and c.from_residual.result c.from_residual.ensures.1 in
+    rw (p.1, p.2) (search (outs, c.in_err-begin_text.was))
 
-pub read_message-requires : goal.read_message-requires
-read_message-requires c = search (outs, rules)
+pub returns-in-Name-clause-result_value : goal.returns-in-Name-clause-result_value
+returns-in-Name-clause-result_value c = search (outs, c.in_ok-begin_text.was)
 
-pub returns-in-Refused : goal.returns-in-Refused
-returns-in-Refused c = search outs
+pub returns-in-Name-clause-inside : goal.returns-in-Name-clause-inside
+returns-in-Name-clause-inside c = search (outs, c.in_ok-begin_text.was)
 
-pub returns-in-Name : goal.returns-in-Name
-returns-in-Name c = search outs
+pub returns-in-Message-clause-result_value : goal.returns-in-Message-clause-result_value
+returns-in-Message-clause-result_value c = search (outs, c.in_ok-begin_text.was)
 
-pub returns-in-Message : goal.returns-in-Message
-returns-in-Message c = search outs
-
-pub returns : goal.returns
-returns c = search outs
+pub returns-clause-result_value : goal.returns-clause-result_value
+returns-clause-result_value c = search outs
