@@ -11,31 +11,22 @@ ghost use Rattle.numeral.specs.field.Told.{told};
 ghost use Rattle.numeral.specs.placed.Known.{There};
 ghost use Rattle.numeral.specs.placed.Told.{told_number};
 
-use numeral::Num;
-use numeral::field::{NumAt, Run};
+use numeral::field::Run;
+use refusal::Refusal;
 
 // Crowns, the comma at d, and two digits.
-fn with_comma(f: &[u8], d: usize) -> Num
+fn with_comma(f: &[u8], d: usize) -> Result<u64, Refusal>
     requires { (d < length f.now) × (d ≡ seek comma f.now) }
     ensures { number result ≡ with_comma f.now }
 {
-    match numeral::read_digits(&f[0..d], 1, 11) {
-        Num::Refused(n) => Num::Refused(n),
-        Num::Value(crowns) => {
-            let from = d + 1;
-            match numeral::read_digits(&f[from..], 2, 2) {
-                Num::Refused(n) => Num::Refused(n),
-                Num::Value(rest) => {
-                    let sum = crowns * 100 + rest;
-                    Num::Value(sum)
-                }
-            }
-        }
-    }
+    let crowns = numeral::read_digits(&f[0..d], 1, 11)?;
+    let from = d + 1;
+    let rest = numeral::read_digits(&f[from..], 2, 2)?;
+    Ok(crowns * 100 + rest)
 }
 
 // An amount of 1 to `most` digits; if it `may`, one with a comma too.
-pub fn read_amount(f: &[u8], may: bool, most: usize) -> Num
+pub fn read_amount(f: &[u8], may: bool, most: usize) -> Result<u64, Refusal>
     requires { most ≤ 19 }
     ensures { number result ≡ read_amount may most f.now }
 {
@@ -50,58 +41,54 @@ pub fn read_amount(f: &[u8], may: bool, most: usize) -> Num
 }
 
 // The amount at `at`, by the bytes of the whole field.
-fn whole_amount(s: &[u8], at: usize, may: bool, most: usize) -> NumAt
+fn whole_amount(s: &[u8], at: usize, may: bool, most: usize) -> Result<Run, Refusal>
     requires { (at ≤ length s.now) × (most ≤ 19) }
     ensures { told result ≡ field_at (read_amount may most) s.now at }
 {
     let end = scan::line::field_end(s, at);
-    match read_amount(&s[at..end], may, most) {
-        Num::Value(v) => NumAt::Value(v, end),
-        Num::Refused(n) => NumAt::Refused(n),
-    }
+    let value = read_amount(&s[at..end], may, most)?;
+    Ok(Run { value, end })
 }
 
-// The amount v of an item, 6 where it is zero or over its limit.
-fn in_limit(v: u64, max: u64, end: usize) -> NumAt
-    ensures { told result ≡ ending end (pick (amount_proper max v) (value v) (fault 6)) }
+// The amount of an item, refused where it is zero or over its limit.
+fn in_limit(amount: Run, max: u64) -> Result<Run, Refusal>
+    ensures { told result ≡ ending amount.end (pick (amount_proper max amount.value) (value amount.value) (fault 6)) }
 {
-    if crate::amount_proper(max, v) {
-        return NumAt::Value(v, end);
+    if crate::amount_proper(max, amount.value) {
+        return Ok(amount);
     }
-    NumAt::Refused(6)
+    Err(Refusal::BadAmount)
 }
 
 // An item's amount at `at`, by the bytes of the whole field.
-fn other_amount(s: &[u8], at: usize, may: bool, most: usize, max: u64) -> NumAt
+fn other_amount(s: &[u8], at: usize, may: bool, most: usize, max: u64) -> Result<Run, Refusal>
     requires { (at ≤ length s.now) × (most ≤ 19) }
     ensures { told result ≡ field_at (read_item_amount may most max) s.now at }
 {
-    match whole_amount(s, at, may, most) {
-        NumAt::Value(v, end) => in_limit(v, max, end),
-        NumAt::Refused(n) => NumAt::Refused(n),
-    }
+    let amount = whole_amount(s, at, may, most)?;
+    in_limit(amount, max)
 }
 
 // An item's amount at `at`. Nearly all are digits alone; any other, one with a comma too, is left to the reader of whole fields.
-pub fn amount_at(s: &[u8], at: usize, may: bool, most: usize, max: u64) -> NumAt
+pub fn amount_at(s: &[u8], at: usize, may: bool, most: usize, max: u64) -> Result<Run, Refusal>
     requires { (at ≤ length s.now) × (most ≤ 19) }
     ensures { told result ≡ field_at (read_item_amount may most max) s.now at }
 {
-    let NumAt::Value(v, end) = numeral::field::number_at(s, at, 1, most) else {
+    let Ok(amount) = numeral::field::number_at(s, at, 1, most) else {
         return other_amount(s, at, may, most, max);
     };
-    in_limit(v, max, end)
+    in_limit(amount, max)
 }
 
 // A group's total at `at`, read as an item's amount is: digits alone first.
-pub fn total_at(s: &[u8], at: usize, may: bool) -> NumAt
+pub fn total_at(s: &[u8], at: usize, may: bool) -> Result<Run, Refusal>
     requires { at ≤ length s.now }
     ensures { told result ≡ field_at (read_total may) s.now at }
 {
-    let NumAt::Value(total, end) = numeral::field::number_at(s, at, 1, 14) else {
+    let Ok(total) = numeral::field::number_at(s, at, 1, 14) else {
         return whole_amount(s, at, may, 14);
     };
-    NumAt::Value(total, end)
+    Ok(total)
 }
 
 // An item's amount at `at`: two digits may follow a comma. What the sheet allows was judged.

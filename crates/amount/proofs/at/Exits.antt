@@ -4,6 +4,7 @@ use mathlib.Core.Bool.{Bool, true, false}
 use mathlib.Core.List.{List}
 use Prim.Native.Nat.{ℕ}
 use native.Mathlib.Omega.{arith}
+use Rattle.std.proofs.Common.{Result, Ok}
 use lib.Dec.{ltb}
 use lib.ListN.{length, take, drop}
 use lib.Seq.{take-length, drop-length}
@@ -12,14 +13,14 @@ use Rattle.base.specs.Pick.{pick}
 use Rattle.base.specs.Seek.{all, seek}
 use Rattle.base.proofs.Cases.{either, pick-false}
 use Rattle.base.proofs.Seek.{seek-over}
+use Rattle.refusal.specs.declared.Refusal.{Refusal}
 use Rattle.paper.specs.Read.{value, fault, given}
 use Rattle.paper.specs.Bytes.{is_digit, comma, field_of}
 use Rattle.paper.specs.Numerals.{digits}
 use Rattle.paper.specs.Amounts.{read_amount, read_total, amount_proper, read_item_amount}
 use Rattle.numeral.proofs.Sound.{digits-plain}
 use Rattle.numeral.specs.field.At.{At, found, ending, field_at}
-use Rattle.numeral.specs.declared.field.NumAt.{NumAt}
-use Rattle.numeral.specs.declared.field.NumAt.TheVariants.{Value}
+use Rattle.numeral.specs.declared.field.Run.{Run}
 use Rattle.numeral.specs.field.Told.{told}
 use Rattle.numeral.proofs.field.Steps.{found-value, found-end}
 use Rattle.numeral.proofs.field.Onward.{onward, given-at}
@@ -35,18 +36,18 @@ module _ (may : Bool) where
       pick-false _ _ o ∙ g
 
   -- n is what the reader of digits answered
-  module _ (s : List ℕ) (at : ℕ) (n : NumAt) where
-    pub digits-amount : (r : At ℕ) (most max : ℕ) → told n ≡ field_at (digits 1 most) s at → (v e : ℕ) → n ≡ Value v e → r ≡ ending e (pick (amount_proper max v) (value v) (fault 6)) → r ≡ field_at (read_item_amount may most max) s at
+  module _ (s : List ℕ) (at : ℕ) (n : Result Run Refusal) where
+    pub digits-amount : (r : At ℕ) (most max : ℕ) → told n ≡ field_at (digits 1 most) s at → (d : Run) → n ≡ Ok d → r ≡ ending d.end (pick (amount_proper max d.value) (value d.value) (fault 6)) → r ≡ field_at (read_item_amount may most max) s at
     unfolding field_at read_item_amount given
-    digits-amount r most max g v e f q =
-        let h : found v e ≡ field_at (digits 1 most) s at = rw f at g in
-        q ∙ rw (plain-amount most (field_of (drop at s)) v (found-value (digits 1 most) s at v e h), ← (found-end (digits 1 most) s at v e h))
+    digits-amount r most max g d f q =
+        let h : found d.value d.end ≡ field_at (digits 1 most) s at = rw f at g in
+        q ∙ rw (plain-amount most (field_of (drop at s)) d.value (found-value (digits 1 most) s at d.value d.end h), ← (found-end (digits 1 most) s at d.value d.end h))
 
-    pub digits-total : told n ≡ field_at (digits 1 14) s at → (v e : ℕ) → n ≡ Value v e → found v e ≡ field_at (read_total may) s at
+    pub digits-total : told n ≡ field_at (digits 1 14) s at → (d : Run) → n ≡ Ok d → found d.value d.end ≡ field_at (read_total may) s at
     unfolding field_at read_total ending
-    digits-total g v e f =
-        let h : found v e ≡ field_at (digits 1 14) s at = rw f at g in
-        rw (plain-amount 14 (field_of (drop at s)) v (found-value (digits 1 14) s at v e h), ← (found-end (digits 1 14) s at v e h))
+    digits-total g d f =
+        let h : found d.value d.end ≡ field_at (digits 1 14) s at = rw f at g in
+        rw (plain-amount 14 (field_of (drop at s)) d.value (found-value (digits 1 14) s at d.value d.end h), ← (found-end (digits 1 14) s at d.value d.end h))
 
 -- an amount that is read on
 pub item-field : (r : At ℕ) (may : Bool) (most max : ℕ) (s : List ℕ) (at : ℕ)
