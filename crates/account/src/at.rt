@@ -1,6 +1,7 @@
 // Accounts in a line: judged at their place by the sums of their digits, and taken where the line was judged before.
 ghost use Rattle.std.specs.Prelude.{◌≡◌, false, ℕ, ◌+◌, ◌≤◌, ◌<◌, length, drop};
 ghost use Rattle.base.specs.Pick.{pick};
+ghost use Rattle.refusal.specs.Numbers.{number_of};
 ghost use Rattle.paper.specs.Read.{value};
 ghost use Rattle.paper.specs.Bytes.{field_of, null};
 ghost use Rattle.paper.specs.Numerals.{digits};
@@ -16,7 +17,7 @@ ghost use Rattle.account.specs.at.Told.{told_payer, told_account};
 ghost use Rattle.account.specs.at.Numbers.{prefix_and_base};
 ghost use Rattle.numeral.specs.placed.Known.{There};
 
-use numeral::field::Passed;
+use refusal::Refusal;
 
 // Digits that were read: their number, their sum by doubling, and the place behind them.
 #[derive(Clone, Copy)]
@@ -32,26 +33,20 @@ fn sum_run(s: &[u8], at: usize, most: usize) -> Sums
     ensures { (result.end ≡ at + length (run most (drop at s.now))) × (digits 0 most (run most (drop at s.now)) ≡ value result.value) × (result.sum ≡ doubled 19 result.value) }
 {
     let stop = numeral::field::stop_of(s.len(), at, most);
-    let mut v: u64 = 0;
+    let mut value: u64 = 0;
     let mut sum: u64 = 0;
-    let mut i = at;
-    while i < stop {
-        let d = numeral::field::worth(s[i]);
+    for end in at..stop {
+        let d = numeral::field::worth(s[end]);
         if 9 < d {
-            return Sums {
-                value: v,
-                sum: sum,
-                end: i,
-            };
+            return Sums { value, sum, end };
         }
-        v = v * 10 + d;
+        value = value * 10 + d;
         sum = crate::next_digit(sum, d);
-        i += 1;
     }
     Sums {
-        value: v,
-        sum: sum,
-        end: i,
+        value,
+        sum,
+        end: stop,
     }
 }
 
@@ -70,18 +65,18 @@ fn has_prefix(s: &[u8], at: usize, end: usize) -> bool
     s[end] == 45
 }
 
-// An account by the sums of a prefix and a base, 5 where they break the rule.
-fn judge_sums(p: u64, b: u64, end: usize) -> Passed
+// An account by the sums of a prefix and a base, refused where they break the rule.
+fn judge_sums(p: u64, b: u64, end: usize) -> Result<usize, Refusal>
     ensures { (x y : ℕ) → x < 10000000000 → p ≡ doubled 19 x → y < 10000000000 → b ≡ doubled 19 y → passed result ≡ keeping nothing (ending end (ruled x y)) }
 {
     if crate::sums_ok(p, b) {
-        return Passed::At(end);
+        return Ok(end);
     }
-    Passed::Refused(5)
+    Err(Refusal::BadAccount)
 }
 
 // The base behind the dash at `at`, and behind a prefix, whose sum is p.
-fn judge_base(s: &[u8], at: usize, p: u64, least: usize) -> Passed
+fn judge_base(s: &[u8], at: usize, p: u64, least: usize) -> Result<usize, Refusal>
     requires { at < length s.now }
     ensures { (x : ℕ) → x < 10000000000 → p ≡ doubled 19 x → passed result ≡ keeping nothing (field_at (with_base least x) s.now (at + 1)) }
 {
@@ -90,16 +85,16 @@ fn judge_base(s: &[u8], at: usize, p: u64, least: usize) -> Passed
     let end = got.end;
     if numeral::field::ends(s, end) {
         if end - from < least {
-            return Passed::Refused(4);
+            return Err(Refusal::BadField);
         }
         return judge_sums(p, got.sum, end);
     }
-    Passed::Refused(4)
+    Err(Refusal::BadField)
 }
 
 // More than ten digits with no dash, from `at` to `end`: where a sheet takes them (`joined`) they are a prefix and a base. Few have so
 // many, so only these are read again for their number.
-fn judge_long(s: &[u8], at: usize, joined: bool, end: usize) -> Passed
+fn judge_long(s: &[u8], at: usize, joined: bool, end: usize) -> Result<usize, Refusal>
     requires { at ≤ length s.now }
     ensures { (v least n : ℕ) → digits 0 16 (run 16 (drop at s.now)) ≡ value v → 10 < n → passed result ≡ keeping nothing (ending end (undashed joined least n v)) }
 {
@@ -107,15 +102,15 @@ fn judge_long(s: &[u8], at: usize, joined: bool, end: usize) -> Passed
         let got = numeral::field::digit_run(s, at, 16);
         let v = got.value;
         if crate::account_ok(v / 10000000000, v % 10000000000) {
-            return Passed::At(end);
+            return Ok(end);
         }
-        return Passed::Refused(5);
+        return Err(Refusal::BadAccount);
     }
-    Passed::Refused(4)
+    Err(Refusal::BadField)
 }
 
 // The account at `at`. The sums of its digits decide, so no number is made of them.
-pub fn judge_account(s: &[u8], at: usize, joined: bool, least: usize) -> Passed
+pub fn judge_account(s: &[u8], at: usize, joined: bool, least: usize) -> Result<usize, Refusal>
     requires { at ≤ length s.now }
     ensures { passed result ≡ keeping nothing (field_at (read_account joined least) s.now at) }
 {
@@ -127,21 +122,21 @@ pub fn judge_account(s: &[u8], at: usize, joined: bool, least: usize) -> Passed
             return judge_long(s, at, joined, end);
         }
         if n < least {
-            return Passed::Refused(4);
+            return Err(Refusal::BadField);
         }
         return judge_sums(0, got.sum, end);
     }
     if has_prefix(s, at, end) {
         return judge_base(s, end, got.sum, least);
     }
-    Passed::Refused(4)
+    Err(Refusal::BadField)
 }
 
-// What judging keeps of a group's payer: whether it is nobody, and where the field ends; or the refusal's number.
+// What judging keeps of a group's payer: whether it is nobody, and where the field ends.
 #[derive(Clone, Copy)]
-pub enum PayerAt {
-    At(bool, usize),
-    Refused(u64),
+pub struct PayerEnd {
+    pub nobody: bool,
+    pub end: usize,
 }
 
 // Is the field at `at` empty, where that is looked for?
@@ -155,16 +150,16 @@ fn left_empty(s: &[u8], at: usize, empty: bool) -> bool
     false
 }
 
-// A group's payer at `at` whose field is no account, which n refuses: nobody where it has only zeros (`allzero`).
-fn zeros_at(s: &[u8], at: usize, allzero: bool, n: u64) -> PayerAt
+// A group's payer at `at` whose field is refused as an account: nobody where it has only zeros (`allzero`).
+fn zeros_at(s: &[u8], at: usize, allzero: bool, refusal: Refusal) -> Result<PayerEnd, Refusal>
     requires { at ≤ length s.now }
-    ensures { told_payer result ≡ keeping is_nobody (zeros_at allzero n s.now at) }
+    ensures { told_payer result ≡ keeping is_nobody (zeros_at allzero (number_of refusal) s.now at) }
 {
     let end = scan::line::field_end(s, at);
     if crate::only_zeros(&s[at..end], allzero) {
-        return PayerAt::At(true, end);
+        return Ok(PayerEnd { nobody: true, end });
     }
-    PayerAt::Refused(n)
+    Err(refusal)
 }
 
 // A group's payer at `at`: nobody if the field is empty (`empty`) or has only zeros (`allzero`), else an account. What is an account does
@@ -176,16 +171,19 @@ pub fn judge_payer(
     allzero: bool,
     joined: bool,
     least: usize,
-) -> PayerAt
+) -> Result<PayerEnd, Refusal>
     requires { at ≤ length s.now }
     ensures { told_payer result ≡ keeping is_nobody (field_at (read_payer empty allzero joined least) s.now at) }
 {
     if left_empty(s, at, empty) {
-        return PayerAt::At(true, at);
+        return Ok(PayerEnd {
+            nobody: true,
+            end: at,
+        });
     }
     match judge_account(s, at, joined, least) {
-        Passed::At(end) => PayerAt::At(false, end),
-        Passed::Refused(n) => zeros_at(s, at, allzero, n),
+        Ok(end) => Ok(PayerEnd { nobody: false, end }),
+        Err(refusal) => zeros_at(s, at, allzero, refusal),
     }
 }
 

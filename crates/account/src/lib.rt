@@ -119,14 +119,7 @@ pub fn is_nobody(prefix: u64, base: u64) -> bool
 fn all_zero(f: &[u8]) -> bool
     ensures { result ≡ all is_zero f.now }
 {
-    let mut i: usize = 0;
-    while i < f.len() {
-        if f[i] != 48 {
-            return false;
-        }
-        i += 1;
-    }
-    true
+    f.iter().all(|b| *b == 48)
 }
 
 // Are they 1 to `most` zeros?

@@ -14,7 +14,7 @@ use Rattle.account.specs.Doubled.{doubled, sums_ok}
 use Rattle.account.proofs.Doubled.{doubled-none, doubled-le, doubled-more}
 use Rattle.account.proofs.Rule.{sums-of}
 use Rattle.numeral.specs.field.Digits.{run}
-use Rattle.numeral.proofs.field.Turns.{Reads, fits_more}
+use Rattle.numeral.proofs.field.Turns.{Reads, reads-long, ahead-end, fits_more}
 use Rattle.numeral.proofs.field.Number.{run_inside}
 use Rattle.account.specs.at.Parts.{Short, dashed}
 use Rattle.account.proofs.at.Digits.{recount}
@@ -38,7 +38,11 @@ module _ (s : List ℕ) (at most stop v i : ℕ) (inv : Reads s at most stop v i
       let b : v < 10 ^ 18 = omega (arith, inv.small, ten-le (i - at) 18 (omega arith)) in
       g ∙ sym (doubled-more 18 v x b (omega arith) ∙ rw (← e))
 
-pub ruleset sums = (sum-start, sum_fits, sum-next)
+-- where no byte stopped it, it read up to its stop
+pub run-stop : (s : List ℕ) (at most stop v i : ℕ) → Reads s at most stop v i → stop ≤ i → stop ≡ at + length (run most (drop at s))
+run-stop s at most stop v i inv l = let t = inv.to in omega (arith, reads-long s at most stop v i inv (ahead-end s at most stop v i inv l))
+
+pub ruleset sums = (sum-start, sum_fits, sum-next, run-stop)
 
 -- ---- numbers of ten digits or fewer
 

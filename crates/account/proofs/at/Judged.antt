@@ -4,9 +4,11 @@ use mathlib.Core.Bool.{Bool, true, false}
 use mathlib.Core.List.{List}
 use Prim.Native.Nat.{ℕ, ◌+◌, ◌-◌, ◌/◌, ◌%◌, ◌≤◌, ◌<◌}
 use native.Mathlib.Omega.{arith}
+use Rattle.std.proofs.Common.{Result}
 use lib.ListN.{length, drop}
 use borrow.Author.Tests.{lt-ltb, le-ltb}
 use Rattle.base.proofs.Cases.{pick_true, pick-false}
+use Rattle.refusal.specs.declared.Refusal.{Refusal}
 use Rattle.paper.specs.Read.{value, fault}
 use Rattle.paper.specs.Bytes.{field_of, null}
 use Rattle.paper.specs.Numerals.{digits}
@@ -21,12 +23,11 @@ use Rattle.account.specs.Parts.{with_base}
 use Rattle.account.proofs.at.Doubling.{sum-start, base-small, run_short, prefix-small, rule-by-sums}
 use Rattle.account.proofs.at.Exits.{base-value, base_short, base-long, digits-account, dashed-account}
 use Rattle.numeral.specs.field.Kept.{keeping, nothing}
-use Rattle.numeral.specs.declared.field.Passed.{Passed}
 use Rattle.numeral.specs.field.Told.{passed}
 use Rattle.account.proofs.at.None.{other-account}
 
 -- the answer m is that of a prefix with the sum p and a base with the sum b
-abbrev pub Ruled : ℕ → ℕ → ℕ → Passed → Type 0
+abbrev pub Ruled : ℕ → ℕ → ℕ → Result ℕ Refusal → Type 0
 Ruled p b e m = (x y : ℕ) → x < 10000000000 → p ≡ doubled 19 x → y < 10000000000 → b ≡ doubled 19 y → passed m ≡ keeping nothing (ending e (ruled x y))
 
 -- ---- by the sums: t is whether they keep the rule
@@ -43,7 +44,7 @@ module _ (p b e : ℕ) (t : Bool) (k : t ≡ sums_ok p b) (x y : ℕ) (l : x < 1
 -- ---- a base from `at` on, behind a prefix x: its digits end at e, and t is whether the field ends there
 
 module _ (least x : ℕ) (s : List ℕ) (at e v : ℕ) (h : e ≡ at + length (run 10 (drop at s))) (t : Bool) (k : t ≡ null (field_of (drop e s))) where
-  pub base-judged : (m : Passed) (p b : ℕ) → t ≡ true → digits 0 10 (run 10 (drop at s)) ≡ value v → b ≡ doubled 19 v → least ≤ e - at → Ruled p b e m
+  pub base-judged : (m : Result ℕ Refusal) (p b : ℕ) → t ≡ true → digits 0 10 (run 10 (drop at s)) ≡ value v → b ≡ doubled 19 v → least ≤ e - at → Ruled p b e m
       → x < 10000000000 → p ≡ doubled 19 x → passed m ≡ keeping nothing (field_at (with_base least x) s at)
   base-judged m p b y g f l j c d =
       j x v c d (base-small s at e v g) f ∙ ap (keeping nothing) (base-value least x s at e v h t k (ending e (ruled x v)) y g l refl)
@@ -68,14 +69,14 @@ module _ (s : List ℕ) (at e v : ℕ) (h : e ≡ at + length (run 16 (drop at s
     unfolding keeping ending undashed
     digits-short l = rw (← digits-field) (rw (pick-false _ _ (le-ltb 10 (e - at) n), pick_true _ _ (lt-ltb (e - at) least l)))
 
-    pub digits-judged : (m : Passed) (b : ℕ) → b ≡ doubled 19 v → least ≤ e - at → Ruled 0 b e m → passed m ≡ keeping nothing (field_at (read_account joined least) s at)
+    pub digits-judged : (m : Result ℕ Refusal) (b : ℕ) → b ≡ doubled 19 v → least ≤ e - at → Ruled 0 b e m → passed m ≡ keeping nothing (field_at (read_account joined least) s at)
     unfolding undashed
     digits-judged m b f l j =
         let u : undashed joined least (e - at) v ≡ ruled 0 v = pick-false _ _ (le-ltb 10 (e - at) n) ∙ pick-false _ _ (le-ltb (e - at) least l) in
         j 0 v (omega arith) sum-start ((run_short s at e v h g).small n) f ∙ ap (λ a. keeping nothing (ending e a)) (sym u) ∙ ap (keeping nothing) digits-field
 
   -- it does, behind more than ten, which are judged as m
-  pub digits_long : t ≡ true → 10 < e - at → (m : Passed)
+  pub digits_long : t ≡ true → 10 < e - at → (m : Result ℕ Refusal)
       → ((v least n : ℕ) → digits 0 16 (run 16 (drop at s)) ≡ value v → 10 < n → passed m ≡ keeping nothing (ending e (undashed joined least n v)))
       → passed m ≡ keeping nothing (field_at (read_account joined least) s at)
   digits_long y l m j = j v least (e - at) g l ∙ ap (keeping nothing) (digits-account s at e v h g t k joined least (ending e (undashed joined least (e - at) v)) y refl)
@@ -86,7 +87,7 @@ module _ (s : List ℕ) (at e v : ℕ) (h : e ≡ at + length (run 16 (drop at s
   other-judged y u d n = ap (keeping nothing) (other-account s at e v h t k y u d joined least n)
 
   -- a dash follows, and the base is judged as m
-  pub dashed-judged : t ≡ false → at ≤ length s → (u : Bool) → u ≡ dashed s at e → u ≡ true → (m : Passed) (p : ℕ) → p ≡ doubled 19 v
+  pub dashed-judged : t ≡ false → at ≤ length s → (u : Bool) → u ≡ dashed s at e → u ≡ true → (m : Result ℕ Refusal) (p : ℕ) → p ≡ doubled 19 v
       → ((x : ℕ) → x < 10000000000 → p ≡ doubled 19 x → passed m ≡ keeping nothing (field_at (with_base least x) s (e + 1)))
       → passed m ≡ keeping nothing (field_at (read_account joined least) s at)
   dashed-judged y a u d w m p f j =

@@ -5,8 +5,8 @@ use Rattle.account.proofs.at.judge_payer.Goals as goal
 pub returns-then-left_empty : goal.returns-then-left_empty
 returns-then-left_empty c = search payers
 
-pub returns-in-At : goal.returns-in-At
-returns-in-At c = search payers
+pub returns-in-Ok : goal.returns-in-Ok
+returns-in-Ok c = search payers
 
-pub returns-in-Refused : goal.returns-in-Refused
-returns-in-Refused c = search payers
+pub returns-in-Err : goal.returns-in-Err
+returns-in-Err c = search payers
