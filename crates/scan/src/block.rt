@@ -26,12 +26,10 @@ fn high_block(s: &[u8], at: usize) -> bool
     ensures { result ≡ true → all is_high (take 16 (drop at s.now)) ≡ true }
 {
     let mut high = true;
-    let mut j: usize = 0;
-    while j < 16 {
+    for j in 0..16 {
         if s[at + j] < 14 {
             high = false;
         }
-        j += 1;
     }
     high
 }
@@ -103,8 +101,7 @@ fn text_block(s: &[u8], at: usize) -> bool
     ensures { result ≡ true → all is_text (take 16 (drop at s.now)) ≡ true }
 {
     let mut text = true;
-    let mut j: usize = 0;
-    while j < 16 {
+    for j in 0..16 {
         let b = s[at + j];
         if b < 32 {
             text = false;
@@ -112,7 +109,6 @@ fn text_block(s: &[u8], at: usize) -> bool
         if b == 127 {
             text = false;
         }
-        j += 1;
     }
     text
 }
@@ -144,12 +140,10 @@ pub fn all_other(s: &[u8], at: usize, size: usize, b: u8) -> bool
     ensures { result ≡ true → all (is_other b) (take size (drop at s.now)) ≡ true }
 {
     let mut other = true;
-    let mut j: usize = 0;
-    while j < size {
+    for j in 0..size {
         if s[at + j] == b {
             other = false;
         }
-        j += 1;
     }
     other
 }

@@ -9,12 +9,10 @@ pub fn find_byte(s: &[u8], from: usize, b: u8) -> usize
     requires { from ≤ length s.now }
     ensures { result ≡ from + seek (b ∷ []) (drop from s.now) }
 {
-    let mut i = skip_other(s, from, b);
-    while i < s.len() {
+    for i in skip_other(s, from, b)..s.len() {
         if s[i] == b {
             return i;
         }
-        i += 1;
     }
-    i
+    s.len()
 }

@@ -21,8 +21,7 @@ pub fn next_line(f: &[u8], at: usize) -> Cut
     requires { at < length f.now }
     ensures { Cuts f.now at result }
 {
-    let mut i = skip_high(f, at);
-    while i < f.len() {
+    for i in skip_high(f, at)..f.len() {
         let b = f[i];
         if b == 13 {
             return Cut {
@@ -36,9 +35,11 @@ pub fn next_line(f: &[u8], at: usize) -> Cut
                 next: i + 1,
             };
         }
-        i = i + 1;
     }
-    Cut { stop: i, next: i }
+    Cut {
+        stop: f.len(),
+        next: f.len(),
+    }
 }
 
 // Where the next line starts when this one ends with the CR at `at`: an LF right behind belongs to it.
@@ -60,14 +61,12 @@ pub fn field_end(s: &[u8], at: usize) -> usize
     requires { at ≤ length s.now }
     ensures { result ≡ at + seek space (drop at s.now) }
 {
-    let mut stop = at;
-    while stop < s.len() {
+    for stop in at..s.len() {
         if s[stop] == 32 {
             return stop;
         }
-        stop = stop + 1;
     }
-    stop
+    s.len()
 }
 
 // How many spaces a line has.
@@ -75,12 +74,10 @@ pub fn spaces(s: &[u8]) -> usize
     ensures { result ≡ space_count s.now }
 {
     let mut n: usize = 0;
-    let mut i: usize = 0;
-    while i < s.len() {
-        if s[i] == 32 {
+    for b in s {
+        if *b == 32 {
             n = n + 1;
         }
-        i = i + 1;
     }
     n
 }

@@ -24,11 +24,8 @@ pub fn all_text(s: &[u8], from: usize) -> bool
     requires { from ≤ length s.now }
     ensures { result ≡ all is_text (drop from s.now) }
 {
-    let mut i = skip_text(s, from);
-    while i < s.len() {
-        if is_text(s[i]) {
-            i += 1;
-        } else {
+    for i in skip_text(s, from)..s.len() {
+        if !is_text(s[i]) {
             return false;
         }
     }
@@ -56,11 +53,8 @@ pub fn all_clean(s: &[u8], from: usize) -> bool
     if ends_clean(s, from) {
         return true;
     }
-    let mut i = skip_clean(s, from);
-    while i < s.len() {
-        if is_clean(s[i]) {
-            i += 1;
-        } else {
+    for i in skip_clean(s, from)..s.len() {
+        if !is_clean(s[i]) {
             return false;
         }
     }
@@ -73,14 +67,11 @@ pub fn starts_at(s: &[u8], at: usize, pat: &[u8]) -> bool
     ensures { result ≡ starts pat.now (drop at s.now) }
 {
     let rest = s.len() - at;
-    let mut j = 0;
-    while j < pat.len() {
+    for j in 0..pat.len() {
         if rest <= j {
             return false;
         }
-        if s[at + j] == pat[j] {
-            j += 1;
-        } else {
+        if s[at + j] != pat[j] {
             return false;
         }
     }
@@ -92,23 +83,17 @@ pub fn find(s: &[u8], from: usize, pat: &[u8]) -> usize
     requires { from ≤ length s.now }
     ensures { result ≡ from + seek pat.now (drop from s.now) }
 {
-    let mut at = from;
-    while at < s.len() {
+    for at in from..s.len() {
         if starts_at(s, at, pat) {
             return at;
         }
-        at += 1;
     }
-    at
+    s.len()
 }
 
 // The pattern stands nowhere in s.
 pub fn lacks_pattern(s: &[u8], pat: &[u8]) -> bool
     ensures { result ≡ lacks pat.now s.now }
 {
-    let at = find(s, 0, pat);
-    if at == s.len() {
-        return true;
-    }
-    false
+    find(s, 0, pat) == s.len()
 }

@@ -3,6 +3,7 @@ use mathlib.Core.Path.{◌≡◌, sym, ◌∙◌}
 use mathlib.Core.Bool.{true, false}
 use mathlib.Core.List.{List, [], ◌∷◌}
 use Prim.Native.Nat.{ℕ, ◌+◌, ◌≤◌, ◌<◌}
+use native.Mathlib.Omega.{arith}
 use lib.Dec.{eqb}
 use lib.ListN.{length, get_or, drop}
 use lib.Seq.{drop-cons}
@@ -25,7 +26,7 @@ module _ (s : List ℕ) (from i b : ℕ) (inv : from + seek (b ∷ []) (drop fro
   unfolding pick
   miss h e = inv ∙ seek-next (b ∷ []) s i h (starts-byte b s i h ∙ simp (ne_eqb _ _ e))
 
-  pub past : length s ≤ i → i ≡ from + seek (b ∷ []) (drop from s)
-  past h = sym (inv ∙ seek-end (b ∷ []) s i h)
+  pub past : i ≤ length s → length s ≤ i → length s ≡ from + seek (b ∷ []) (drop from s)
+  past k h = let e : length s ≡ i = omega arith in e ∙ sym (inv ∙ seek-end (b ∷ []) s i h)
 
 pub ruleset turns = (hit, miss, past)

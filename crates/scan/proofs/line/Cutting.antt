@@ -1,5 +1,5 @@
 -- One line cut off a file: what `next_line` knows while it reads, and where it stops. Assumes nothing.
-use mathlib.Core.Path.{◌≡◌, refl, sym, ap, ◌∙◌}
+use mathlib.Core.Path.{◌≡◌, refl, sym, ap, subst, ◌∙◌}
 use mathlib.Core.Bool.{true, false}
 use mathlib.Core.List.{List, [], ◌∷◌, ◌++◌}
 use Prim.Native.Nat.{ℕ, suc, ◌+◌, ◌-◌, ◌≤◌, ◌<◌}
@@ -124,9 +124,9 @@ module _ (f : List ℕ) (at i : ℕ) (inv : Passed f at i) where
   cut-cr n l e q = ended_at n (rw q (ends-cr f i l e))
 
   -- the last line, which lacks its end
-  pub cut-last : at < length f → length f ≤ i → Cuts f at (cut_at i i)
+  last_at : at < length f → length f ≤ i → Cuts f at (cut_at i i)
   unfolding lines_from
-  cut-last l h =
+  last_at l h =
       let e : take (i - at) (drop at f) ≡ drop at f = take_all (i - at) (drop at f) (omega (arith, length-drop at f)) in
       let c = drop-cons f at 0 l in
       record {
@@ -136,5 +136,12 @@ module _ (f : List ℕ) (at i : ℕ) (inv : Passed f at i) where
         to = omega arith;
         inside = inv.1;
       }
+
+  pub cut-last : at < length f → length f ≤ i → Cuts f at (cut_at (length f) (length f))
+  cut-last l h =
+      let b = inv.1 in
+      let n : length f ≡ i = omega arith in
+      let P : ℕ → Type 0 = λ k. Cuts f at (cut_at k k) in
+      subst P (sym n) (last_at l h)
 
 pub ruleset cuts = (cut-lf, cut-cr, cut-last)

@@ -34,8 +34,8 @@ module _ (s : List ℕ) (at i : ℕ) (inv : at + seek space (drop at s) ≡ i + 
   pub miss : i < length s → (get_or s i 0 ≡ 32 → ⊥) → at + seek space (drop at s) ≡ i + 1 + seek space (drop (i + 1) s)
   miss l n = inv ∙ seek-next space s i l (starts-space s i l ∙ ne_eqb _ _ n)
 
-  pub past : length s ≤ i → i ≡ at + seek space (drop at s)
-  past h = sym (inv ∙ seek-end space s i h)
+  pub past : i ≤ length s → length s ≤ i → length s ≡ at + seek space (drop at s)
+  past k h = let e : length s ≡ i = omega arith in e ∙ sym (inv ∙ seek-end space s i h)
 
 pub ruleset turns = (hit, miss, past)
 

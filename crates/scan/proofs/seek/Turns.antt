@@ -6,6 +6,7 @@ use Prim.Native.Nat.{ℕ, ◌+◌, ◌-◌, ◌≤◌, ◌<◌}
 use native.Mathlib.Nat.{add-zero, add_assoc}
 use native.Mathlib.Numerals.{add-one}
 use native.Mathlib.Omega.{arith}
+use lib.Dec.{eqb}
 use lib.ListN.{length, get_or, drop, drop_of_length-le}
 use lib.Seq.{drop-cons}
 use borrow.Author.Tests.{eq-eqb, ne_eqb, le-leb, lt-ltb, le-ltb}
@@ -107,19 +108,13 @@ module _ (pat s : List ℕ) (from i : ℕ) (inv : from + seek pat (drop from s) 
     pub seek-miss : t ≡ false → from + seek pat (drop from s) ≡ i + 1 + seek pat (drop (i + 1) s)
     seek-miss e = inv ∙ seek-next pat s i h (sym g ∙ e)
 
-  pub seek-past : length s ≤ i → i ≡ from + seek pat (drop from s)
-  seek-past h = sym (inv ∙ seek-end pat s i h)
+  pub seek-past : i ≤ length s → length s ≤ i → length s ≡ from + seek pat (drop from s)
+  seek-past k h = let e : length s ≡ i = omega arith in e ∙ sym (inv ∙ seek-end pat s i h)
 
 pub ruleset seeks = (seek_hit, seek-miss, seek-past)
 
 -- lacks_pattern: e is what find answered
 module _ (pat s : List ℕ) (e : ℕ) (g : e ≡ 0 + seek pat s) where
-  pub lacks-yes : e ≡ length s → true ≡ lacks pat s
+  pub lacks-told : eqb e (length s) ≡ lacks pat s
   unfolding lacks
-  lacks-yes h = sym (eq-eqb (seek pat s) (length s) (omega arith))
-
-  pub lacks-not : (e ≡ length s → ⊥) → false ≡ lacks pat s
-  unfolding lacks
-  lacks-not h = sym (ne_eqb (seek pat s) (length s) (λ k. h (omega arith)))
-
-pub ruleset lackings = (lacks-yes, lacks-not)
+  lacks-told = let z : e ≡ seek pat s = omega arith in rw z

@@ -10,31 +10,17 @@ use Rattle.scan.proofs.block.all_other.Goals.{then-s-at, else-s-at}
 
 pub loop-j-init : goal.loop-j-init
 unfolding all
-loop-j-init c = (omega arith, λ e. refl)
-
-pub overflow_add-at : goal.overflow_add-at
-overflow_add-at c = omega arith
-
-pub bounds-s-at : goal.bounds-s-at
-bounds-s-at c = omega arith
-
-pub overflow_add-j : goal.overflow_add-j
-overflow_add-j c = omega arith
-
-pub loop-j-smaller : goal.loop-j-smaller
-loop-j-smaller c = omega arith
+loop-j-init c = λ e. refl
 
 pub loop-j-preserved : goal.loop-j-preserved
 loop-j-preserved c = let s = c.args.s.now in
     let at = c.args.at in
     let b = c.args.b in
-    let j = c.loop-j.j in (
-      omega arith,
-      elim c.if-s-at.branch [
-        | then-s-at w ↦ pass-not (is_other b) s at (j + 1) _ w.other-is
-        | else-s-at w ↦ pass-more (is_other b) s at j _ _ w.other-is (omega arith) c.loop-j.invariant.1 (is-other b _ w.if-s-at.false)
-      ],
-    )
+    let j = c.loop-j.j in
+    elim c.if-s-at.branch [
+      | then-s-at w ↦ pass-not (is_other b) s at (j + 1) _ w.other-is
+      | else-s-at w ↦ pass-more (is_other b) s at j _ _ w.other-is (omega arith) c.loop-j.invariant (is-other b _ w.if-s-at.false)
+    ]
 
 pub returns : goal.returns
 returns c = search pass-end

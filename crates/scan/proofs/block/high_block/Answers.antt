@@ -10,30 +10,16 @@ use Rattle.scan.proofs.block.high_block.Goals.{then-s-at-lt14, else-s-at-lt14}
 
 pub loop-j-init : goal.loop-j-init
 unfolding all
-loop-j-init c = (omega arith, λ e. refl)
-
-pub overflow_add-at : goal.overflow_add-at
-overflow_add-at c = omega arith
-
-pub bounds-s-at : goal.bounds-s-at
-bounds-s-at c = omega arith
-
-pub overflow_add-j : goal.overflow_add-j
-overflow_add-j c = omega arith
-
-pub loop-j-smaller : goal.loop-j-smaller
-loop-j-smaller c = omega arith
+loop-j-init c = λ e. refl
 
 pub loop-j-preserved : goal.loop-j-preserved
 loop-j-preserved c = let s = c.args.s.now in
     let at = c.args.at in
-    let j = c.loop-j.j in (
-      omega arith,
-      elim c.if-s-at-lt14.branch [
-        | then-s-at-lt14 w ↦ pass-not is_high s at (j + 1) _ w.high-is
-        | else-s-at-lt14 w ↦ pass-more is_high s at j _ _ w.high-is (omega arith) c.loop-j.invariant.1 (is-high _ w.if-s-at-lt14.false)
-      ],
-    )
+    let j = c.loop-j.j in
+    elim c.if-s-at-lt14.branch [
+      | then-s-at-lt14 w ↦ pass-not is_high s at (j + 1) _ w.high-is
+      | else-s-at-lt14 w ↦ pass-more is_high s at j _ _ w.high-is (omega arith) c.loop-j.invariant (is-high _ w.if-s-at-lt14.false)
+    ]
 
 pub returns : goal.returns
 returns c = search pass-end

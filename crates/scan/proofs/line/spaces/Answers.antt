@@ -2,14 +2,14 @@
 use native.Mathlib.Omega.{arith}
 use Rattle.scan.proofs.line.Fields.{counts, count-space, count-other}
 use Rattle.scan.proofs.line.spaces.Goals as goal
-use Rattle.scan.proofs.line.spaces.Goals.{then-s-i-eq32, else-s-i-eq32}
+use Rattle.scan.proofs.line.spaces.Goals.{then-b-eq32, else-b-eq32}
 
-pub loop-i-preserved : goal.loop-i-preserved
-loop-i-preserved c = let inv = c.loop-i.invariant in
-    let within = c.loop-i-test.true in
-    elim c.if-s-i-eq32.branch [
-      | then-s-i-eq32 w ↦ (omega arith, omega arith, rw w.n-is (count-space _ _ _ inv.2 within w.if-s-i-eq32.true))
-      | else-s-i-eq32 w ↦ (omega arith, omega arith, rw w.n-is (count-other _ _ _ inv.2 within w.if-s-i-eq32.false))
+pub loop-b-preserved : goal.loop-b-preserved
+loop-b-preserved c = let inv = c.loop-b.invariant in
+    let within = c.loop-b-test.true in
+    elim c.if-b-eq32.branch [
+      | then-b-eq32 w ↦ (omega arith, rw w.n-is (count-space _ _ _ inv.1 within w.if-b-eq32.true))
+      | else-b-eq32 w ↦ (omega arith, rw w.n-is (count-other _ _ _ inv.1 within w.if-b-eq32.false))
     ]
 
 pub returns : goal.returns

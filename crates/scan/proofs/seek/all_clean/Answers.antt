@@ -8,25 +8,13 @@ pub returns-then-ends_clean : goal.returns-then-ends_clean
 returns-then-ends_clean c = search told
 
 pub loop-i-init : goal.loop-i-init
-loop-i-init c = (c.skip_clean-i.ensures.inside, search all-skipped)
-
-pub bounds-s-i : goal.bounds-s-i
-bounds-s-i c = search (alls, rules)
-
-pub is_clean-requires : goal.is_clean-requires
-is_clean-requires c = search (alls, rules)
-
-pub overflow_add-i : goal.overflow_add-i
-overflow_add-i c = search (alls, rules)
-
-pub loop-i-smaller : goal.loop-i-smaller
-loop-i-smaller c = search (alls, rules)
+loop-i-init c = search all-skipped
 
 pub loop-i-preserved : goal.loop-i-preserved
 loop-i-preserved c = search (alls, rules)
 
-pub returns-else-is_clean : goal.returns-else-is_clean
-returns-else-is_clean c = search (alls)
+pub returns-then-not-is_clean : goal.returns-then-not-is_clean
+returns-then-not-is_clean c = search (alls)
 
 pub returns : goal.returns
 returns c = search (alls)

@@ -7,7 +7,4 @@ use Rattle.paper.specs.Bytes.{is_clean}
 use Rattle.scan.proofs.seek.all_clean.Given as goal
 
 abbrev pub invariant-loop-i : goal.invariant-loop-i
-invariant-loop-i l = (l.i ≤ length l.s) × (all is_clean (drop l.from l.s) ≡ all is_clean (drop l.i l.s))
-
-abbrev pub decreases-loop-i : goal.decreases-loop-i
-decreases-loop-i l = length l.s - l.i
+invariant-loop-i l = (all is_clean (drop l.from l.s) ≡ all is_clean (drop l.i l.s))

@@ -7,7 +7,4 @@ use Rattle.paper.specs.Bytes.{is_text}
 use Rattle.scan.proofs.seek.all_text.Given as goal
 
 abbrev pub invariant-loop-i : goal.invariant-loop-i
-invariant-loop-i l = (l.i ≤ length l.s) × (all is_text (drop l.from l.s) ≡ all is_text (drop l.i l.s))
-
-abbrev pub decreases-loop-i : goal.decreases-loop-i
-decreases-loop-i l = length l.s - l.i
+invariant-loop-i l = (all is_text (drop l.from l.s) ≡ all is_text (drop l.i l.s))

@@ -7,6 +7,3 @@ use Rattle.scan.proofs.seek.find.Given as goal
 
 abbrev pub invariant-loop-at : goal.invariant-loop-at
 invariant-loop-at l = (l.at ≤ length l.s) × (l.from + seek l.pat (drop l.from l.s) ≡ l.at + seek l.pat (drop l.at l.s))
-
-abbrev pub decreases-loop-at : goal.decreases-loop-at
-decreases-loop-at l = length l.s - l.at
