@@ -5,22 +5,23 @@ use mathlib.Core.List.{List}
 use Prim.Native.Nat.{ℕ}
 use lib.Dec.{eqb}
 use lib.ListN.{length}
+use Rattle.std.proofs.Common.{Result, Ok, Err}
 use borrow.Author.Tests.{eq-eqb, ne_eqb}
 use Rattle.base.specs.Pick.{pick}
 use Rattle.base.proofs.Cases.{picks}
+use Rattle.refusal.specs.declared.Refusal.{Refusal}
+use Rattle.refusal.specs.Numbers.{number_of}
 use Rattle.paper.specs.Read.{Field, fault, given}
 use Rattle.paper.specs.Days.{read_day, long_day, short_day}
-use Rattle.numeral.specs.declared.Num.{Num}
-use Rattle.numeral.specs.declared.Num.TheVariants.{Value, Refused}
 use Rattle.numeral.specs.Told.{told}
 
 -- n is what a reader of the field x answered
-module _ (n : Num) (x : Field ℕ) (k : ℕ → Field ℕ) (g : told n ≡ x) where
-  pub read-on : (v : ℕ) (r : Field ℕ) → n ≡ Value v → r ≡ k v → r ≡ given x k
+module _ (n : Result ℕ Refusal) (x : Field ℕ) (k : ℕ → Field ℕ) (g : told n ≡ x) where
+  pub read-on : (v : ℕ) (r : Field ℕ) → n ≡ Ok v → r ≡ k v → r ≡ given x k
   unfolding given
   read-on v r e f = f ∙ rw (← g, e)
 
-  pub read-not : (m : ℕ) → n ≡ Refused m → fault m ≡ given x k
+  pub read-not : (m : Refusal) → n ≡ Err m → fault (number_of m) ≡ given x k
   unfolding given
   read-not m e = rw (← g, e)
 

@@ -4,16 +4,16 @@ use mathlib.Core.Bool.{Bool, true, false}
 use mathlib.Core.List.{List}
 use mathlib.Core.Logic.{◌⊎◌, inl, inr}
 use Prim.Native.Nat.{ℕ}
+use Rattle.std.proofs.Common.{Result, Ok}
 use lib.Dec.{eqb}
 use lib.ListN.{length}
 use Rattle.base.specs.Pick.{pick}
 use Rattle.base.proofs.Cases.{either}
+use Rattle.refusal.specs.declared.Refusal.{Refusal}
 use Rattle.paper.specs.Numerals.{digits}
 use Rattle.paper.specs.Read.{value}
 use Rattle.paper.specs.Days.{real_day, real, short_day, long_day, read_day, due_allowed, read_due}
 use Rattle.numeral.proofs.given.Says.{Says, says, of_value, of_fault, says-value, says-given}
-use Rattle.numeral.specs.declared.Num.{Num}
-use Rattle.numeral.specs.declared.Num.TheVariants.{Value}
 use Rattle.numeral.proofs.Sound.{digits-fault}
 use Rattle.numeral.specs.Told.{told}
 
@@ -49,7 +49,7 @@ module _ (long : Bool) (s : List ℕ) where
   day-sound d e = says-value Sure Dated (read_day long s) (day-says long s) d e
 
   -- r is what the reader of a date answered
-  pub day-told : (r : Num) (d : ℕ) → told r ≡ read_day long s → r ≡ Value d → real_day d ≡ true
+  pub day-told : (r : Result ℕ Refusal) (d : ℕ) → told r ≡ read_day long s → r ≡ Ok d → real_day d ≡ true
   day-told r d g e = day-sound d (sym g ∙ rw e)
 
   module _ (here early : Bool) (ahead today : ℕ) where

@@ -8,8 +8,8 @@ ghost use Rattle.numeral.specs.field.At.{ending, field_at};
 ghost use Rattle.numeral.specs.field.Told.{told};
 ghost use Rattle.calendar.specs.at.Spelled.{Two, Spelled};
 
-use numeral::Num;
-use numeral::field::NumAt;
+use numeral::field::Run;
+use refusal::Refusal;
 
 // The number of the two digits at `at`, 100 where one of the bytes is no digit.
 fn two_digits(s: &[u8], at: usize) -> u64
@@ -48,26 +48,40 @@ fn last_day(s: &[u8], at: usize) -> u64
 }
 
 // The real day d as a due date, 11 where no group may be due on it.
-fn if_allowed(d: u64, here: bool, early: bool, ahead: u64, today: u64, end: usize) -> NumAt
+fn if_allowed(
+    d: u64,
+    here: bool,
+    early: bool,
+    ahead: u64,
+    today: u64,
+    end: usize,
+) -> Result<Run, Refusal>
     requires today_value { real_day today ≡ true }
     requires d_value { real_day d ≡ true }
     ensures { told result ≡ ending end (pick (due_allowed here early ahead today d) (value d) (fault 11)) }
 {
     if crate::due_allowed(here, early, ahead, today, d) {
-        return NumAt::Value(d, end);
+        return Ok(Run { value: d, end });
     }
-    NumAt::Refused(11)
+    Err(Refusal::BadDay)
 }
 
 // The day d as a due date, 11 where it is not real either.
-fn if_due(d: u64, here: bool, early: bool, ahead: u64, today: u64, end: usize) -> NumAt
+fn if_due(
+    d: u64,
+    here: bool,
+    early: bool,
+    ahead: u64,
+    today: u64,
+    end: usize,
+) -> Result<Run, Refusal>
     requires { real_day today ≡ true }
     ensures { told result ≡ ending end (pick (real_day d) (pick (due_allowed here early ahead today d) (value d) (fault 11)) (fault 11)) }
 {
     if crate::real_day(d) {
         return if_allowed(d, here, early, ahead, today, end);
     }
-    NumAt::Refused(11)
+    Err(Refusal::BadDay)
 }
 
 // A due date at `at`, by the bytes of the whole field.
@@ -79,16 +93,14 @@ fn whole_due(
     early: bool,
     ahead: u64,
     today: u64,
-) -> NumAt
+) -> Result<Run, Refusal>
     requires at_in_bounds { at ≤ length s.now }
     requires today_value { real_day today ≡ true }
     ensures { told result ≡ field_at (read_due long here early ahead today) s.now at }
 {
     let end = scan::line::field_end(s, at);
-    match crate::read_day(&s[at..end], long) {
-        Num::Value(d) => if_allowed(d, here, early, ahead, today, end),
-        Num::Refused(n) => NumAt::Refused(n),
-    }
+    let d = crate::read_day(&s[at..end], long)?;
+    if_allowed(d, here, early, ahead, today, end)
 }
 
 // A due date at `at`: a day on which a group may be due, as far as that is judged here. Nearly all are DDMMRR and end the line; any other field is left to the reader
@@ -101,7 +113,7 @@ pub fn due_at(
     early: bool,
     ahead: u64,
     today: u64,
-) -> NumAt
+) -> Result<Run, Refusal>
     requires at_in_bounds { at ≤ length s.now }
     requires today_value { real_day today ≡ true }
     ensures { told result ≡ field_at (read_due long here early ahead today) s.now at }

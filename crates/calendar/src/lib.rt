@@ -9,7 +9,7 @@ ghost use Rattle.base.specs.Put.{Wrote};
 ghost use Rattle.numeral.specs.Told.{told};
 ghost use Rattle.paper.specs.Days.{real_day, day_number, month_days, real, short_day, long_day, read_day, spell_day, due_allowed, due_warnings, month_ahead, collect_allowed};
 
-use numeral::Num;
+use refusal::Refusal;
 
 // how many days each month has in a year with no 29 February
 const MONTHS: [u64; 12] = [31, 28, 31, 30, 31, 30, 31, 31, 30, 31, 30, 31];
@@ -152,37 +152,33 @@ pub fn collect_allowed(own: bool, today: u64, last: u64, d: u64) -> bool
 }
 
 // A day, if it is real.
-fn only_real(d: u64) -> Num
+fn only_real(d: u64) -> Result<u64, Refusal>
     ensures { told result ≡ real d }
 {
     if real_day(d) {
-        return Num::Value(d);
+        return Ok(d);
     }
-    Num::Refused(11)
+    Err(Refusal::BadDay)
 }
 
 // DDMMRR
-fn read_short(f: &[u8]) -> Num
+fn read_short(f: &[u8]) -> Result<u64, Refusal>
     ensures { told result ≡ short_day f.now }
 {
-    match numeral::read_digits(f, 6, 6) {
-        Num::Value(n) => only_real((2000 + n % 100) * 10000 + n / 100 % 100 * 100 + n / 10000),
-        Num::Refused(e) => Num::Refused(e),
-    }
+    let n = numeral::read_digits(f, 6, 6)?;
+    only_real((2000 + n % 100) * 10000 + n / 100 % 100 * 100 + n / 10000)
 }
 
 // RRRRMMDD
-fn read_long(f: &[u8]) -> Num
+fn read_long(f: &[u8]) -> Result<u64, Refusal>
     ensures { told result ≡ long_day f.now }
 {
-    match numeral::read_digits(f, 8, 8) {
-        Num::Value(n) => only_real(n),
-        Num::Refused(e) => Num::Refused(e),
-    }
+    let n = numeral::read_digits(f, 8, 8)?;
+    only_real(n)
 }
 
 // A date: DDMMRR, or RRRRMMDD where that is taken too (`long`).
-pub fn read_day(f: &[u8], long: bool) -> Num
+pub fn read_day(f: &[u8], long: bool) -> Result<u64, Refusal>
     ensures { told result ≡ read_day long f.now }
 {
     if long {

@@ -3,6 +3,7 @@ use mathlib.Core.Path.{◌≡◌, refl, sym, ap, ◌∙◌}
 use mathlib.Core.Bool.{Bool, true}
 use mathlib.Core.List.{List, [], ◌∷◌}
 use Prim.Native.Nat.{ℕ, ◌+◌, ◌-◌, ◌*◌, ◌/◌, ◌%◌, ◌≤◌, ◌<◌}
+use Rattle.std.proofs.Common.{Result, Ok, Err}
 use native.Mathlib.Numerals.{add-one}
 use native.Mathlib.Omega.{arith}
 use lib.ListN.{length, get_or, take, drop, length-drop, drop_of_length-le}
@@ -11,13 +12,13 @@ use Rattle.base.specs.Pick.{pick}
 use Rattle.base.specs.Seek.{all, seek}
 use Rattle.base.proofs.Cases.{by-test}
 use Rattle.base.proofs.Seek.{seek-over}
+use Rattle.refusal.specs.declared.Refusal.{Refusal}
+use Rattle.refusal.specs.Numbers.{number_of}
 use Rattle.paper.specs.Read.{Field, value, fault, given}
 use Rattle.paper.specs.Bytes.{is_digit, space, field_of}
 use Rattle.paper.specs.Numerals.{digits_on, digits}
 use Rattle.paper.specs.Days.{real_day, real, short_day, read_day, due_allowed, read_due}
 use Rattle.numeral.proofs.Plain.{range-digit}
-use Rattle.numeral.specs.declared.Num.{Num}
-use Rattle.numeral.specs.declared.Num.TheVariants as num
 use Rattle.numeral.specs.Told as number
 use Rattle.calendar.proofs.Reading.{other_length}
 use Rattle.calendar.proofs.Sound.{day-told}
@@ -105,9 +106,6 @@ module _ (s : List ℕ) (at : ℕ) (l : length s ≡ at + 6) where
 
 -- ---- `if_due` and `due_at`
 
-pub is-real : (d : ℕ) (t : Bool) → t ≡ real_day d → t ≡ true → real_day d ≡ true
-is-real d t g h = sym g ∙ h
-
 -- digits alone are one field
 digits-field : (f : List ℕ) → all is_digit f ≡ true → seek space f ≡ length f
 unfolding is_digit seek pick
@@ -133,8 +131,8 @@ module _ (long here early : Bool) (ahead today : ℕ) where
       q ∙ rw (e, o, g, judged d)
 
 -- the field by its bytes, up to its end e: m is what the reader of days answered
-module _ (s : List ℕ) (at e : ℕ) (h : e ≡ at + seek space (drop at s)) (long : Bool) (m : Num) (g : number.told m ≡ read_day long (take (e - at) (drop at s))) where
-  pub whole-real : (d : ℕ) → m ≡ num.Value d → real_day d ≡ true
+module _ (s : List ℕ) (at e : ℕ) (h : e ≡ at + seek space (drop at s)) (long : Bool) (m : Result ℕ Refusal) (g : number.told m ≡ read_day long (take (e - at) (drop at s))) where
+  pub whole-real : (d : ℕ) → m ≡ Ok d → real_day d ≡ true
   whole-real d f = day-told long (take (e - at) (drop at s)) m d g f
 
   module _ (here early : Bool) (ahead today : ℕ) where
@@ -145,13 +143,13 @@ module _ (s : List ℕ) (at e : ℕ) (h : e ≡ at + seek space (drop at s)) (lo
         let z : x ≡ read_day long (field_of (drop at s)) = sym q ∙ (g ∙ rw d) in
         rw (← h, z)
 
-    pub whole-due : (r : At ℕ) (d : ℕ) → m ≡ num.Value d → r ≡ ending e (pick (due_allowed here early ahead today d) (value d) (fault 11)) → r ≡ field_at (read_due long here early ahead today) s at
+    pub whole-due : (r : At ℕ) (d : ℕ) → m ≡ Ok d → r ≡ ending e (pick (due_allowed here early ahead today d) (value d) (fault 11)) → r ≡ field_at (read_due long here early ahead today) s at
     unfolding given
     whole-due r d f q = q ∙ whole-day (value d) (rw f)
 
-    pub whole-no-due : (n : ℕ) → m ≡ num.Refused n → missed n ≡ field_at (read_due long here early ahead today) s at
+    pub whole-no-due : (n : Refusal) → m ≡ Err n → missed (number_of n) ≡ field_at (read_due long here early ahead today) s at
     unfolding given ending
-    whole-no-due n f = whole-day (fault n) (rw f)
+    whole-no-due n f = whole-day (fault (number_of n)) (rw f)
 
 pub ruleset whole-days = (whole-due, whole-no-due)
 
