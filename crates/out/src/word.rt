@@ -10,9 +10,7 @@ pub fn word_at(rows: &[u8], at: usize) -> u64
     ensures { result ≡ word_here rows.now at }
 {
     let mut w: u64 = 0;
-    let mut k: usize = 8;
-    while 0 < k {
-        k = k - 1;
+    for k in (0..8).rev() {
         w = rows[at + k] as u64 + 256 * w;
     }
     w
@@ -47,10 +45,8 @@ pub fn put_words(rows: &mut [u8], at: usize, words: &[u64]) -> usize
     ensures { Wrote rows.old at (words_bytes words.now) rows.new result }
 {
     let mut next = at;
-    let mut i = 0;
-    while i < words.len() {
-        next = put_word(rows, next, words[i]);
-        i += 1;
+    for w in words {
+        next = put_word(rows, next, *w);
     }
     next
 }

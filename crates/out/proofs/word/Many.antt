@@ -5,7 +5,7 @@ use Prim.Native.Nat.{ℕ, ◌+◌, ◌*◌, ◌≤◌, ◌<◌}
 use native.Mathlib.Numerals.{add-one}
 use native.Mathlib.Omega.{arith}
 use lib.ListN.{length, take, get_or, length-take}
-use lib.Seq.{take-suc, take_all}
+use lib.Seq.{take-suc}
 use Rattle.base.specs.Put.{Wrote}
 use Rattle.base.proofs.Put.{◌then◌}
 use Rattle.paper.specs.Words.{word_bytes, words_bytes}
@@ -38,8 +38,4 @@ module _ (o o1 ws : List ℕ) (at p i : ℕ) (v : Wrote o at (words_bytes (take 
   pub row_next : (o2 : List ℕ) (q : ℕ) → i < length ws → Wrote o1 p (word_bytes 8 (get_or ws i 0)) o2 q → Wrote o at (words_bytes (take (i + 1) ws)) o2 q
   row_next o2 q h w = rw (words-next ws i h) (v then w)
 
-  -- all are put
-  pub row-all : length ws ≤ i → Wrote o at (words_bytes ws) o1 p
-  row-all h = rw (take_all i ws h) at v
-
-pub ruleset puts = (row_first, row_room, row_next, row-all)
+pub ruleset puts = (row_first, row_room, row_next)

@@ -1,12 +1,8 @@
 -- Words go in one after the other; the loop's invariant is what a writer promises of those passed. Assumes nothing.
-use Prim.Native.Nat.{◌≤◌, ◌-◌}
-use lib.ListN.{length, take}
+use lib.ListN.{take}
 use Rattle.base.specs.Put.{Wrote}
 use Rattle.paper.specs.Words.{words_bytes}
 use Rattle.out.proofs.word.put_words.Given as goal
 
-abbrev pub invariant-loop-i : goal.invariant-loop-i
-invariant-loop-i l = (l.i ≤ length l.words) × Wrote l.initial.rows l.at (words_bytes (take l.i l.words)) l.rows l.next
-
-abbrev pub decreases-loop-i : goal.decreases-loop-i
-decreases-loop-i l = length l.words - l.i
+abbrev pub invariant-loop-w : goal.invariant-loop-w
+invariant-loop-w l = Wrote l.initial.rows l.at (words_bytes (take l.w-index l.words)) l.rows l.next
