@@ -12,13 +12,19 @@ ghost use Rattle.calendar.specs.term.Allows.{allows};
 ghost use Rattle.numeral.specs.Zero.{is_zero};
 ghost use Rattle.numeral.specs.field.At.{ending, field_at};
 ghost use Rattle.numeral.specs.field.Kept.{keeping};
-ghost use Rattle.numeral.specs.field.Told.{told};
 ghost use Rattle.bank.specs.at.Plain.{PlainBank};
-ghost use Rattle.bank.specs.at.Told.{told_bank};
+ghost use Rattle.bank.specs.at.Told.{told, told_bank};
 ghost use Rattle.bank.specs.at.Warned.{warnings_of, warned_by};
 
 use calendar::term::Banks;
-use numeral::field::NumAt;
+use refusal::Refusal;
+
+// What judging keeps of the field: how many warnings it gives, and where it ends.
+#[derive(Clone, Copy)]
+pub struct Warned {
+    pub warnings: u64,
+    pub end: usize,
+}
 
 // Are the four bytes at `at` zeros?
 fn four_zeros(s: &[u8], at: usize) -> bool
@@ -55,38 +61,35 @@ fn plain_bank(s: &[u8], at: usize) -> bool
 }
 
 // The ninth digit d decides on the warnings: where the field holds a priority (`ranked`) 1 and 2 give one; elsewhere the digit is 0.
-fn by_ninth(ranked: bool, d: u64, end: usize) -> NumAt
+fn by_ninth(ranked: bool, d: u64, end: usize) -> Result<Warned, Refusal>
     ensures { told result ≡ ending end (warned_by ranked d) }
 {
     if d < 1 {
-        return NumAt::Value(0, end);
+        return Ok(Warned { warnings: 0, end });
     }
     if ranked {
         if d < 3 {
-            return NumAt::Value(1, end);
+            return Ok(Warned { warnings: 1, end });
         }
-        return NumAt::Value(0, end);
+        return Ok(Warned { warnings: 0, end });
     }
-    NumAt::Refused(13)
+    Err(Refusal::BadDigit)
 }
 
 // Any field at `at`: eight to ten digits that end in four of payee bank and four of constant symbol.
-fn any_bank(s: &[u8], at: usize, ranked: bool) -> NumAt
+fn any_bank(s: &[u8], at: usize, ranked: bool) -> Result<Warned, Refusal>
     requires { at ≤ length s.now }
     ensures { told result ≡ keeping warnings_of (field_at (read_bank ranked) s.now at) }
 {
-    match numeral::field::number_at(s, at, 8, 10) {
-        NumAt::Value(n, end) => {
-            if n / 10000 % 10000 == 0 {
-                return NumAt::Refused(12);
-            }
-            if 999999999 < n {
-                return NumAt::Refused(13);
-            }
-            by_ninth(ranked, n / 100000000, end)
-        }
-        NumAt::Refused(c) => NumAt::Refused(c),
+    let digits = numeral::field::number_at(s, at, 8, 10)?;
+    let n = digits.value;
+    if n / 10000 % 10000 == 0 {
+        return Err(Refusal::BadPayeeBank);
     }
+    if 999999999 < n {
+        return Err(Refusal::BadDigit);
+    }
+    by_ninth(ranked, n / 100000000, digits.end)
 }
 
 // May the bank of the field at `at`, which was judged, be due?
@@ -106,35 +109,43 @@ fn bank_due(s: &[u8], at: usize, ranked: bool, own: u64, banks: Banks) -> bool
 }
 
 // Any field at `at`, whose bank is one of those that may be due.
-fn any_due_bank(s: &[u8], at: usize, ranked: bool, own: u64, banks: Banks) -> NumAt
+fn any_due_bank(
+    s: &[u8],
+    at: usize,
+    ranked: bool,
+    own: u64,
+    banks: Banks,
+) -> Result<Warned, Refusal>
     requires { at ≤ length s.now }
     ensures { told result ≡ keeping warnings_of (field_at (read_due_bank ranked (allows banks own)) s.now at) }
 {
-    match any_bank(s, at, ranked) {
-        NumAt::Value(warnings, end) => {
-            if bank_due(s, at, ranked, own, banks) {
-                return NumAt::Value(warnings, end);
-            }
-            NumAt::Refused(11)
-        }
-        NumAt::Refused(n) => NumAt::Refused(n),
+    let field = any_bank(s, at, ranked)?;
+    if bank_due(s, at, ranked, own, banks) {
+        return Ok(field);
     }
+    Err(Refusal::BadDay)
 }
 
 // The field at `at`, whatever its bank: how many warnings it gives and where it ends, or the refusal's number.
-fn plain_or_any(s: &[u8], at: usize, ranked: bool) -> NumAt
+fn plain_or_any(s: &[u8], at: usize, ranked: bool) -> Result<Warned, Refusal>
     requires { at ≤ length s.now }
     ensures { told result ≡ keeping warnings_of (field_at (read_bank ranked) s.now at) }
 {
     if plain_bank(s, at) {
         let end = at + 8;
-        return NumAt::Value(0, end);
+        return Ok(Warned { warnings: 0, end });
     }
     any_bank(s, at, ranked)
 }
 
 // The field at `at`, whose bank is one of those that may be due. It is looked at only where not every bank may be.
-pub fn judge_bank(s: &[u8], at: usize, ranked: bool, own: u64, banks: Banks) -> NumAt
+pub fn judge_bank(
+    s: &[u8],
+    at: usize,
+    ranked: bool,
+    own: u64,
+    banks: Banks,
+) -> Result<Warned, Refusal>
     requires { at ≤ length s.now }
     ensures { told result ≡ keeping warnings_of (field_at (read_due_bank ranked (allows banks own)) s.now at) }
 {

@@ -6,10 +6,13 @@ use Prim.Native.Nat.{ℕ, ◌+◌, ◌/◌, ◌%◌}
 use native.Mathlib.Omega.{arith}
 use lib.Dec.{eqb, ltb}
 use lib.ListN.{drop}
+use Rattle.std.proofs.Common.{Result, Ok, Err}
 use borrow.Author.Tests.{lt-ltb, le-ltb, eq-eqb, ne_eqb}
 use Rattle.base.specs.Pick.{pick}
 use Rattle.base.specs.Seek.{seek}
 use Rattle.base.proofs.Cases.{by-test, by-lt}
+use Rattle.refusal.specs.declared.Refusal.{Refusal}
+use Rattle.refusal.specs.Numbers.{number_of}
 use Rattle.paper.specs.Read.{Field, value, fault, given}
 use Rattle.paper.specs.Bytes.{space, field_of}
 use Rattle.paper.specs.Numerals.{digits}
@@ -18,16 +21,14 @@ use Rattle.numeral.specs.field.At.{At, found, missed, ending, field_at}
 use Rattle.numeral.specs.field.Kept.{keeping}
 use Rattle.numeral.proofs.field.Onward.{onward}
 use Rattle.numeral.proofs.field.Kept.{kept-says}
-use Rattle.numeral.specs.declared.field.NumAt.{NumAt}
-use Rattle.numeral.specs.declared.field.NumAt.TheVariants.{Value, Refused}
-use Rattle.numeral.specs.field.Told.{told}
 use Rattle.paper.specs.ItemLine.{is_value}
 use Rattle.bank.proofs.Due.{due_of, any-due-bank}
 use Rattle.calendar.specs.declared.term.Banks.{Banks}
 use Rattle.calendar.specs.declared.term.Banks.TheVariants as which
 use Rattle.calendar.specs.term.Allows.{allows}
 use Rattle.bank.specs.declared.at.Bank as taken
-use Rattle.bank.specs.at.Told.{told_bank}
+use Rattle.bank.specs.declared.at.Warned.{Warned}
+use Rattle.bank.specs.at.Told.{told, told_bank}
 use Rattle.bank.specs.at.Warned.{warnings_of, warned_by}
 
 -- the ninth digit d
@@ -85,23 +86,23 @@ module _ (due : ℕ → Bool) (t : Bool) (end : ℕ) where
   no_field n (value b) g = absurd (let z : ◌≡◌ {A = ℕ} 0 1 = cc in omega arith)
   no_field n (fault m) g = g
 
-module _ (ranked : Bool) (due : ℕ → Bool) (s : List ℕ) (at : ℕ) (n : NumAt) (g : told n ≡ keeping warnings_of (field_at (read_bank ranked) s at)) where
-  module _ (w e : ℕ) (q : n ≡ Value w e) where
+module _ (ranked : Bool) (due : ℕ → Bool) (s : List ℕ) (at : ℕ) (n : Result Warned Refusal) (g : told n ≡ keeping warnings_of (field_at (read_bank ranked) s at)) where
+  module _ (d : Warned) (q : n ≡ Ok d) where
     pub judged-says : is_value (read_bank ranked (field_of (drop at s))) ≡ true
-    judged-says = kept-says warnings_of (read_bank ranked) s at w e (rw q at g)
+    judged-says = kept-says warnings_of (read_bank ranked) s at d.warnings d.end (rw q at g)
 
     module _ (t : Bool) (h : (b : Bank) → read_bank ranked (field_of (drop at s)) ≡ value b → t ≡ due b.bank) where
-      pub field-due : t ≡ true → found w e ≡ keeping warnings_of (field_at (read_due_bank ranked due) s at)
+      pub field-due : t ≡ true → told (Ok d) ≡ keeping warnings_of (field_at (read_due_bank ranked due) s at)
       unfolding field_at read_due_bank
-      field-due y = is-due due t _ w e _ (rw q at g) h y
+      field-due y = is-due due t _ d.warnings d.end _ (rw q at g) h y
 
       pub field-not-due : t ≡ false → missed 11 ≡ keeping warnings_of (field_at (read_due_bank ranked due) s at)
       unfolding field_at read_due_bank
-      field-not-due y = not-due due t _ w e _ (rw q at g) h y
+      field-not-due y = not-due due t _ d.warnings d.end _ (rw q at g) h y
 
-  pub field-missed : (c : ℕ) → n ≡ Refused c → missed c ≡ keeping warnings_of (field_at (read_due_bank ranked due) s at)
+  pub field-missed : (c : Refusal) → n ≡ Err c → missed (number_of c) ≡ keeping warnings_of (field_at (read_due_bank ranked due) s at)
   unfolding field_at read_due_bank
-  field-missed c q = no_field due true _ c _ (rw q at g)
+  field-missed c q = no_field due true _ (number_of c) _ (rw q at g)
 
 pub ruleset dues = (judged-says, field-due, field-not-due, field-missed)
 
@@ -110,11 +111,6 @@ pub field-any : (banks : Banks) → banks ≡ which.Any → (ranked : Bool) (own
     → r ≡ keeping warnings_of (field_at (read_due_bank ranked (allows banks own)) s at)
 unfolding field_at
 field-any banks e ranked own s at r g = rw (e, any-due-bank (allows which.Any own) (λ b. refl) ranked (field_of (drop at s))) g
-
--- where not, by the banks that it was found to be
-pub field-some : (banks some : Banks) → banks ≡ some → (ranked : Bool) (own : ℕ) (s : List ℕ) (at : ℕ) (r : At ℕ) → r ≡ keeping warnings_of (field_at (read_due_bank ranked (allows some own)) s at)
-    → r ≡ keeping warnings_of (field_at (read_due_bank ranked (allows banks own)) s at)
-field-some banks some e ranked own s at r g = rw e g
 
 -- ---- its bank
 
@@ -133,5 +129,3 @@ module _ (banks : Banks) (own : ℕ) where
     where
       same-bank : told_bank r ≡ found b (at + seek space (drop at s)) → r.bank ≡ b.bank
       same-bank f = cc
-
-pub ruleset allowances = (field-any, field-some)

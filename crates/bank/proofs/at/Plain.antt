@@ -121,10 +121,5 @@ module _ (s : List ℕ) (at : ℕ) (l : at ≤ length s) (m : 8 ≤ length s - a
   is-plain a b c d f e = record { long = omega arith; plain = sym f ∙ e; some = sym a ∙ b; ends = sym c ∙ d }
 
 module _ (s : List ℕ) (at : ℕ) (t : Bool) (h : t ≡ true → PlainBank s at) (y : t ≡ true) where
-  pub plain-room : at + 8 ≤ length s
-  plain-room = (h y).long
-
   pub plain-bank : (ranked : Bool) → found 0 (at + 8) ≡ keeping warnings_of (field_at (read_bank ranked) s at)
   plain-bank ranked = plain-field s at (h y) ranked
-
-pub ruleset plains = (plain-room, plain-bank)

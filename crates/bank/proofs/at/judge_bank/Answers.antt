@@ -1,12 +1,6 @@
--- `judge_bank` meets its contract: any bank, or the banks that may be due. Assumes nothing.
-use Rattle.bank.proofs.at.Exits.{allowances}
+-- `judge_bank` meets its contract: where every bank may be due, the field is judged as it stands. Assumes nothing.
+use Rattle.bank.proofs.at.Exits.{field-any}
 use Rattle.bank.proofs.at.judge_bank.Goals as goal
 
 pub returns-in-Any : goal.returns-in-Any
-returns-in-Any c = search allowances
-
-pub returns-in-Own : goal.returns-in-Own
-returns-in-Own c = search allowances
-
-pub returns-in-Nobody : goal.returns-in-Nobody
-returns-in-Nobody c = search allowances
+returns-in-Any c = search field-any
