@@ -3,8 +3,13 @@ use mathlib.Core.Path.{◌≡◌, sym, ap, ◌∙◌}
 use mathlib.Core.Bool.{Bool, true, false}
 use mathlib.Core.List.{List}
 use Prim.Native.Nat.{ℕ, ◌^◌, ◌<◌}
+use Rattle.std.proofs.Common.{Result, Ok}
 use lib.Dec.{leb}
 use Rattle.base.proofs.Cases.{pick_true, pick-false}
+use Rattle.refusal.specs.declared.Refusal.{Refusal}
+use Rattle.refusal.specs.declared.Flaw.{Flaw}
+use Rattle.refusal.specs.Placed.{placed}
+use Rattle.refusal.proofs.Places.{was-ok}
 use Rattle.sheet.specs.declared.Sheet.{Sheet}
 use Rattle.sheet.specs.declared.Limits.{Limits}
 use Rattle.sheet.specs.Sheets.{LimitsOf}
@@ -19,10 +24,9 @@ use Rattle.paper.proofs.Passing.{field-passes, gap-passes, end-passes, counted-k
 use Rattle.amount.proofs.Sound.{total-sound}
 use Rattle.calendar.proofs.Sound.{due-sound}
 use Rattle.numeral.specs.field.At.{field_at}
-use Rattle.numeral.specs.declared.field.NumAt.{NumAt}
-use Rattle.numeral.specs.declared.field.NumAt.TheVariants as num
+use Rattle.numeral.specs.declared.field.Run.{Run}
 use Rattle.numeral.specs.field.Told as number
-use Rattle.numeral.proofs.field.Steps.{found-value, number-within, steps}
+use Rattle.numeral.proofs.field.Steps.{found-value, steps}
 
 -- ---- whether the payer's field stands in the line
 
@@ -40,15 +44,19 @@ payer-always always s h = sym (pick_true _ _ h)
 
 -- ---- what total and date are
 
-module _ (s : List ℕ) (at : ℕ) (n : NumAt) (v e : ℕ) (f : n ≡ num.Value v e) where
-  pub total_low : (may : Bool) → number.told n ≡ field_at (read_total may) s at → v < 10 ^ 14
-  total_low may g = total-sound may _ v (found-value (read_total may) s at v e (rw f at g))
+-- m is what a reader answered, with the place p
+module _ (s : List ℕ) (at : ℕ) (n : Result Run Refusal) (p : ℕ) (m : Result Run Flaw) (h : m ≡ placed n p) (d : Run) (f : m ≡ Ok d) where
+  was : n ≡ Ok d
+  was = was-ok n p d (sym h ∙ f)
 
-  pub due-real : (long here early : Bool) (ahead today : ℕ) → number.told n ≡ field_at (read_due long here early ahead today) s at → real_day v ≡ true
-  due-real long here early ahead today g = (due-sound long _ here early ahead today v (found-value (read_due long here early ahead today) s at v e (rw f at g))).0
+  pub total_low : (may : Bool) → number.told n ≡ field_at (read_total may) s at → d.value < 10 ^ 14
+  total_low may g = total-sound may _ d.value (found-value (read_total may) s at d.value d.end (rw was at g))
+
+  pub due-real : (long here early : Bool) (ahead today : ℕ) → number.told n ≡ field_at (read_due long here early ahead today) s at → real_day d.value ≡ true
+  due-real long here early ahead today g = (due-sound long _ here early ahead today d.value (found-value (read_due long here early ahead today) s at d.value d.end (rw was at g))).0
 
 -- a due day within the limit that the sheet gave
-pub due-limit : (sh : Sheet) (l : Limits) → LimitsOf sh l → (long here : Bool) (today : ℕ) (s : List ℕ) (at : ℕ) (n : NumAt)
+pub due-limit : (sh : Sheet) (l : Limits) → LimitsOf sh l → (long here : Bool) (today : ℕ) (s : List ℕ) (at : ℕ) (n : Result Run Refusal)
     → number.told n ≡ field_at (read_due long here sh.early l.ahead today) s at → number.told n ≡ field_at (read_due long here sh.early sh.ahead today) s at
 due-limit sh l of long here today s at n g = rw of.ahead at g
 
@@ -83,4 +91,4 @@ pub ruleset payers = (payer-counted, payer-third, payer-always)
 
 pub ruleset groups = (due-limit, step-group, steps)
 
-pub ruleset bounds = (number-within, total_low, due-real)
+pub ruleset bounds = (total_low, due-real)

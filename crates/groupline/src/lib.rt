@@ -11,22 +11,18 @@ ghost use Rattle.paper.specs.GroupLine.{space_count, has_payer, total_and_date, 
 ghost use Rattle.groupline.specs.Spaced.{spaced};
 ghost use Rattle.groupline.specs.Told.{told, Marked, Tells, Low};
 
-use account::at::PayerAt;
-use numeral::field::NumAt;
+use refusal::{Flaw, Refusal, placed};
 use sheet::Sheet;
 
 // What judging keeps of the line: whether the group is single, total and due date, how many warnings the line gives, and where in it the
-// total stands; or the refusal's number and its offset in the line.
+// total stands.
 #[derive(Clone, Copy)]
-pub enum GroupRead {
-    Group {
-        single: bool,
-        total: u64,
-        date: u64,
-        warnings: u64,
-        spot: usize,
-    },
-    Refused(u64, usize),
+pub struct GroupLine {
+    pub single: bool,
+    pub total: u64,
+    pub date: u64,
+    pub warnings: u64,
+    pub spot: usize,
 }
 
 // Do spaces stand behind the first byte and before the last six, as in `2 TOTAL DDMMRR`?
@@ -48,13 +44,10 @@ fn space_inside(s: &[u8], stop: usize) -> bool
     requires { (2 ≤ stop) × (stop ≤ length s.now) }
     ensures { result ≡ ltb (space_count (drop stop s.now)) (space_count (drop 2 s.now)) }
 {
-    let mut i = stop;
-    while 2 < i {
-        let j = i - 1;
-        if s[j] == 32 {
+    for i in (2..stop).rev() {
+        if s[i] == 32 {
             return true;
         }
-        i = j;
     }
     false
 }
@@ -88,59 +81,59 @@ fn has_payer(s: &[u8], always: bool) -> bool
 }
 
 // TOTAL, at `at`, and DATE, behind the payer; the day may be judged here.
-fn total_and_date(s: &[u8], at: usize, sh: Sheet, today: u64, here: bool, single: bool) -> GroupRead
+fn total_and_date(
+    s: &[u8],
+    at: usize,
+    sh: Sheet,
+    today: u64,
+    here: bool,
+    single: bool,
+) -> Result<GroupLine, Flaw>
     requires today_value { real_day today ≡ true }
     requires at_in_bounds { at ≤ length s.now }
     ensures result_value { (payer : Account) → told payer result ≡ counted (total_and_date sh today here payer at (drop at s.now)) }
     ensures marked { Marked single result }
     ensures low { Low result }
 {
-    match amount::at::total_at(s, at, sh.comma) {
-        NumAt::Refused(n) => GroupRead::Refused(n, at),
-        NumAt::Value(total, end) => {
-            if s.len() <= end {
-                return GroupRead::Refused(4, end);
-            }
-            let from = end + 1;
-            let limits = sh.limits();
-            match calendar::at::due_at(s, from, sh.longdate, here, sh.early, limits.ahead, today) {
-                NumAt::Refused(n) => GroupRead::Refused(n, from),
-                NumAt::Value(date, last) => {
-                    if last < s.len() {
-                        return GroupRead::Refused(4, last);
-                    }
-                    let warnings = calendar::due_warnings(here, sh.warnpast, today, date);
-                    GroupRead::Group {
-                        single,
-                        total,
-                        date,
-                        warnings,
-                        spot: at,
-                    }
-                }
-            }
-        }
+    let total = placed(amount::at::total_at(s, at, sh.comma), at)?;
+    if s.len() <= total.end {
+        return Err(Flaw(Refusal::BadField, total.end));
     }
+    let from = total.end + 1;
+    let limits = sh.limits();
+    let due = placed(
+        calendar::at::due_at(s, from, sh.longdate, here, sh.early, limits.ahead, today),
+        from,
+    )?;
+    if due.end < s.len() {
+        return Err(Flaw(Refusal::BadField, due.end));
+    }
+    let warnings = calendar::due_warnings(here, sh.warnpast, today, due.value);
+    Ok(GroupLine {
+        single,
+        total: total.value,
+        date: due.value,
+        warnings,
+        spot: at,
+    })
 }
 
 // The whole line, which is known to begin with `2 `; its day is judged here, or elsewhere.
-pub fn group_line(s: &[u8], sh: Sheet, today: u64, here: bool) -> GroupRead
+pub fn group_line(s: &[u8], sh: Sheet, today: u64, here: bool) -> Result<GroupLine, Flaw>
     requires today_value { real_day today ≡ true }
     requires in_bounds { 2 ≤ length s.now }
     ensures tells { Tells (read_group sh today here s.now) result }
     ensures low { Low result }
 {
     if has_payer(s, sh.emptypayer) {
-        match account::at::judge_payer(s, 2, sh.emptypayer, sh.zeropayer, sh.joined, sh.basemin) {
-            PayerAt::Refused(n) => GroupRead::Refused(n, 2),
-            PayerAt::At(single, end) => {
-                if s.len() <= end {
-                    return GroupRead::Refused(4, end);
-                }
-                total_and_date(s, end + 1, sh, today, here, single)
-            }
+        let payer = placed(
+            account::at::judge_payer(s, 2, sh.emptypayer, sh.zeropayer, sh.joined, sh.basemin),
+            2,
+        )?;
+        if s.len() <= payer.end {
+            return Err(Flaw(Refusal::BadField, payer.end));
         }
-    } else {
-        total_and_date(s, 2, sh, today, here, true)
+        return total_and_date(s, payer.end + 1, sh, today, here, payer.nobody);
     }
+    total_and_date(s, 2, sh, today, here, true)
 }

@@ -1,17 +1,20 @@
 -- `group_line` meets its contract: the payer where there is one, and what follows; refusals at their offsets. Assumes nothing.
 use borrow.Author.Rules.{rules}
+use Rattle.std.proofs.lemmas.Result.{err_from_is_err_and}
 use Rattle.groupline.proofs.Fields.{bounds}
 use Rattle.groupline.proofs.Lines.{lines}
 use Rattle.groupline.proofs.group_line.Goals as goal
 
-pub returns-then-s-end : goal.returns-then-s-end
-returns-then-s-end c = record { tells = search lines; low = search (bounds, rules) }
+pub returns-in_err-payer : goal.returns-in_err-payer
+returns-in_err-payer c =
+    let p = err_from_is_err_and c.from_residual.result c.from_residual.ensures.1 in
+    rw (p.1, p.2) (record { tells = search (lines, c.in_err-payer.was); low = tt })
 
-pub returns-in-Refused : goal.returns-in-Refused
-returns-in-Refused c = record { tells = search lines; low = search (bounds, rules) }
+pub returns-then-s-payer : goal.returns-then-s-payer
+returns-then-s-payer c = record { tells = search (lines, c.in_ok-payer.was); low = tt }
 
-pub returns-else-s-end : goal.returns-else-s-end
-returns-else-s-end c = record { tells = search lines; low = search (bounds, rules) }
+pub returns-then-has_payer : goal.returns-then-has_payer
+returns-then-has_payer c = record { tells = search (lines, c.in_ok-payer.was); low = search (bounds, rules) }
 
-pub returns-else-has_payer : goal.returns-else-has_payer
-returns-else-has_payer c = record { tells = search lines; low = search (bounds, rules) }
+pub returns : goal.returns
+returns c = record { tells = search lines; low = search (bounds, rules) }

@@ -3,8 +3,8 @@ use borrow.Author.Rules.{rules}
 use Rattle.groupline.proofs.Spaces.{inside}
 use Rattle.groupline.proofs.space_inside.Goals as goal
 
-pub returns-then-s-j-eq32 : goal.returns-then-s-j-eq32
-returns-then-s-j-eq32 c = search inside
+pub returns-then-s-i-eq32 : goal.returns-then-s-i-eq32
+returns-then-s-i-eq32 c = search (inside, rules)
 
 pub loop-i-preserved : goal.loop-i-preserved
 loop-i-preserved c = search (inside, rules)
