@@ -44,16 +44,17 @@ pub fn digit_run(s: &[u8], at: usize, most: usize) -> Run
 {
     let stop = stop_of(s.len(), at, most);
     let mut v: u64 = 0;
-    let mut i = at;
-    while i < stop {
+    for i in at..stop {
         let d = worth(s[i]);
         if 9 < d {
             return Run { value: v, end: i };
         }
         v = v * 10 + d;
-        i += 1;
     }
-    Run { value: v, end: i }
+    Run {
+        value: v,
+        end: stop,
+    }
 }
 
 // Does a field end at `at`: at a space, or with the line?
@@ -89,12 +90,10 @@ pub fn eight_digits(s: &[u8], at: usize) -> bool
     ensures { result ≡ all is_digit (take 8 (drop at s.now)) }
 {
     let mut digits = true;
-    let mut j: usize = 0;
-    while j < 8 {
+    for j in 0..8 {
         if 9 < worth(s[at + j]) {
             digits = false;
         }
-        j += 1;
     }
     digits
 }
@@ -105,12 +104,10 @@ fn few_end(s: &[u8], at: usize, most: usize) -> usize
     requires { at + most ≤ length s.now }
     ensures { result ≡ at + length (run most (drop at s.now)) }
 {
-    let mut j: usize = 0;
-    while j < most {
+    for j in 0..most {
         if 9 < worth(s[at + j]) {
             return at + j;
         }
-        j += 1;
     }
     at + most
 }

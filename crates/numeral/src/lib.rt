@@ -26,9 +26,7 @@ pub fn read_digits(f: &[u8], least: usize, most: usize) -> Result<u64, Refusal>
         return Err(Refusal::BadField);
     }
     let mut v: u64 = 0;
-    let mut i = 0;
-    while i < n {
-        let b = f[i];
+    for &b in f {
         if b < 48 {
             return Err(Refusal::BadField);
         }
@@ -36,7 +34,6 @@ pub fn read_digits(f: &[u8], least: usize, most: usize) -> Result<u64, Refusal>
             return Err(Refusal::BadField);
         }
         v = v * 10 + (b - 48) as u64;
-        i += 1;
     }
     Ok(v)
 }

@@ -35,9 +35,6 @@ module _ (s : List ℕ) (at j : ℕ) (t u : Bool) (l : at + j < length s) (inv :
   unfolding pick
   eight-digit h f = f ∙ sym (more ∙ rw (is-digit (get_or s (at + j) 0) d w h))
 
-pub eight-end : (s : List ℕ) (at j : ℕ) (t : Bool) → j ≤ 8 → 8 ≤ j → t ≡ all is_digit (take j (drop at s)) → t ≡ all is_digit (take 8 (drop at s))
-eight-end s at j t m n h = let e : j ≡ 8 = omega arith in rw e at h
-
 -- ---- one after the other: the first j are digits
 
 -- a run behind k digits, of a text
@@ -85,12 +82,6 @@ module _ (s : List ℕ) (at most j : ℕ) (l : j < most) (w : at + most ≤ leng
         let z : length (front (take (most - j) (drop (at + j) s))) ≡ suc (length (front (take (most - (j + 1)) (drop (at + (j + 1)) s)))) = rw e in
         omega arith
 
-pub few-start : (s : List ℕ) (at most : ℕ) → length (run most (drop at s)) ≡ 0 + length (front (take (most - 0) (drop (at + 0) s)))
-few-start s at most =
-    let z : most - 0 ≡ most = omega arith in
-    let y : at + 0 ≡ at = omega arith in
-    rw (z, y) (omega arith)
-
 pub few-end : (s : List ℕ) (at most j : ℕ) → most ≤ j → j ≤ most → length (run most (drop at s)) ≡ j + length (front (take (most - j) (drop (at + j) s))) → at + most ≡ at + length (run most (drop at s))
 unfolding front
 few-end s at most j l m inv =
@@ -98,7 +89,7 @@ few-end s at most j l m inv =
     let e : length (front (take (most - j) (drop (at + j) s))) ≡ 0 = rw z refl in
     omega arith
 
-pub ruleset fews = (few-start, few-other, few-next, few-end)
+pub ruleset fews = (few-other, few-next, few-end)
 
 -- ---- ten at most
 

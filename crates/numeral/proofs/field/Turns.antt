@@ -83,6 +83,9 @@ module _ (s : List ℕ) (at most stop v i : ℕ) (inv : Reads s at most stop v i
       nothing [] = refl
       nothing (x ∷ t) = refl
 
+  pub reads-stop : stop ≤ i → stop ≡ at + length (run most (drop at s))
+  reads-stop l = let t = inv.to in let e : stop ≡ i = omega arith in e ∙ reads-long (ahead-end l)
+
   module _ (l : i < stop) (w : stop ≤ length s) where
     step : ahead s stop i ≡ pick (is_digit (get_or s i 0)) (get_or s i 0 ∷ ahead s stop (i + 1)) []
     unfolding front
@@ -127,7 +130,7 @@ module _ (s : List ℕ) (at most stop v i : ℕ) (inv : Reads s at most stop v i
       pub fits_more : (x : ℕ) → x ≤ 9 → Fits w64 (v * 10 + x)
       fits_more x k = omega (arith, short)
 
-pub ruleset turns = (stop-from, stop-within, stop-inside, stop-most, reads-start, reads-long, reads-value, ahead-end, ahead-other, reads-next, fits-times, fits_more)
+pub ruleset turns = (stop-from, stop-within, stop-inside, stop-most, reads-start, reads-long, reads-stop, reads-value, ahead-end, ahead-other, reads-next, fits-times, fits_more)
 
 -- ---- `ends`
 

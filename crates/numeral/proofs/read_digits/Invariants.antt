@@ -4,8 +4,5 @@ use Rattle.std.proofs.Common.{◌≡◌, ◌-◌, ◌^◌, ◌<◌, ◌≤◌, l
 use Rattle.paper.specs.Numerals.{digits_on, digits}
 use Rattle.numeral.proofs.read_digits.Given as goal
 
-abbrev pub invariant-loop-i : goal.invariant-loop-i
-invariant-loop-i l = (l.i ≤ length l.f) × (l.v < 10 ^ l.i) × (digits l.least l.most l.f ≡ digits_on l.v (drop l.i l.f))
-
-abbrev pub decreases-loop-i : goal.decreases-loop-i
-decreases-loop-i l = length l.f - l.i
+abbrev pub invariant-loop-b : goal.invariant-loop-b
+invariant-loop-b l = (l.v < 10 ^ l.b-index) × (digits l.least l.most l.f ≡ digits_on l.v (drop l.b-index l.f))

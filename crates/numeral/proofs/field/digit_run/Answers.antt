@@ -4,9 +4,6 @@ use Rattle.std.proofs.Common.{rules}
 use Rattle.numeral.proofs.field.Turns.{turns}
 use Rattle.numeral.proofs.field.digit_run.Goals as goal
 
-pub stop_of-stop-requires : goal.stop_of-stop-requires
-stop_of-stop-requires c = search (turns, rules)
-
 pub loop-i-init : goal.loop-i-init
 loop-i-init c = search (turns, rules)
 
@@ -21,12 +18,6 @@ overflow_mul-v c = search (turns, rules)
 
 pub overflow_add-v : goal.overflow_add-v
 overflow_add-v c = search (turns, rules)
-
-pub overflow_add-i : goal.overflow_add-i
-overflow_add-i c = search (turns, rules)
-
-pub loop-i-smaller : goal.loop-i-smaller
-loop-i-smaller c = search (turns, rules)
 
 pub loop-i-preserved : goal.loop-i-preserved
 loop-i-preserved c = search (turns, rules)

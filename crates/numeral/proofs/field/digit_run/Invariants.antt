@@ -6,6 +6,3 @@ use Rattle.numeral.proofs.field.digit_run.Given as goal
 
 abbrev pub invariant-loop-i : goal.invariant-loop-i
 invariant-loop-i l = Reads l.s l.at l.most l.stop l.v l.i
-
-abbrev pub decreases-loop-i : goal.decreases-loop-i
-decreases-loop-i l = l.stop - l.i

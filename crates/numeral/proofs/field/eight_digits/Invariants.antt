@@ -5,7 +5,4 @@ use Rattle.paper.specs.Bytes.{is_digit}
 use Rattle.numeral.proofs.field.eight_digits.Given as goal
 
 abbrev pub invariant-loop-j : goal.invariant-loop-j
-invariant-loop-j l = (l.j ≤ 8) × (l.digits ≡ all is_digit (take l.j (drop l.at l.s)))
-
-abbrev pub decreases-loop-j : goal.decreases-loop-j
-decreases-loop-j l = 8 - l.j
+invariant-loop-j l = l.digits ≡ all is_digit (take l.j (drop l.at l.s))

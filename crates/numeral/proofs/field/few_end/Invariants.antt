@@ -4,7 +4,4 @@ use Rattle.numeral.specs.field.Digits.{front, run}
 use Rattle.numeral.proofs.field.few_end.Given as goal
 
 abbrev pub invariant-loop-j : goal.invariant-loop-j
-invariant-loop-j l = (l.j ≤ l.most) × (length (run l.most (drop l.at l.s)) ≡ l.j + length (front (take (l.most - l.j) (drop (l.at + l.j) l.s))))
-
-abbrev pub decreases-loop-j : goal.decreases-loop-j
-decreases-loop-j l = l.most - l.j
+invariant-loop-j l = length (run l.most (drop l.at l.s)) ≡ l.j + length (front (take (l.most - l.j) (drop (l.at + l.j) l.s)))
