@@ -1,5 +1,5 @@
 -- Where a pass stands, as a state of the judge. Assumes nothing.
-use Rattle.std.specs.Prelude.{ℕ, ◌≡◌, true, List, []}
+use Rattle.std.specs.Prelude.{ℕ, ◌≡◌, true, List, [], Some, None, Option}
 use Rattle.sheet.specs.declared.Sheet.{Sheet}
 use Rattle.paper.specs.Batch.{Header}
 use Rattle.paper.specs.Lines.{Line}
@@ -16,8 +16,6 @@ use Rattle.why.specs.Finding.{halted}
 use Rattle.course.specs.declared.Stage.{Stage}
 use Rattle.course.specs.declared.Stage.TheVariants as stage
 use Rattle.course.specs.declared.Course.{Course}
-use Rattle.course.specs.declared.Move.{Move}
-use Rattle.course.specs.declared.Move.TheVariants as move
 
 -- the judge's numbers, with the header and the first three digits of earlier account files' numbers
 abbrev pub numbers_of : Header → List ℕ → Stage → Tally
@@ -51,14 +49,14 @@ pub record Stands (x : Course) (words : List ℕ) (st : State) : Type 0 where
   pub numbers : abs st ≡ numbers_of header earlier x.stage
 
 -- the numbers stay small
-abbrev pub LowMove : Move → Type 0
-LowMove (move.On y) = Low y.stage
-LowMove move.Halt = Unit {0}
+abbrev pub LowMove : Option Course → Type 0
+LowMove (Some y) = Low y.stage
+LowMove None = Unit {0}
 
 -- Line k, the line t, leads from x to r, and the words from `before` to `after`: on, where judging goes on, and halts where it halts.
-abbrev pub Leads : Sheet → ℕ → ℕ → Line → Course → List ℕ → List ℕ → Move → Type 0
-Leads sh today k t x before after (move.On y) = (st : State) → Stands x before st → Stands y after (step sh today k t st)
-Leads sh today k t x before after move.Halt = (after ≡ before) × ((st : State) → Stands x before st → halted (step sh today k t st) ≡ true)
+abbrev pub Leads : Sheet → ℕ → ℕ → Line → Course → List ℕ → List ℕ → Option Course → Type 0
+Leads sh today k t x before after (Some y) = (st : State) → Stands x before st → Stands y after (step sh today k t st)
+Leads sh today k t x before after None = (after ≡ before) × ((st : State) → Stands x before st → halted (step sh today k t st) ≡ true)
 
 -- ---- where a pass stands, by its stage
 

@@ -21,10 +21,3 @@ pub struct Course {
     pub to: u64,
     pub stage: Stage,
 }
-
-// What a line leads to: where the pass stands behind it; or judging halts there.
-#[derive(Clone, Copy)]
-pub enum Move {
-    On(Course),
-    Halt,
-}

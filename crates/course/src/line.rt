@@ -7,7 +7,7 @@ ghost use Rattle.judge.specs.group.Stands.{LowGroup, line_in};
 ghost use Rattle.judge.specs.accountfile.Resume.{LowFile};
 ghost use Rattle.course.specs.Stands.{LowMove, Leads, at_first, at_file, at_group};
 
-use crate::{Course, Move, Stage};
+use crate::{Course, Stage};
 use closing::CloseRead;
 use fileline::FileRead;
 use fileline::seen::Seen;
@@ -29,7 +29,7 @@ const NOTHING: Counts = Counts {
 // ---- the first line
 
 // The first line, which is known as one.
-fn begin(f: &[u8], sh: Sheet, at: usize, stop: usize) -> Move
+fn begin(f: &[u8], sh: Sheet, at: usize, stop: usize) -> Option<Course>
     requires at_le_stop { (at ≤ stop) × (stop ≤ length f.now) }
     requires f_value { kind_of (take (stop - at) (drop at f.now)) ≡ head_line }
     ensures low_move { LowMove result }
@@ -41,33 +41,33 @@ fn begin(f: &[u8], sh: Sheet, at: usize, stop: usize) -> Move
             client: _,
             from,
             to,
-        } => Move::On(Course {
+        } => Some(Course {
             from,
             to,
             stage: Stage::File(NOTHING),
         }),
-        FirstRead::Plain => Move::On(Course {
+        FirstRead::Plain => Some(Course {
             from: 0,
             to: 0,
             stage: Stage::File(NOTHING),
         }),
-        FirstRead::Refused(_, _) => Move::Halt,
+        FirstRead::Refused(_, _) => None,
     }
 }
 
 // Before the first line.
-pub fn from_first(f: &[u8], sh: Sheet, at: usize, stop: usize) -> Move
+pub fn from_first(f: &[u8], sh: Sheet, at: usize, stop: usize) -> Option<Course>
     requires { (at ≤ stop) × (stop ≤ length f.now) }
     ensures low_move { LowMove result }
     ensures leads { (today k from to : ℕ) (words : List ℕ) → Leads sh today k (line_in f.now at stop) (at_first from to) words words result }
 {
     match scan::kind::kind_of(&f[at..stop]) {
         LineKind::Head => begin(f, sh, at, stop),
-        LineKind::File => Move::Halt,
-        LineKind::Group => Move::Halt,
-        LineKind::Item => Move::Halt,
-        LineKind::GroupEnd => Move::Halt,
-        LineKind::FileEnd => Move::Halt,
+        LineKind::File => None,
+        LineKind::Group => None,
+        LineKind::Item => None,
+        LineKind::GroupEnd => None,
+        LineKind::FileEnd => None,
     }
 }
 
@@ -83,7 +83,7 @@ fn open_file(
     to: u64,
     counts: Counts,
     seen: &mut [u64; 16],
-) -> Move
+) -> Option<Course>
     requires low_file { LowFile counts }
     requires cuts { Cuts f.now at cut }
     requires f_value { kind_of (take (cut.stop - at) (drop at f.now)) ≡ file_line }
@@ -92,7 +92,7 @@ fn open_file(
 {
     let files = counts.files;
     if 1000 <= files {
-        return Move::Halt;
+        return None;
     }
     let stop = cut.stop;
     let words = *seen;
@@ -102,13 +102,13 @@ fn open_file(
             fileline::seen::mark(seen, set, number / 1000);
             let more = judge::accountfile::file_more(counts);
             let shelf = judge::accountfile::new_shelf(kind);
-            Move::On(Course {
+            Some(Course {
                 from,
                 to,
                 stage: Stage::Group(more, shelf),
             })
         }
-        FileRead::Refused(_, _) => Move::Halt,
+        FileRead::Refused(_, _) => None,
     }
 }
 
@@ -122,7 +122,7 @@ pub fn from_file(
     to: u64,
     counts: Counts,
     seen: &mut [u64; 16],
-) -> Move
+) -> Option<Course>
     requires low_file { LowFile counts }
     requires cuts { Cuts f.now at cut }
     ensures low_move { LowMove result }
@@ -131,11 +131,11 @@ pub fn from_file(
     let stop = cut.stop;
     match scan::kind::kind_of(&f[at..stop]) {
         LineKind::File => open_file(f, sh, at, cut, from, to, counts, seen),
-        LineKind::Head => Move::Halt,
-        LineKind::Group => Move::Halt,
-        LineKind::Item => Move::Halt,
-        LineKind::GroupEnd => Move::Halt,
-        LineKind::FileEnd => Move::Halt,
+        LineKind::Head => None,
+        LineKind::Group => None,
+        LineKind::Item => None,
+        LineKind::GroupEnd => None,
+        LineKind::FileEnd => None,
     }
 }
 
@@ -153,7 +153,7 @@ fn open_group(
     to: u64,
     counts: Counts,
     shelf: Shelf,
-) -> Move
+) -> Option<Course>
     requires today_value { real_day today ≡ true }
     requires low_group { LowGroup counts shelf }
     requires at_le_stop { (at ≤ stop) × (stop ≤ length f.now) }
@@ -162,12 +162,12 @@ fn open_group(
     ensures by_index { (words : List ℕ) → Leads sh today line (line_in f.now at stop) (at_group from to counts shelf) words words result }
 {
     match judge::accountfile::group_opening(f, sh, today, at, stop, line, counts, shelf) {
-        Opening::Group(held) => Move::On(Course {
+        Opening::Group(held) => Some(Course {
             from,
             to,
             stage: Stage::Item(held),
         }),
-        Opening::Refused(_, _) => Move::Halt,
+        Opening::Refused(_, _) => None,
     }
 }
 
@@ -181,7 +181,7 @@ fn close_file(
     to: u64,
     counts: Counts,
     shelf: Shelf,
-) -> Move
+) -> Option<Course>
     requires low_group { LowGroup counts shelf }
     requires cuts { Cuts f.now at cut }
     requires f_value { kind_of (take (cut.stop - at) (drop at f.now)) ≡ file_end }
@@ -190,16 +190,16 @@ fn close_file(
 {
     let groups = shelf.groups;
     if groups == 0 {
-        return Move::Halt;
+        return None;
     }
     let stop = cut.stop;
     match closing::close_line(&f[at..stop], sh.near) {
-        CloseRead::Closed => Move::On(Course {
+        CloseRead::Closed => Some(Course {
             from,
             to,
             stage: Stage::File(counts),
         }),
-        CloseRead::Refused(_, _) => Move::Halt,
+        CloseRead::Refused(_, _) => None,
     }
 }
 
@@ -215,7 +215,7 @@ pub fn from_group(
     to: u64,
     counts: Counts,
     shelf: Shelf,
-) -> Move
+) -> Option<Course>
     requires today_value { real_day today ≡ true }
     requires low_group { LowGroup counts shelf }
     requires cuts { Cuts f.now at cut }
@@ -226,9 +226,9 @@ pub fn from_group(
     match scan::kind::kind_of(&f[at..stop]) {
         LineKind::Group => open_group(f, sh, today, at, stop, line, from, to, counts, shelf),
         LineKind::FileEnd => close_file(f, sh, at, cut, from, to, counts, shelf),
-        LineKind::Head => Move::Halt,
-        LineKind::File => Move::Halt,
-        LineKind::Item => Move::Halt,
-        LineKind::GroupEnd => Move::Halt,
+        LineKind::Head => None,
+        LineKind::File => None,
+        LineKind::Item => None,
+        LineKind::GroupEnd => None,
     }
 }

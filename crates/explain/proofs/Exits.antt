@@ -1,5 +1,5 @@
 -- How explaining ends: the text put or not, 2 and 1. Assumes nothing.
-use Rattle.std.proofs.Common.{Option, Some, None}
+use Rattle.std.proofs.Common.{Result, Option, Some, None}
 use mathlib.Core.Path.{◌≡◌, sym, ◌∙◌}
 use mathlib.Core.Bool.{Bool, true, false}
 use mathlib.Core.List.{List}
@@ -16,7 +16,8 @@ use Rattle.paper.specs.Days.{real_day}
 use Rattle.paper.specs.Writing.{drafted, written_in, output_after}
 use Rattle.numeral.specs.counted.Counted.{Counted}
 use Rattle.numeral.proofs.counted.Laws.{counted-wrote}
-use Rattle.tracing.specs.declared.file.Outcome.{Outcome}
+use Rattle.why.specs.declared.Finding.{Finding}
+use Rattle.tracing.specs.declared.file.Tallied.{Tallied}
 use Rattle.tracing.specs.file.Comes.{Comes}
 use Rattle.verdict.specs.Sheets.{sheet_lines}
 use Rattle.findings.specs.Findings.{in_words}
@@ -70,7 +71,7 @@ module _ (today : ℕ) (f o o1 : List ℕ) (n : ℕ) (w : Counted o 0 (sheet_lin
   aside-short = rw aside-lines (omega (arith, lines-short today f))
 
   -- the text with them is the file's
-  module _ (sh : Sheet) (s : Outcome) (comes : Comes sh today f s) where
+  module _ (sh : Sheet) (s : Result Tallied Finding) (comes : Comes sh today f s) where
     pub aside-answer : (l : List ℕ) (a : TextAnswer) → a ≡ text_answer (written_in (length l) (drafted (text_in (in_words sh today) f s (take (n - 0) (drop 0 o1)))))
         → a ≡ text_answer (written_in (length l) (drafted (text_on sh today f)))
     aside-answer l a e = e ∙ rw (aside-lines, text-is sh today f s comes)

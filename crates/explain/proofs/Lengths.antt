@@ -1,4 +1,5 @@
 -- How long the text is: of a refused file at most 2,048 bytes, and of any file no more than 64 bits can count. Assumes nothing.
+use Rattle.std.proofs.Common.{Err, Result, Ok}
 use mathlib.Core.Path.{◌≡◌, refl, sym, subst}
 use mathlib.Core.Bool.{true}
 use mathlib.Core.List.{List, ◌++◌}
@@ -14,8 +15,8 @@ use Rattle.numeral.specs.counted.Counted.{Counted}
 use Rattle.spelling.proofs.linelen.Lengths.{decimal-twenty}
 use Rattle.listing.specs.declared.Telling.{Telling}
 use Rattle.listing.specs.Listed.{listed}
-use Rattle.tracing.specs.declared.file.Outcome.{Outcome}
-use Rattle.tracing.specs.declared.file.Outcome.TheVariants as outcome
+use Rattle.why.specs.declared.Finding.{Finding}
+use Rattle.tracing.specs.declared.file.Tallied.{Tallied}
 use Rattle.tracing.specs.file.Comes.{Comes}
 use Rattle.verdict.specs.Sheets.{sheet_lines}
 use Rattle.verdict.proofs.sheets.Saying.{sheet-lines-short}
@@ -40,18 +41,18 @@ accepted-short letter rows warnings =
     omega
     (arith, decimal-twenty rows, decimal-twenty warnings, length-append (decimal rows) (bytes ", warnings " ++ (decimal warnings ++ bytes ".\n")), length-append (decimal warnings) (bytes ".\n"))
 
-heading-short : (letter : ℕ) (s : Outcome) → length (heading_in letter s) ≤ 80
-heading-short letter (outcome.Found x) = omega (arith, refused-short letter)
-heading-short letter (outcome.Passed rows warnings) = accepted-short letter rows warnings
+heading-short : (letter : ℕ) (s : Result Tallied Finding) → length (heading_in letter s) ≤ 80
+heading-short letter (Err x) = omega (arith, refused-short letter)
+heading-short letter (Ok p) = accepted-short letter p.rows p.warnings
 
-count_low : (sh : Sheet) (today : ℕ) (f : List ℕ) (s : Outcome) → Comes sh today f s → count_in s ≤ 799992001
-count_low sh today f (outcome.Found x) c = omega arith
-count_low sh today f (outcome.Passed rows warnings) c = c.warnings_low
+count_low : (sh : Sheet) (today : ℕ) (f : List ℕ) (s : Result Tallied Finding) → Comes sh today f s → count_in s ≤ 799992001
+count_low sh today f (Err x) c = omega arith
+count_low sh today f (Ok p) c = c.warnings_low
 
 telling-is : (u : Telling) → u.words ≡ true → u ≡ in_words u.sheet u.today
 telling-is u e = rw (← e)
 
-module _ (t : Telling) (f : List ℕ) (s : Outcome) (comes : Comes t.sheet t.today f s) (words : t.words ≡ true) (lines : List ℕ) (few : length lines ≤ 1024) where
+module _ (t : Telling) (f : List ℕ) (s : Result Tallied Finding) (comes : Comes t.sheet t.today f s) (words : t.words ≡ true) (lines : List ℕ) (few : length lines ≤ 1024) where
   listed-low : length (listed t f (findings t.sheet t.today f)) ≤ 1024 * 799992001
   listed-low =
       let is : t ≡ in_words t.sheet t.today = telling-is t words in

@@ -58,8 +58,8 @@ fn put_heading(out: &mut [u8], at: usize, letter: u8, o: Outcome) -> usize
     ensures { Counted out.old at (heading_in letter o) out.new result }
 {
     match o {
-        Outcome::Found(_) => put_refused(out, at, letter),
-        Outcome::Passed { rows, warnings } => put_accepted(out, at, letter, rows, warnings),
+        Err(_) => put_refused(out, at, letter),
+        Ok(tallied) => put_accepted(out, at, letter, tallied.rows, tallied.warnings),
     }
 }
 

@@ -1,5 +1,5 @@
 -- How listing ends: from what the pass came to, to the answer and the lent bytes. Assumes nothing.
-use Rattle.std.proofs.Common.{Option, Some, None}
+use Rattle.std.proofs.Common.{Result, Option, Some, None}
 use mathlib.Core.Path.{◌≡◌, sym, ap, ◌∙◌}
 use mathlib.Core.Bool.{Bool, true, false}
 use mathlib.Core.List.{List, ◌++◌}
@@ -17,7 +17,8 @@ use Rattle.numeral.specs.counted.Counted.{Counted}
 use Rattle.numeral.proofs.counted.Laws.{counted-wrote}
 use Rattle.verdict.specs.Sheets.{accepting}
 use Rattle.listing.specs.Listed.{listed}
-use Rattle.tracing.specs.declared.file.Outcome.{Outcome}
+use Rattle.why.specs.declared.Finding.{Finding}
+use Rattle.tracing.specs.declared.file.Tallied.{Tallied}
 use Rattle.tracing.specs.file.Comes.{Comes}
 use Rattle.findings.specs.Findings.{findings, in_numbers}
 use Rattle.findings.specs.Lists.{ListAnswer, no_list, needs_room, list_in, filled_in, list_with, filled_with, list_answer, list_after}
@@ -32,7 +33,7 @@ put_front o s = let e : 0 + length s ≡ length s = omega arith in ap (λ (n : �
 
 -- ---- on a real day: o is what the file came to, n how many findings that are
 
-module _ (sh : Sheet) (today : ℕ) (f lent : List ℕ) (o : Outcome) (comes : Comes sh today f o) (n : ℕ) (long : n ≡ count_in o) where
+module _ (sh : Sheet) (today : ℕ) (f lent : List ℕ) (o : Result Tallied Finding) (comes : Comes sh today f o) (n : ℕ) (long : n ≡ count_in o) where
   is : n ≡ length (findings sh today f)
   is = long ∙ outcome-count sh today f o comes
 

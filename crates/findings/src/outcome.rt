@@ -16,8 +16,8 @@ pub fn count_of(o: Outcome) -> u64
     ensures { result ≡ count_in o }
 {
     match o {
-        Outcome::Found(_) => 1,
-        Outcome::Passed { rows: _, warnings } => warnings,
+        Err(_) => 1,
+        Ok(tallied) => tallied.warnings,
     }
 }
 
@@ -26,11 +26,8 @@ pub fn refused_of(o: Outcome) -> u64
     ensures { result ≡ refused_in o }
 {
     match o {
-        Outcome::Found(_) => 1,
-        Outcome::Passed {
-            rows: _,
-            warnings: _,
-        } => 0,
+        Err(_) => 1,
+        Ok(_) => 0,
     }
 }
 
@@ -41,9 +38,9 @@ pub fn put_findings(out: &mut [u8], to: usize, t: Telling, f: &[u8], o: Outcome)
     ensures { Counted out.old to (listed t f.now (findings t.sheet t.today f.now)) out.new result }
 {
     match o {
-        Outcome::Found(x) => listing::put_finding(out, to, t, f, x),
-        Outcome::Passed { rows: _, warnings } => {
-            if warnings == 0 {
+        Err(x) => listing::put_finding(out, to, t, f, x),
+        Ok(tallied) => {
+            if tallied.warnings == 0 {
                 return to;
             }
             tracing::warnings::put_warnings(out, to, t, f)

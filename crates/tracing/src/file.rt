@@ -1,28 +1,32 @@
 // A whole file judged, line by line and along the lines of a group at once: the one finding of a refused file, or the counts of an accepted one.
-ghost use Rattle.std.specs.Prelude.{◌≡◌, true, ◌<◌, length};
+ghost use Rattle.std.specs.Prelude.{◌≡◌, true, ◌<◌, length, None};
 ghost use Rattle.sheet.proofs.Laws.{Sane};
 ghost use Rattle.paper.specs.Days.{real_day};
-ghost use Rattle.course.specs.declared.Move.TheVariants as move;
 ghost use Rattle.course.specs.Stands.{at_group, at_item};
-ghost use Rattle.tracing.specs.declared.file.Ahead.TheVariants as ahead;
+ghost use Rattle.std.specs.declared.ops.ControlFlow.TheVariants.{Continue};
 ghost use Rattle.tracing.specs.file.Comes.{Comes, Reached, AtEnd};
 ghost use Rattle.tracing.specs.file.Steps.{Steps, Met};
 
 use crate::group::Far;
 use course::line::{from_file, from_first, from_group};
-use course::{Course, Move, Stage};
+use course::{Course, Stage};
 use fileline::seen::Seen;
 use judge::group::{Counts, Held, Shelf};
 use scan::line::Cut;
 use sheet::Sheet;
+use std::ops::ControlFlow;
+use std::ops::ControlFlow::{Break, Continue};
 use why::Finding;
 
-// What a file comes to: what is found in it, of a refused one; or the counts of rows and warnings.
+// What is counted in an accepted file.
 #[derive(Clone, Copy)]
-pub enum Outcome {
-    Found(Finding),
-    Passed { rows: u64, warnings: u64 },
+pub struct Tallied {
+    pub rows: u64,
+    pub warnings: u64,
 }
+
+// What a file comes to: the counts of an accepted one, or what is found in a refused one.
+pub type Outcome = Result<Tallied, Finding>;
 
 // Where a pass begins.
 pub const START: Course = Course {
@@ -40,25 +44,29 @@ fn at_end(f: &[u8], line: u64, x: Course) -> Outcome
         Stage::File(counts) => {
             let files = counts.files;
             if files == 0 {
-                return Outcome::Found(found::blame_end(f, line, x));
+                return Err(found::blame_end(f, line, x));
             }
-            Outcome::Passed {
+            Ok(Tallied {
                 rows: counts.rows,
                 warnings: counts.warnings,
-            }
+            })
         }
-        Stage::First => Outcome::Found(found::blame_end(f, line, x)),
-        Stage::Group(_, _) => Outcome::Found(found::blame_end(f, line, x)),
-        Stage::Item(_) => Outcome::Found(found::blame_end(f, line, x)),
+        Stage::First => Err(found::blame_end(f, line, x)),
+        Stage::Group(_, _) => Err(found::blame_end(f, line, x)),
+        Stage::Item(_) => Err(found::blame_end(f, line, x)),
     }
 }
 
-// Where some lines lead: on, to a line where the pass stands at x; or the file has come to its outcome.
+// A line to which the pass has come, by its place and its number, where it stands at x.
 #[derive(Clone, Copy)]
-pub enum Ahead {
-    On { at: usize, line: u64, x: Course },
-    Over(Outcome),
+pub struct Mark {
+    pub at: usize,
+    pub line: u64,
+    pub x: Course,
 }
+
+// Where some lines lead: on, to a line behind them; or the file has come to its outcome.
+pub type Ahead = ControlFlow<Outcome, Mark>;
 
 // What is found in the line there, where judging halts.
 fn blamed(
@@ -72,11 +80,11 @@ fn blamed(
     words: [u64; 16],
 ) -> Outcome
     requires sane { Sane sh × (real_day today ≡ true) }
-    requires met { Met sh today f.now at cut line x words move.Halt }
+    requires met { Met sh today f.now at cut line x words None }
     ensures { Comes sh today f.now result }
 {
     let set = Seen { words };
-    Outcome::Found(found::blame_line(f, sh, today, at, cut.stop, line, x, set))
+    Err(found::blame_line(f, sh, today, at, cut.stop, line, x, set))
 }
 
 // What the line there leads to.
@@ -89,19 +97,19 @@ fn moved(
     line: u64,
     x: Course,
     words: [u64; 16],
-    to: Move,
+    to: Option<Course>,
 ) -> Ahead
     requires sane { Sane sh × (real_day today ≡ true) }
     requires met { Met sh today f.now at cut line x words to }
     ensures { Steps sh today f.now at words result }
 {
     match to {
-        Move::On(y) => Ahead::On {
+        Some(y) => Continue(Mark {
             at: cut.next,
             line: line + 1,
             x: y,
-        },
-        Move::Halt => Ahead::Over(blamed(f, sh, today, at, cut, line, x, words)),
+        }),
+        None => Break(blamed(f, sh, today, at, cut, line, x, words)),
     }
 }
 
@@ -118,14 +126,14 @@ fn in_group(from: u64, to: u64, held: Held) -> Course
 
 // Behind a group.
 fn behind_group(at: usize, line: u64, from: u64, to: u64, counts: Counts, shelf: Shelf) -> Ahead
-    ensures { result ≡ ahead.On at line (at_group from to counts shelf) }
+    ensures { result ≡ Continue (record { at = at; line = line; x = at_group from to counts shelf }) }
 {
     let x = Course {
         from,
         to,
         stage: Stage::Group(counts, shelf),
     };
-    Ahead::On { at, line, x }
+    Continue(Mark { at, line, x })
 }
 
 // The lines of an open group.
@@ -158,13 +166,13 @@ fn whole_group(
             held: last,
         } => {
             let x = in_group(from, to, last);
-            Ahead::Over(blamed(f, sh, today, there, cut, number, x, words))
+            Break(blamed(f, sh, today, there, cut, number, x, words))
         }
         Far::Ended {
             at: _,
             line: number,
             held: last,
-        } => Ahead::Over(at_end(f, number, in_group(from, to, last))),
+        } => Break(at_end(f, number, in_group(from, to, last))),
     }
 }
 
@@ -215,16 +223,12 @@ pub fn follow(f: &[u8], sh: Sheet, today: u64) -> Outcome
     let mut x = START;
     while at < f.len() {
         match step(f, sh, today, at, line, x, &mut seen) {
-            Ahead::On {
-                at: next,
-                line: following,
-                x: y,
-            } => {
-                at = next;
-                line = following;
-                x = y;
+            Continue(next) => {
+                at = next.at;
+                line = next.line;
+                x = next.x;
             }
-            Ahead::Over(o) => {
+            Break(o) => {
                 return o;
             }
         }

@@ -1,5 +1,5 @@
 -- How the functions of a verdict end: from what a function is told to the verdict. Assumes nothing.
-use Rattle.std.proofs.Common.{Option, Some, None}
+use Rattle.std.proofs.Common.{Err, Result, Ok, Option, Some, None}
 use mathlib.Core.Path.{◌≡◌, sym, ◌∙◌}
 use mathlib.Core.Bool.{Bool, true, false}
 use mathlib.Core.List.{List}
@@ -12,8 +12,7 @@ use Rattle.paper.specs.Days.{real_day}
 use Rattle.paper.specs.Reading.{refused_at, read_with}
 use Rattle.tally.specs.Short.{No}
 use Rattle.why.specs.declared.Finding.{Finding}
-use Rattle.tracing.specs.declared.file.Outcome.{Outcome}
-use Rattle.tracing.specs.declared.file.Outcome.TheVariants as outcome
+use Rattle.tracing.specs.declared.file.Tallied.{Tallied}
 use Rattle.verdict.specs.declared.Verdict.{Verdict}
 use Rattle.verdict.specs.Told.{verdict_of, verdict_in}
 use Rattle.verdict.proofs.Laws.{in_brief, no-day-verdict, comes-verdict}
@@ -32,12 +31,12 @@ module _ (sh : Sheet) (today : ℕ) (f : List ℕ) where
 pub ruleset verdicts = (real-known, no_day, comes-verdict)
 
 -- .. found to be one of the two
-module _ (o : Outcome) where
-  pub found-verdict : (x : Finding) → o ≡ outcome.Found x → record { number = x.number; line = x.line; byte = x.byte; rows = 0; warnings = 0 } ≡ verdict_in o
+module _ (o : Result Tallied Finding) where
+  pub found-verdict : (x : Finding) → o ≡ Err x → record { number = x.number; line = x.line; byte = x.byte; rows = 0; warnings = 0 } ≡ verdict_in o
   found-verdict x e = rw e
 
-  pub passed-verdict : (rows warnings : ℕ) → o ≡ outcome.Passed rows warnings → record { number = 0; line = 0; byte = 0; rows = rows; warnings = warnings } ≡ verdict_in o
-  passed-verdict rows warnings e = rw e
+  pub passed-verdict : (p : Tallied) → o ≡ Ok p → record { number = 0; line = 0; byte = 0; rows = p.rows; warnings = p.warnings } ≡ verdict_in o
+  passed-verdict p e = rw e
 
 pub ruleset outcomes = (found-verdict, passed-verdict)
 

@@ -1,5 +1,5 @@
 -- Which verdict it is: 1 and 2, then what the file is judged to be; never that there is no room for rows. Assumes nothing.
-use Rattle.std.proofs.Common.{Some}
+use Rattle.std.proofs.Common.{Err, Result, Ok, Some}
 use mathlib.Core.Path.{◌≡◌, refl, sym, ap, ◌∙◌}
 use mathlib.Core.Bool.{true, false}
 use mathlib.Core.List.{List}
@@ -14,8 +14,8 @@ use Rattle.paper.specs.Judge.{Answer, Refused, Accepted, judge}
 use Rattle.paper.specs.Reading.{row_count, refused_at, accepted_as, answered, read_with}
 use Rattle.tally.specs.Short.{Brief, No, Yes, brief, tally}
 use Rattle.tally.proofs.Short.{tally-is}
-use Rattle.tracing.specs.declared.file.Outcome.{Outcome}
-use Rattle.tracing.specs.declared.file.Outcome.TheVariants as outcome
+use Rattle.why.specs.declared.Finding.{Finding}
+use Rattle.tracing.specs.declared.file.Tallied.{Tallied}
 use Rattle.tracing.specs.file.Comes.{Comes}
 use Rattle.verdict.specs.declared.Verdict.{Verdict}
 use Rattle.verdict.specs.Told.{verdict_of, verdict_in}
@@ -49,10 +49,10 @@ module _ (sh : Sheet) (today : ℕ) (f : List ℕ) where
   no-day-verdict not = rw not
 
   -- o is what a pass came to, and v its verdict
-  comes-brief : (o : Outcome) → Comes sh today f o → verdict_in o ≡ in_brief (brief (judge sh today f))
+  comes-brief : (o : Result Tallied Finding) → Comes sh today f o → verdict_in o ≡ in_brief (brief (judge sh today f))
   unfolding brief
-  comes-brief (outcome.Found x) (is, judged) = rw judged
-  comes-brief (outcome.Passed rows warnings) c = rw (c.judged, c.counted)
+  comes-brief (Err x) (is, judged) = rw judged
+  comes-brief (Ok p) c = rw (c.judged, c.counted)
 
-  pub comes-verdict : real_day today ≡ true → (o : Outcome) → Comes sh today f o → (v : Verdict) → v ≡ verdict_in o → v ≡ verdict_of (read_with (Some sh) today f (length f))
+  pub comes-verdict : real_day today ≡ true → (o : Result Tallied Finding) → Comes sh today f o → (v : Verdict) → v ≡ verdict_in o → v ≡ verdict_of (read_with (Some sh) today f (length f))
   comes-verdict real o c v e = e ∙ (comes-brief o c ∙ (ap in_brief (sym (tally-is sh today f)) ∙ sym (day-verdict real)))

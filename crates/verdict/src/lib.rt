@@ -32,19 +32,19 @@ pub fn verdict_of(o: Outcome) -> Verdict
     ensures { result ≡ verdict_in o }
 {
     match o {
-        Outcome::Found(x) => Verdict {
+        Err(x) => Verdict {
             number: x.number,
             line: x.line,
             byte: x.byte,
             rows: 0,
             warnings: 0,
         },
-        Outcome::Passed { rows, warnings } => Verdict {
+        Ok(tallied) => Verdict {
             number: 0,
             line: 0,
             byte: 0,
-            rows,
-            warnings,
+            rows: tallied.rows,
+            warnings: tallied.warnings,
         },
     }
 }

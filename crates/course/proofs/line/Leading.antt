@@ -1,4 +1,5 @@
 -- What each line leads to, with what the code knows at each exit. Assumes nothing.
+use Rattle.std.proofs.Common.{Some, None, Option}
 use mathlib.Core.Path.{◌≡◌, refl, sym, ap, subst, ◌∙◌}
 use mathlib.Core.Bool.{false}
 use mathlib.Core.List.{List, [], ◌∷◌}
@@ -55,8 +56,6 @@ use Rattle.judge.proofs.accountfile.Groups.{closed-as}
 use Rattle.course.specs.declared.Course.{Course}
 use Rattle.course.specs.declared.Stage.{Stage}
 use Rattle.course.specs.declared.Stage.TheVariants as stage
-use Rattle.course.specs.declared.Move.{Move}
-use Rattle.course.specs.declared.Move.TheVariants as move
 use Rattle.course.specs.Stands.{numbers_of, Low, Leads, at_first, at_file, at_group, at_item}
 use Rattle.course.proofs.line.Lifts.{leads-halt, leads-on}
 
@@ -64,7 +63,7 @@ use Rattle.course.proofs.line.Lifts.{leads-halt, leads-on}
 
 pub other-line : (sh : Sheet) (today k : ℕ) (f : List ℕ) (at stop from to : ℕ) (s : Stage) (words : List ℕ) (r : LineKind) → kinds.told r ≡ kind_of (cut_of f at stop)
     → (v : LineKind) → r ≡ v → ((h : Header) (l : List ℕ) → is_due (numbers_of h l s) (kinds.told v) ≡ false)
-    → Leads sh today k (line_in f at stop) (record { from = from; to = to; stage = s }) words words move.Halt
+    → Leads sh today k (line_in f at stop) (record { from = from; to = to; stage = s }) words words None
 unfolding step
 other-line sh today k f at stop from to stage.First words r t v e d =
     leads-halt sh today k _ _ words _ λ h l _. not-due sh today k (line_in f at stop) _ refl (kinds.told v) (is-kind (cut_of f at stop) r t v e _ refl) (d h l)
@@ -82,19 +81,19 @@ module _ (sh : Sheet) (f : List ℕ) (at stop : ℕ) (e : kind_of (cut_of f at s
   unfolding step is_due is_full read_as
   said v q today k = by-fields sh today k (line_in f at stop) t_first refl head_line e refl refl _ (ap counted (rw q at t))
 
-  pub first-refused : (n off : ℕ) → r ≡ firstread.Refused n off → (today k from to : ℕ) (words : List ℕ) → Leads sh today k (line_in f at stop) (at_first from to) words words move.Halt
+  pub first-refused : (n off : ℕ) → r ≡ firstread.Refused n off → (today k from to : ℕ) (words : List ℕ) → Leads sh today k (line_in f at stop) (at_first from to) words words None
   unfolding on_said counted
   first-refused n off q today k from to words = leads-halt sh today k _ _ words _ λ h l _. said (firstread.Refused n off) q today k
 
   pub first_plain : r ≡ firstread.Plain → (today k from to : ℕ) (words : List ℕ)
-      → Leads sh today k (line_in f at stop) (at_first from to) words words (move.On (at_file 0 0 (record { files = 0; items = 0; rows = 0; warnings = 0 })))
+      → Leads sh today k (line_in f at stop) (at_first from to) words words (Some (at_file 0 0 (record { files = 0; items = 0; rows = 0; warnings = 0 })))
   unfolding on_said meet on_entry on_head counted
   first_plain q today k from to words =
       leads-on sh today k _ _ words words _ λ h l known.
       (no_header, [], record { first = refl; last = refl; holds = subst (Holds words) known.fresh known.holds; fresh = tt }, said firstread.Plain q today k)
 
   pub first-fields : (date client from' to' : ℕ) → r ≡ firstread.Header date client from' to' → (today k from to : ℕ) (words : List ℕ)
-      → Leads sh today k (line_in f at stop) (at_first from to) words words (move.On (at_file from' to' (record { files = 0; items = 0; rows = 0; warnings = 0 })))
+      → Leads sh today k (line_in f at stop) (at_first from to) words words (Some (at_file from' to' (record { files = 0; items = 0; rows = 0; warnings = 0 })))
   unfolding on_said meet on_entry on_head counted
   first-fields date client from' to' q today k from to words =
       leads-on sh today k _ _ words words _ λ h l known. (
@@ -112,14 +111,14 @@ pub ruleset firsts-lead = (first-refused, first_plain, first-fields, nothing-low
 -- ---- an account file
 
 module _ (sh : Sheet) (f : List ℕ) (at : ℕ) (c : Counts) (cut : Cut) (cuts : Cuts f at cut) (from to : ℕ) (words : List ℕ) (e : kind_of (cut_of f at cut.stop) ≡ file_line) where
-  pub file-full : 1000 ≤ c.files → (today k : ℕ) → Leads sh today k (line_in f at cut.stop) (at_file from to c) words words move.Halt
+  pub file-full : 1000 ≤ c.files → (today k : ℕ) → Leads sh today k (line_in f at cut.stop) (at_file from to c) words words None
   unfolding step is_due is_full
   file-full full today k =
       leads-halt sh today k _ _ words _ λ h l _.
       no_room sh today k (line_in f at cut.stop) (t_file (book_of h l c)) refl file_line e refl (le-leb _ _ full)
 
   module _ (room : c.files < 1000) (r : FileRead) (t : files.told r ≡ read_file sh (fault_in sh.interval from to words) (cut_of f at cut.stop)) where
-    pub file-refused : (n off : ℕ) → r ≡ fileread.Refused n off → (today k : ℕ) → Leads sh today k (line_in f at cut.stop) (at_file from to c) words words move.Halt
+    pub file-refused : (n off : ℕ) → r ≡ fileread.Refused n off → (today k : ℕ) → Leads sh today k (line_in f at cut.stop) (at_file from to c) words words None
     unfolding on_said counted
     file-refused n off q today k =
         leads-halt sh today k _ _ words _ λ h l known.
@@ -127,7 +126,7 @@ module _ (sh : Sheet) (f : List ℕ) (at : ℕ) (c : Counts) (cut : Cut) (cuts :
 
     pub file-opened : (kind number : ℕ) → r ≡ fileread.File kind number → (after : List ℕ) → ((l : List ℕ) → Holds words l → Holds after (series number ∷ l))
         → (more : Counts) → more ≡ file_more c → (new : Shelf) → new ≡ new_shelf kind
-        → (today k : ℕ) → Leads sh today k (line_in f at cut.stop) (at_file from to c) words after (move.On (at_group from to more new))
+        → (today k : ℕ) → Leads sh today k (line_in f at cut.stop) (at_file from to c) words after (Some (at_group from to more new))
     unfolding on_said meet on_entry on_file counted
     file-opened kind number q after marks more y new z today k =
         let w : c.warnings + 0 ≡ c.warnings = omega arith in
@@ -160,7 +159,7 @@ pub ruleset files-lead = (file-full, file-refused, file-opened, opened-low, file
 -- ---- a group: r is what its line leads to
 
 module _ (sh : Sheet) (today : ℕ) (f : List ℕ) (at stop k : ℕ) (c : Counts) (s : Shelf) (r : Opening) (opens : Opens sh today (line_in f at stop) k c s r) (from to : ℕ) where
-  pub group-opened : (x : Held) → r ≡ opening.Group x → (words : List ℕ) → Leads sh today k (line_in f at stop) (at_group from to c s) words words (move.On (at_item from to x))
+  pub group-opened : (x : Held) → r ≡ opening.Group x → (words : List ℕ) → Leads sh today k (line_in f at stop) (at_group from to c s) words words (Some (at_item from to x))
   group-opened x q words =
       let o : Opens sh today (line_in f at stop) k c s (opening.Group x) = rw q at opens in
       leads-on sh today k _ _ words words _ λ h l known.
@@ -169,7 +168,7 @@ module _ (sh : Sheet) (today : ℕ) (f : List ℕ) (at stop k : ℕ) (c : Counts
   pub group-low : (x : Held) → r ≡ opening.Group x → LowItem x
   group-low x q = let o : Opens sh today (line_in f at stop) k c s (opening.Group x) = rw q at opens in o.low
 
-  pub group-refused : (n byte : ℕ) → r ≡ opening.Refused n byte → (words : List ℕ) → Leads sh today k (line_in f at stop) (at_group from to c s) words words move.Halt
+  pub group-refused : (n byte : ℕ) → r ≡ opening.Refused n byte → (words : List ℕ) → Leads sh today k (line_in f at stop) (at_group from to c s) words words None
   group-refused n byte q words =
       let o : Opens sh today (line_in f at stop) k c s (opening.Refused n byte) = rw q at opens in
       leads-halt sh today k _ _ words _ λ h l _. o.same h l
@@ -179,19 +178,19 @@ pub ruleset groups-lead = (group-opened, group-low, group-refused)
 -- ---- the account file's end
 
 module _ (sh : Sheet) (f : List ℕ) (at : ℕ) (c : Counts) (s : Shelf) (cut : Cut) (cuts : Cuts f at cut) (e : kind_of (cut_of f at cut.stop) ≡ file_end) (from to : ℕ) where
-  pub end-early : s.groups ≡ 0 → (today k : ℕ) (words : List ℕ) → Leads sh today k (line_in f at cut.stop) (at_group from to c s) words words move.Halt
+  pub end-early : s.groups ≡ 0 → (today k : ℕ) (words : List ℕ) → Leads sh today k (line_in f at cut.stop) (at_group from to c s) words words None
   unfolding step is_due pick
   end-early z today k words =
       leads-halt sh today k _ _ words _ λ h l _.
       not-due sh today k (line_in f at cut.stop) (in_file h l c s) refl file_end e (simp (eq-eqb _ _ z))
 
   module _ (z : s.groups ≡ 0 → ⊥) (r : CloseRead) (t : (x : Entry) → closes.told x r ≡ read_close sh.near x (cut_of f at cut.stop)) where
-    pub end_refused : (n off : ℕ) → r ≡ closeread.Refused n off → (today k : ℕ) (words : List ℕ) → Leads sh today k (line_in f at cut.stop) (at_group from to c s) words words move.Halt
+    pub end_refused : (n off : ℕ) → r ≡ closeread.Refused n off → (today k : ℕ) (words : List ℕ) → Leads sh today k (line_in f at cut.stop) (at_group from to c s) words words None
     unfolding on_said counted
     end_refused n off q today k words =
         leads-halt sh today k _ _ words _ λ h l _. closed-as sh f at k c s cut cuts e z r t (closeread.Refused n off) q today h l
 
-    pub file-ended : r ≡ closeread.Closed → (today k : ℕ) (words : List ℕ) → Leads sh today k (line_in f at cut.stop) (at_group from to c s) words words (move.On (at_file from to c))
+    pub file-ended : r ≡ closeread.Closed → (today k : ℕ) (words : List ℕ) → Leads sh today k (line_in f at cut.stop) (at_group from to c s) words words (Some (at_file from to c))
     unfolding on_said meet on_entry on_group counted
     file-ended q today k words =
         let w : c.warnings + 0 ≡ c.warnings = omega arith in
@@ -230,13 +229,13 @@ module _ (sh : Sheet) (today : ℕ) (f : List ℕ) (at stop : ℕ) (x : Held) (r
 
   module _ (from to : ℕ) where
     pub item-more : (amount warnings : ℕ) → r ≡ turn.Item amount warnings → (more : Held) → more ≡ held_more x amount warnings
-        → (k : ℕ) (words : List ℕ) → Leads sh today k (line_in f at stop) (at_item from to x) words words (move.On (at_item from to more))
+        → (k : ℕ) (words : List ℕ) → Leads sh today k (line_in f at stop) (at_item from to x) words words (Some (at_item from to more))
     item-more amount warnings q more y k words =
         rw y
         (leads-on sh today k _ _ words words _ λ h l known.
         (h, l, record { first = known.first; last = known.last; holds = known.holds; fresh = tt }, (says-turn (turn.Item amount warnings) q).same k h l))
 
-    pub item-stops : (n byte : ℕ) → r ≡ turn.Stop n byte → (k : ℕ) (words : List ℕ) → Leads sh today k (line_in f at stop) (at_item from to x) words words move.Halt
+    pub item-stops : (n byte : ℕ) → r ≡ turn.Stop n byte → (k : ℕ) (words : List ℕ) → Leads sh today k (line_in f at stop) (at_item from to x) words words None
     item-stops n byte q k words = leads-halt sh today k _ _ words _ λ h l _. (says-turn (turn.Stop n byte) q).same k h l
 
   -- .. its end, which comes to g, found to be v
@@ -245,7 +244,7 @@ module _ (sh : Sheet) (today : ℕ) (f : List ℕ) (at stop : ℕ) (x : Held) (r
     comes v z k h l = ap (closed_to h l) (sym z ∙ y) ∙ (closed_is sh h l a b x ∙ (says-turn turn.Close q).same k h l)
 
     pub item-closes : (at' k' : ℕ) (c : Counts) (s : Shelf) → g ≡ end.Closed at' k' c s → (from to k : ℕ) (words : List ℕ)
-        → Leads sh today k (line_in f at stop) (at_item from to x) words words (move.On (at_group from to c s))
+        → Leads sh today k (line_in f at stop) (at_item from to x) words words (Some (at_group from to c s))
     item-closes at' k' c s z from to k words =
         leads-on sh today k _ _ words words _ λ h l known.
         (h, l, record { first = known.first; last = known.last; holds = known.holds; fresh = tt }, comes (end.Closed at' k' c s) z k h l)
@@ -256,7 +255,7 @@ module _ (sh : Sheet) (today : ℕ) (f : List ℕ) (at stop : ℕ) (x : Held) (r
         subst Small (sym (comes (end.Closed at' k' c s) z 0 no_header [])) (small-step sh sane today 0 (line_in f at stop) (in_group no_header [] x) low)
 
     pub item-broken : (n k' byte : ℕ) → g ≡ end.Stop n k' byte → (from to k : ℕ) (words : List ℕ)
-        → Leads sh today k (line_in f at stop) (at_item from to x) words words move.Halt
+        → Leads sh today k (line_in f at stop) (at_item from to x) words words None
     item-broken n k' byte z from to k words = leads-halt sh today k _ _ words _ λ h l _. comes (end.Stop n k' byte) z k h l
 
 -- ---- any line: the stage was found to be what it is
@@ -270,16 +269,16 @@ module _ (f : List ℕ) (at : ℕ) (cut : Cut) (cuts : Cuts f at cut) where
   cut-to = omega (arith, cuts.to, cuts.inside)
 
 -- whatever the day, the line's number and the words are
-pub whenever : (sh : Sheet) (t : Line) (x : Course) (r : Move) → ((today k : ℕ) (words : List ℕ) → Leads sh today k t x words words r)
+pub whenever : (sh : Sheet) (t : Line) (x : Course) (r : Option Course) → ((today k : ℕ) (words : List ℕ) → Leads sh today k t x words words r)
     → (today k : ℕ) (words : List ℕ) → Leads sh today k t x words words r
 whenever sh t x r h = h
 
 module _ (x : Course) where
-  by-stage : (sh : Sheet) (today k : ℕ) (t : Line) (before after : List ℕ) (r : Move) (s : Stage) → x.stage ≡ s
+  by-stage : (sh : Sheet) (today k : ℕ) (t : Line) (before after : List ℕ) (r : Option Course) (s : Stage) → x.stage ≡ s
       → Leads sh today k t (record { from = x.from; to = x.to; stage = s }) before after r → Leads sh today k t x before after r
   by-stage sh today k t before after r s e p = rw (← e) at p
 
-  module _ (sh : Sheet) (t : Line) (r : Move) where
+  module _ (sh : Sheet) (t : Line) (r : Option Course) where
     pub in-group : (c : Counts) (s : Shelf) → x.stage ≡ stage.Group c s → (today k : ℕ) → ((words : List ℕ) → Leads sh today k t (at_group x.from x.to c s) words words r)
         → (words : List ℕ) → Leads sh today k t x words words r
     in-group c s e today k h words = by-stage sh today k t words words r (stage.Group c s) e (h words)

@@ -1,4 +1,5 @@
 -- What a line does to the judge's numbers it does to where the pass stands. Assumes nothing.
+use Rattle.std.proofs.Common.{Some, None}
 use mathlib.Core.Path.{◌≡◌, refl, sym, ap, ◌∙◌}
 use mathlib.Core.Bool.{Bool, true, false}
 use mathlib.Core.List.{List}
@@ -16,7 +17,6 @@ use Rattle.why.specs.Finding.{halted}
 use Rattle.course.specs.declared.Stage.{Stage}
 use Rattle.course.specs.declared.Stage.TheVariants as stage
 use Rattle.course.specs.declared.Course.{Course}
-use Rattle.course.specs.declared.Move.TheVariants as move
 use Rattle.course.specs.Stands.{numbers_of, Fresh, Stands, Leads}
 
 -- have the numbers come to an answer?
@@ -58,7 +58,7 @@ known_of s = record { first = s.first; last = s.last; holds = s.holds; fresh = s
 module _ (sh : Sheet) (today k : ℕ) (t : Line) (x : Course) (before : List ℕ) where
   -- the line stops the judge
   pub leads-halt : (b : Brief) → ((h : Header) (l : List ℕ) → Known x before h l → t_stop b ≡ step sh today k t (numbers_of h l x.stage))
-      → Leads sh today k t x before before move.Halt
+      → Leads sh today k t x before before None
   leads-halt b e = (
     refl,
     λ st s.
@@ -70,7 +70,7 @@ module _ (sh : Sheet) (today k : ℕ) (t : Line) (x : Course) (before : List ℕ
   pub leads-on : (after : List ℕ) (y : Course)
       → ((h : Header) (l : List ℕ) → Known x before h l
       → (g : Header) × (m : List ℕ) × Known y after g m × (numbers_of g m y.stage ≡ step sh today k t (numbers_of h l x.stage)))
-      → Leads sh today k t x before after (move.On y)
+      → Leads sh today k t x before after (Some y)
   leads-on after y e st s =
       let (g, m, kept, q) = e s.header s.earlier (known_of s) in
       record {

@@ -9,8 +9,8 @@ put_refused-requires c = search (headings, rules)
 pub put_accepted-requires : goal.put_accepted-requires
 put_accepted-requires c = search (headings, rules)
 
-pub returns-in-Found : goal.returns-in-Found
-returns-in-Found c = search (headings, rules)
+pub returns-in-Err : goal.returns-in-Err
+returns-in-Err c = search (headings, rules)
 
-pub returns-in-Passed : goal.returns-in-Passed
-returns-in-Passed c = search (headings, rules)
+pub returns-in-Ok : goal.returns-in-Ok
+returns-in-Ok c = search (headings, rules)

@@ -1,4 +1,5 @@
 -- A pass over a file comes from line to line, until judging halts or the file ends. Assumes nothing.
+use Rattle.std.proofs.Common.{Some, None, Option, Err, Ok}
 use mathlib.Core.Path.{◌≡◌, refl, sym, ap, subst, ◌∙◌}
 use mathlib.Core.Bool.{true, false}
 use mathlib.Core.List.{List, [], ◌∷◌}
@@ -43,11 +44,8 @@ use Rattle.why.specs.Finding.{halted, halting, halt_on, found_at, found_in, blam
 use Rattle.why.proofs.Found.{moves-going, found-there}
 use Rattle.course.specs.declared.Course.{Course}
 use Rattle.course.specs.declared.Stage.TheVariants as stage
-use Rattle.course.specs.declared.Move.{Move}
-use Rattle.course.specs.declared.Move.TheVariants as move
 use Rattle.course.specs.Stands.{numbers_of, Low, LowMove, Stands, Leads}
 use Rattle.course.proofs.line.Lifts.{stands-going}
-use Rattle.tracing.specs.declared.file.Outcome.TheVariants as outcome
 use Rattle.tracing.specs.file.Comes.{Comes, At, Reached, AtEnd}
 
 -- the file's first line
@@ -131,15 +129,15 @@ module _ (sh : Sheet) (today : ℕ) (f : List ℕ) (at k : ℕ) (x : Course) (wo
         omega (arith, long, length-take (cut.stop - at) (drop at f), cuts.to, cuts.from, reached.lines))
         (λ some. omega (arith, reached.lines, cuts.ahead))
 
-    module _ (after : List ℕ) (r : Move) (leads : Leads sh today k (line_in f at cut.stop) x words after r) where
-      at-fits : (y : Course) → r ≡ move.On y → Fits w64 cut.next → Fits w64 (k + 1)
+    module _ (after : List ℕ) (r : Option Course) (leads : Leads sh today k (line_in f at cut.stop) x words after r) where
+      at-fits : (y : Course) → r ≡ Some y → Fits w64 cut.next → Fits w64 (k + 1)
       unfolding behind
       at-fits y e fits =
           let on : (st : State) → Stands x words st → Stands y after (step sh today k (line_in f at cut.stop) st) = rw e at leads in
           Fits-le (passes-long (stands-going y after behind (on st reached.stands))) fits
 
       -- judging goes on
-      at_on : (y : Course) → r ≡ move.On y → LowMove r → At sh today f cut.next (k + 1) y after (step sh today k (line_in f at cut.stop) st)
+      at_on : (y : Course) → r ≡ Some y → LowMove r → At sh today f cut.next (k + 1) y after (step sh today k (line_in f at cut.stop) st)
       unfolding behind
       at_on y e low =
           let on : (st : State) → Stands x words st → Stands y after (step sh today k (line_in f at cut.stop) st) = rw e at leads in
@@ -158,9 +156,9 @@ module _ (sh : Sheet) (today : ℕ) (f : List ℕ) (at k : ℕ) (x : Course) (wo
           }
 
       -- judging halts, and z is what is found there
-      at-halt : Sane sh → r ≡ move.Halt → (z : Finding)
+      at-halt : Sane sh → r ≡ None → (z : Finding)
           → ((st : State) → Stands x after st → z ≡ blame sh today f k (line_in f at cut.stop) (kind_of (line_in f at cut.stop).bytes) st)
-          → Comes sh today f (outcome.Found z)
+          → Comes sh today f (Err z)
       unfolding behind found_in found_at
       at-halt sane e z blames =
           let (still, stops) : (after ≡ words) × ((st : State) → Stands x words st → halted (step sh today k (line_in f at cut.stop) st) ≡ true) = rw e at leads in
@@ -188,7 +186,7 @@ module _ (sh : Sheet) (today : ℕ) (f : List ℕ) (at k : ℕ) (x : Course) (wo
 
 -- early, by what the numbers say
 ends-early : (f : List ℕ) (k : ℕ) (x : Course) → ((h : Header) (l : List ℕ) → end_of (length f) k (numbers_of h l x.stage) ≡ No 3 k (length f))
-    → (z : Finding) → ((st : State) (words : List ℕ) → Stands x words st → z ≡ early (length f) k st) → AtEnd f k x (outcome.Found z)
+    → (z : Finding) → ((st : State) (words : List ℕ) → Stands x words st → z ≡ early (length f) k st) → AtEnd f k x (Err z)
 unfolding early
 ends-early f k x ends z is sh today at words e reached =
     let z-is = is reached.state words reached.held.stands in
@@ -197,23 +195,23 @@ ends-early f k x ends z is sh today at words e reached =
 
 module _ (f : List ℕ) (k : ℕ) (x : Course) where
   module _ (z : Finding) (is : (st : State) (words : List ℕ) → Stands x words st → z ≡ early (length f) k st) where
-    pub end-first : x.stage ≡ stage.First → AtEnd f k x (outcome.Found z)
+    pub end-first : x.stage ≡ stage.First → AtEnd f k x (Err z)
     unfolding end_of
     end-first e = ends-early f k x (λ h l. rw e) z is
 
-    pub end-group : (c : Counts) (s : Shelf) → x.stage ≡ stage.Group c s → AtEnd f k x (outcome.Found z)
+    pub end-group : (c : Counts) (s : Shelf) → x.stage ≡ stage.Group c s → AtEnd f k x (Err z)
     unfolding end_of
     end-group c s e = ends-early f k x (λ h l. rw e) z is
 
-    pub end-item : (y : Held) → x.stage ≡ stage.Item y → AtEnd f k x (outcome.Found z)
+    pub end-item : (y : Held) → x.stage ≡ stage.Item y → AtEnd f k x (Err z)
     unfolding end_of
     end-item y e = ends-early f k x (λ h l. rw e) z is
 
-    pub end_none : (c : Counts) → x.stage ≡ stage.File c → c.files ≡ 0 → AtEnd f k x (outcome.Found z)
+    pub end_none : (c : Counts) → x.stage ≡ stage.File c → c.files ≡ 0 → AtEnd f k x (Err z)
     unfolding end_of
     end_none c e none = ends-early f k x (λ h l. rw e (pick_true _ _ (eq-eqb c.files 0 none))) z is
 
-  pub end-passed : (c : Counts) → x.stage ≡ stage.File c → (c.files ≡ 0 → ⊥) → AtEnd f k x (outcome.Passed c.rows c.warnings)
+  pub end-passed : (c : Counts) → x.stage ≡ stage.File c → (c.files ≡ 0 → ⊥) → AtEnd f k x (Ok (record { rows = c.rows; warnings = c.warnings }))
   unfolding end_of
   end-passed c e some sh today at words long reached =
       let h = reached.held.stands.header in
@@ -232,20 +230,20 @@ module _ (sh : Sheet) (today : ℕ) (f : List ℕ) (at k : ℕ) (x : Course) (wo
   pub reached-low : Low x.stage
   reached-low = reached.held.low
 
-  module _ (cut : Cut) (cuts : Cuts f at cut) (after : List ℕ) (r : Move) (leads : Leads sh today k (line_in f at cut.stop) x words after r) where
-    pub line-fits : (y : Course) → r ≡ move.On y → Fits w64 cut.next → Fits w64 (k + 1)
+  module _ (cut : Cut) (cuts : Cuts f at cut) (after : List ℕ) (r : Option Course) (leads : Leads sh today k (line_in f at cut.stop) x words after r) where
+    pub line-fits : (y : Course) → r ≡ Some y → Fits w64 cut.next → Fits w64 (k + 1)
     line-fits = at-fits sh today f at k x words reached.state reached.held cut cuts after r leads
 
-    pub reached-on : (y : Course) → r ≡ move.On y → LowMove r → Reached sh today f cut.next (k + 1) y after
+    pub reached-on : (y : Course) → r ≡ Some y → LowMove r → Reached sh today f cut.next (k + 1) y after
     reached-on y e low =
         record {
           state = step sh today k (line_in f at cut.stop) reached.state;
           held = at_on sh today f at k x words reached.state reached.held cut cuts after r leads y e low;
         }
 
-    pub reached-halt : Sane sh → r ≡ move.Halt → (z : Finding)
+    pub reached-halt : Sane sh → r ≡ None → (z : Finding)
         → ((st : State) → Stands x after st → z ≡ blame sh today f k (line_in f at cut.stop) (kind_of (line_in f at cut.stop).bytes) st)
-        → Comes sh today f (outcome.Found z)
+        → Comes sh today f (Err z)
     reached-halt = at-halt sh today f at k x words reached.state reached.held cut cuts after r leads
 
 -- at the file's end

@@ -1,4 +1,5 @@
 -- A line, or the lines of a group, lead a pass on, or to what the file comes to. Assumes nothing.
+use Rattle.std.proofs.Common.{Some, None, Option, Err, Result}
 use mathlib.Core.Path.{◌≡◌, refl}
 use mathlib.Core.List.{List}
 use Prim.Native.Nat.{ℕ, ◌+◌, ◌-◌, ◌≤◌, ◌<◌}
@@ -20,13 +21,11 @@ use Rattle.why.specs.declared.Finding.{Finding}
 use Rattle.why.specs.Finding.{blame}
 use Rattle.course.specs.declared.Course.{Course}
 use Rattle.course.specs.declared.Stage.TheVariants as stage
-use Rattle.course.specs.declared.Move.{Move}
-use Rattle.course.specs.declared.Move.TheVariants as move
 use Rattle.course.specs.Stands.{LowMove, Stands, Leads, at_group, at_item}
-use Rattle.tracing.specs.declared.file.Outcome.{Outcome}
-use Rattle.tracing.specs.declared.file.Outcome.TheVariants as outcome
-use Rattle.tracing.specs.declared.file.Ahead.{Ahead}
-use Rattle.tracing.specs.declared.file.Ahead.TheVariants as ahead
+use Rattle.tracing.specs.declared.file.Tallied.{Tallied}
+use Rattle.std.specs.declared.ops.ControlFlow.{ControlFlow}
+use Rattle.std.specs.declared.ops.ControlFlow.TheVariants.{Continue, Break}
+use Rattle.tracing.specs.declared.file.Mark.{Mark}
 use Rattle.tracing.specs.declared.group.Far.{Far}
 use Rattle.tracing.specs.declared.group.Far.TheVariants as far
 use Rattle.tracing.specs.file.Comes.{Comes, Reached, AtEnd}
@@ -36,21 +35,21 @@ use Rattle.tracing.proofs.file.Reaching.{by_place, line-fits, reached-on, reache
 
 -- ---- one line: m is what it leads to
 
-module _ (sh : Sheet) (today : ℕ) (f : List ℕ) (at : ℕ) (cut : Cut) (k : ℕ) (x : Course) (after : List ℕ) (m : Move) (met : Met sh today f at cut k x after m) where
-  pub met-fits : (y : Course) → m ≡ move.On y → Fits w64 cut.next → Fits w64 (k + 1)
+module _ (sh : Sheet) (today : ℕ) (f : List ℕ) (at : ℕ) (cut : Cut) (k : ℕ) (x : Course) (after : List ℕ) (m : Option Course) (met : Met sh today f at cut k x after m) where
+  pub met-fits : (y : Course) → m ≡ Some y → Fits w64 cut.next → Fits w64 (k + 1)
   met-fits = line-fits sh today f at k x met.before met.reached cut met.cuts after m met.leads
 
-  pub met-on : (y : Course) → m ≡ move.On y → Steps sh today f at after (ahead.On cut.next (k + 1) y)
+  pub met-on : (y : Course) → m ≡ Some y → Steps sh today f at after (Continue (record { at = cut.next; line = k + 1; x = y }))
   met-on y e = (reached-on sh today f at k x met.before met.reached cut met.cuts after m met.leads y e met.low, met.cuts.ahead)
 
-  pub met-halted : m ≡ move.Halt → Met sh today f at cut k x after move.Halt
+  pub met-halted : m ≡ None → Met sh today f at cut k x after None
   met-halted e = rw e at met
 
 pub ruleset mets = (met-fits, met-on, met-halted)
 
 -- .. where judging halts
 
-module _ (sh : Sheet) (today : ℕ) (f : List ℕ) (at : ℕ) (cut : Cut) (k : ℕ) (x : Course) (after : List ℕ) (met : Met sh today f at cut k x after move.Halt) where
+module _ (sh : Sheet) (today : ℕ) (f : List ℕ) (at : ℕ) (cut : Cut) (k : ℕ) (x : Course) (after : List ℕ) (met : Met sh today f at cut k x after None) where
   pub halt-from : at ≤ cut.stop
   halt-from = met.cuts.from
 
@@ -59,8 +58,8 @@ module _ (sh : Sheet) (today : ℕ) (f : List ℕ) (at : ℕ) (cut : Cut) (k : �
 
   pub halt-found : Sane sh → (z : Finding)
       → ((st : State) → Stands x after st → z ≡ blame sh today f k (line_in f at cut.stop) (kind_of (line_in f at cut.stop).bytes) st)
-      → Comes sh today f (outcome.Found z)
-  halt-found sane = reached-halt sh today f at k x met.before met.reached cut met.cuts after move.Halt met.leads sane refl
+      → Comes sh today f (Err z)
+  halt-found sane = reached-halt sh today f at k x met.before met.reached cut met.cuts after None met.leads sane refl
 
 pub ruleset halts = (halt-from, halt-to, halt-found)
 
@@ -81,17 +80,17 @@ module _ (sh : Sheet) (today : ℕ) (f : List ℕ) (at k from to : ℕ) (x : Hel
     goes : (v : Far) → r ≡ v → Goes sh today f at from to words v
     goes v e = rw e at (through from to words reached)
 
-    pub far-closed : (next j : ℕ) (c : Counts) (s : Shelf) → r ≡ far.Closed next j c s → (v : Ahead) → v ≡ ahead.On next j (at_group from to c s) → Steps sh today f at words v
+    pub far-closed : (next j : ℕ) (c : Counts) (s : Shelf) → r ≡ far.Closed next j c s → (v : ControlFlow (Result Tallied Finding) Mark) → v ≡ Continue (record { at = next; line = j; x = at_group from to c s }) → Steps sh today f at words v
     far-closed next j c s e v q = rw q (goes (far.Closed next j c s) e)
 
-    pub far-halt : (there : ℕ) (cut : Cut) (j : ℕ) (y : Held) → r ≡ far.Halt there cut j y → (x : Course) → x ≡ at_item from to y → Met sh today f there cut j x words move.Halt
+    pub far-halt : (there : ℕ) (cut : Cut) (j : ℕ) (y : Held) → r ≡ far.Halt there cut j y → (x : Course) → x ≡ at_item from to y → Met sh today f there cut j x words None
     far-halt there cut j y e x q = rw q (goes (far.Halt there cut j y) e)
 
-    pub far-end : (there j : ℕ) (y : Held) → r ≡ far.Ended there j y → (x : Course) → x ≡ at_item from to y → (o : Outcome) → AtEnd f j x o → Steps sh today f at words (ahead.Over o)
+    pub far-end : (there j : ℕ) (y : Held) → r ≡ far.Ended there j y → (x : Course) → x ≡ at_item from to y → (o : Result Tallied Finding) → AtEnd f j x o → Steps sh today f at words (Break o)
     far-end there j y e x q o end = let (h, long) = goes (far.Ended there j y) e in end sh today there words long (rw q h)
 
 -- the file is over
-pub over : (sh : Sheet) (today : ℕ) (f : List ℕ) (at : ℕ) (words : List ℕ) (o : Outcome) → Comes sh today f o → Steps sh today f at words (ahead.Over o)
+pub over : (sh : Sheet) (today : ℕ) (f : List ℕ) (at : ℕ) (words : List ℕ) (o : Result Tallied Finding) → Comes sh today f o → Steps sh today f at words (Break o)
 over sh today f at words o comes = comes
 
 pub ruleset fars = (reached-begun, far-closed, far-halt, far-end, over)
@@ -102,19 +101,19 @@ module _ (sh : Sheet) (today : ℕ) (f : List ℕ) (at k : ℕ) (x : Course) (wo
   pub in-stage : (y : Held) → x.stage ≡ stage.Item y → Reached sh today f at k (at_item x.from x.to y) words
   in-stage y e = rw e at reached
 
-  pub met-line : (cut : Cut) → Cuts f at cut → (after : List ℕ) (m : Move) → Leads sh today k (line_in f at cut.stop) x words after m → LowMove m → Met sh today f at cut k x after m
+  pub met-line : (cut : Cut) → Cuts f at cut → (after : List ℕ) (m : Option Course) → Leads sh today k (line_in f at cut.stop) x words after m → LowMove m → Met sh today f at cut k x after m
   met-line cut cuts after m leads low = record { before = words; reached = reached; cuts = cuts; leads = leads; low = low }
 
 -- ---- a step of the loop: r is where it led
 
-module _ (sh : Sheet) (today : ℕ) (f : List ℕ) (at : ℕ) (words : List ℕ) (r : Ahead) (steps : Steps sh today f at words r) where
-  pub step-on : (next k : ℕ) (x : Course) → r ≡ ahead.On next k x → Reached sh today f next k x words
-  step-on next k x e = let s : Steps sh today f at words (ahead.On next k x) = rw e at steps in s.0
+module _ (sh : Sheet) (today : ℕ) (f : List ℕ) (at : ℕ) (words : List ℕ) (r : ControlFlow (Result Tallied Finding) Mark) (steps : Steps sh today f at words r) where
+  pub step-on : (m : Mark) → r ≡ Continue m → Reached sh today f m.at m.line m.x words
+  step-on m e = let s : Steps sh today f at words (Continue m) = rw e at steps in s.0
 
-  pub step_less : (next k : ℕ) (x : Course) → r ≡ ahead.On next k x → at < length f → length f - next < length f - at
-  step_less next k x e inside = let s : Steps sh today f at words (ahead.On next k x) = rw e at steps in omega (arith, s.1)
+  pub step_less : (m : Mark) → r ≡ Continue m → at < length f → length f - m.at < length f - at
+  step_less m e inside = let s : Steps sh today f at words (Continue m) = rw e at steps in omega (arith, s.1)
 
-  pub step-over : (o : Outcome) → r ≡ ahead.Over o → Comes sh today f o
-  step-over o e = let s : Steps sh today f at words (ahead.Over o) = rw e at steps in s
+  pub step-over : (o : Result Tallied Finding) → r ≡ Break o → Comes sh today f o
+  step-over o e = let s : Steps sh today f at words (Break o) = rw e at steps in s
 
 pub ruleset steps = (in-stage, met-line, step-on, step_less, step-over)

@@ -1,4 +1,5 @@
 -- A pass comes along the lines of a group, until one closes it, judging halts or the file ends. Assumes nothing.
+use Rattle.std.proofs.Common.{Some}
 use mathlib.Core.Path.{◌≡◌, refl, sym, ap, ◌∙◌}
 use mathlib.Core.Bool.{Bool, true, false}
 use mathlib.Core.List.{List}
@@ -22,7 +23,6 @@ use Rattle.judge.specs.declared.group.GroupEnd.{GroupEnd}
 use Rattle.judge.specs.declared.group.GroupEnd.TheVariants as end
 use Rattle.judge.specs.group.Stands.{line_in, held_more, Banked, Turns, closed_as, LowItem}
 use Rattle.judge.proofs.group.Going.{Going, going-low}
-use Rattle.course.specs.declared.Move.TheVariants as move
 use Rattle.course.specs.Stands.{at_group, at_item}
 use Rattle.course.proofs.line.Leading.{item-more, item-stops, item-closes, closes-low, item-broken}
 use Rattle.tracing.specs.declared.group.Far.{Far}
@@ -68,7 +68,7 @@ module _ (at : ℕ) (cut : Cut) (k : ℕ) (x : Held) (g : GroupEnd) where
       let leads = item-closes sh today f at cut.stop x turn.Close closing.turns refl cut.next (k + 1) g closing.comes at' k' c s e from to k words in
       let low = closes-low sh today f at cut.stop x turn.Close closing.turns refl cut.next (k + 1) g closing.comes sane closing.low at' k' c s e in
       rw (a, b) (
-        reached-on sh today f at k (at_item from to x) words reached cut closing.cuts words (move.On (at_group from to c s)) leads (at_group from to c s) refl low,
+        reached-on sh today f at k (at_item from to x) words reached cut closing.cuts words (Some (at_group from to c s)) leads (at_group from to c s) refl low,
         closing.cuts.ahead,
       )
 
@@ -112,7 +112,7 @@ module _ (sh : Sheet) (today : ℕ) (banks : Banks) (f : List ℕ) (start j : �
         let low : LowItem y = rw q (going-low sh today banks f start j x₀ at k x going cut cuts r turns sane amount warnings e) in
         record {
           comes = λ from to words reached.
-              reached-on sh today f at k (at_item from to x) words (carries.comes from to words reached) cut cuts words (move.On (at_item from to y))
+              reached-on sh today f at k (at_item from to x) words (carries.comes from to words reached) cut cuts words (Some (at_item from to y))
               (item-more sh today f at cut.stop x r says from to amount warnings e y q k words) (at_item from to y) refl low;
         }
 

@@ -1,5 +1,5 @@
 -- Where the lines of a group lead, by where a pass over the file comes with them. Assumes nothing.
-use Rattle.std.specs.Prelude.{ℕ, ◌+◌, ◌≤◌, ◌<◌, ◌≡◌, List, length}
+use Rattle.std.specs.Prelude.{ℕ, ◌+◌, ◌≤◌, ◌<◌, ◌≡◌, List, length, None}
 use Rattle.sheet.specs.declared.Sheet.{Sheet}
 use Rattle.scan.specs.declared.line.Cut.{Cut}
 use Rattle.scan.specs.line.Cutting.{Cuts}
@@ -7,7 +7,6 @@ use Rattle.judge.specs.declared.group.Held.{Held}
 use Rattle.judge.specs.declared.group.Turn.TheVariants as turn
 use Rattle.judge.specs.declared.group.GroupEnd.{GroupEnd}
 use Rattle.judge.specs.group.Stands.{LowItem, line_in, Turns, closed_as}
-use Rattle.course.specs.declared.Move.TheVariants as move
 use Rattle.course.specs.Stands.{at_group, at_item}
 use Rattle.tracing.specs.declared.group.Far.{Far}
 use Rattle.tracing.specs.declared.group.Far.TheVariants as far
@@ -17,7 +16,7 @@ use Rattle.tracing.specs.file.Steps.{Met}
 -- a pass over f that was at `start`, in a group, has come to r: behind the group, to a line where judging halts, or to the file's end
 abbrev pub Goes : Sheet → ℕ → List ℕ → ℕ → ℕ → ℕ → List ℕ → Far → Type 0
 Goes sh today f start from to words (far.Closed at k c s) = Reached sh today f at k (at_group from to c s) words × (start < at)
-Goes sh today f start from to words (far.Halt at cut k x) = Met sh today f at cut k (at_item from to x) words move.Halt
+Goes sh today f start from to words (far.Halt at cut k x) = Met sh today f at cut k (at_item from to x) words None
 Goes sh today f start from to words (far.Ended at k x) = Reached sh today f at k (at_item from to x) words × (length f ≤ at)
 
 -- r is where the group's lines lead from line k on, which starts at `at`, whatever the interval and the earlier numbers are

@@ -3,8 +3,8 @@ use borrow.Author.Rules.{rules}
 use Rattle.verdict.proofs.Exits.{outcomes}
 use Rattle.verdict.proofs.verdict_of.Goals as goal
 
-pub returns-in-Found : goal.returns-in-Found
-returns-in-Found c = search (outcomes, rules)
+pub returns-in-Err : goal.returns-in-Err
+returns-in-Err c = search (outcomes, rules)
 
-pub returns-in-Passed : goal.returns-in-Passed
-returns-in-Passed c = search (outcomes, rules)
+pub returns-in-Ok : goal.returns-in-Ok
+returns-in-Ok c = search (outcomes, rules)

@@ -6,14 +6,14 @@ use Rattle.findings.proofs.outcome.put_findings.Goals as goal
 pub put_finding-requires : goal.put_finding-requires
 put_finding-requires c = search (puts, rules)
 
-pub returns-then-warnings-eq0 : goal.returns-then-warnings-eq0
-returns-then-warnings-eq0 c = search (puts, rules)
+pub returns-then-tallied-eq0 : goal.returns-then-tallied-eq0
+returns-then-tallied-eq0 c = search (puts, rules)
 
 pub put_warnings-requires : goal.put_warnings-requires
 put_warnings-requires c = search (puts, rules)
 
-pub returns-in-Found : goal.returns-in-Found
-returns-in-Found c = search (puts, rules)
+pub returns-in-Err : goal.returns-in-Err
+returns-in-Err c = search (puts, rules)
 
-pub returns-else-warnings-eq0 : goal.returns-else-warnings-eq0
-returns-else-warnings-eq0 c = search (puts, rules)
+pub returns-else-tallied-eq0 : goal.returns-else-tallied-eq0
+returns-else-tallied-eq0 c = search (puts, rules)

@@ -16,8 +16,8 @@ loop-at-smaller c = search (reaches, steps, rules)
 pub loop-at-preserved : goal.loop-at-preserved
 loop-at-preserved c = search (reaches, steps, rules)
 
-pub returns-in-Over : goal.returns-in-Over
-returns-in-Over c = search (reaches, steps, rules)
+pub returns-in-Break : goal.returns-in-Break
+returns-in-Break c = search (reaches, steps, rules)
 
 pub at_end-requires : goal.at_end-requires
 at_end-requires c = search (reaches, steps, rules)

@@ -9,8 +9,8 @@ overflow_add-result c = search (mets, over, rules)
 pub blamed-requires : goal.blamed-requires
 blamed-requires c = search (mets, over, rules)
 
-pub returns-in-On : goal.returns-in-On
-returns-in-On c = search (mets, over, rules)
+pub returns-in-Some : goal.returns-in-Some
+returns-in-Some c = search (mets, over, rules)
 
-pub returns-in-Halt : goal.returns-in-Halt
-returns-in-Halt c = search (mets, over, rules)
+pub returns-in-None : goal.returns-in-None
+returns-in-None c = search (mets, over, rules)
