@@ -6,27 +6,29 @@ use Prim.Native.Nat.{ℕ, ◌^◌, ◌≤◌, ◌<◌}
 use native.Mathlib.Omega.{arith}
 use lib.Dec.{ltb, lit<}
 use lib.ListN.{length, take, drop}
+use Rattle.std.proofs.Common.{Option, Some, None, Result, Ok, Err}
 use borrow.Author.Tests.{ltb-false}
 use Rattle.base.specs.Pick.{pick}
 use Rattle.base.specs.Seek.{all}
-use Rattle.base.proofs.Cases.{by-test, picks}
+use Rattle.base.proofs.Cases.{by-test}
 use Rattle.base.proofs.Seek.{never}
+use Rattle.refusal.specs.declared.Flaw.{Flaw}
+use Rattle.refusal.specs.Numbers.{number_of}
 use Rattle.paper.specs.Read.{value, fault}
 use Rattle.paper.specs.Bytes.{is_text}
 use Rattle.paper.specs.Numerals.{digits}
 use Rattle.paper.specs.Days.{short_day, read_day, real_day}
 use Rattle.paper.specs.Batch.{Header}
 use Rattle.paper.specs.Warnings.{Notice}
-use Rattle.paper.specs.Entries.{Entry, head, file, group, item, close_group, close_file, Saying}
+use Rattle.paper.specs.Entries.{Entry, head, file, group, item, close_group, close_file, Listed, Saying}
 use Rattle.paper.specs.FirstLine.{text_field, read_to, read_rest, read_first}
 use Rattle.numeral.proofs.given.Given.{value-fault, value_same, given-value}
 use Rattle.numeral.proofs.Sound.{digits-sound}
 use Rattle.calendar.proofs.Sound.{day-sound}
 use Rattle.sheet.specs.declared.Sheet.{Sheet}
-use Rattle.firstline.specs.declared.FirstRead.{FirstRead}
-use Rattle.firstline.specs.declared.FirstRead.TheVariants as first
+use Rattle.firstline.specs.declared.Header.{Header as Read}
 use Rattle.firstline.specs.Stages.{name_in, rest_taken, on_to, on_from, on_client, on_name, on_date}
-use Rattle.firstline.specs.Told.{told, Sound}
+use Rattle.firstline.specs.Told.{told, told_header, Sound}
 use Rattle.firstline.proofs.Steps.{rest-field}
 use Rattle.firstline.proofs.Holds.{Holds, of-got, holds-got, holds-no, on-holds, place-holds}
 
@@ -118,17 +120,23 @@ module _ (ordered short : Bool) (s : List ℕ) (h : Header) (f : Fields ordered 
 
 -- ---- the answer of the code
 
-pub answer-sound : (ordered short : Bool) (s : List ℕ) (r : FirstRead) → told s r ≡ on_date ordered short 4 (drop 4 s) → Sound s r
-answer-sound ordered short s (first.Header d c f t) e =
+pub answer-sound : (ordered short : Bool) (s : List ℕ) (r : Result (Option Read) Flaw) → told s r ≡ on_date ordered short 4 (drop 4 s) → Sound s r
+answer-sound ordered short s (Ok (Some r)) e =
     let p = holds-got (Taken ordered short s) (Inside s) _ (line-holds ordered short s) _ (sym e) in
-    let h : Header = record { date = d; name = name_in s; client = c; from = f; to = t } in
+    let h : Header = record { date = r.date; name = name_in s; client = r.client; from = r.from; to = r.to } in
     (p.long, date_real ordered short s h p, p.text, client-small ordered short s h p, from-small ordered short s h p, to-small ordered short s h p)
-answer-sound ordered short s first.Plain e = tt
-answer-sound ordered short s (first.Refused n at) e = holds-no (Taken ordered short s) (Inside s) _ (line-holds ordered short s) n at (sym e)
+answer-sound ordered short s (Ok None) e = tt
+answer-sound ordered short s (Err x) e = holds-no (Taken ordered short s) (Inside s) _ (line-holds ordered short s) (number_of x.0) x.1 (sym e)
 
--- one step of the answer r through the sheet, for `search`
-pub step-header : (sh : Sheet) (s : List ℕ) (r : FirstRead) → sh.header ≡ true → told s r ≡ on_date sh.interval sh.short 4 (drop 4 s) → told s r ≡ read_first sh s
+-- the answer r on a sheet that reads a header
+pub step-header : (sh : Sheet) (s : List ℕ) (r : Result (Option Read) Flaw) → sh.header ≡ true → told s r ≡ on_date sh.interval sh.short 4 (drop 4 s) → told s r ≡ read_first sh s
 unfolding read_first on_date on_name on_client on_from on_to pick
 step-header sh s r e q = q ∙ rw e
 
-pub ruleset firsts = (step-header, answer-sound, picks)
+-- and through its fields: m is what their reader answered, t what the line says
+module _ (s : List ℕ) (m : Result Read Flaw) (t : Listed) (g : told_header s m ≡ t) where
+  pub was-header : (h : Read) → m ≡ Ok h → told s (Ok (Some h)) ≡ t
+  was-header h e = sym (ap (told_header s) e) ∙ g
+
+  pub was-flaw : (x : Flaw) → m ≡ Err x → told s (Err x) ≡ t
+  was-flaw x e = sym (ap (told_header s) e) ∙ g

@@ -6,18 +6,22 @@ use Prim.Native.Nat.{ℕ, ◌-◌, ◌≤◌, ◌<◌}
 use native.Mathlib.Omega.{arith}
 use lib.Dec.{ltb}
 use lib.ListN.{length, drop, length-drop}
+use Rattle.std.proofs.Common.{Result, Ok, Err}
 use borrow.Author.Tests.{lt-ltb, le-ltb}
 use Rattle.base.specs.Pick.{pick}
 use Rattle.base.specs.Seek.{all}
 use Rattle.base.proofs.Cases.{pick_true, picks}
 use Rattle.base.proofs.Lists.{drop-none}
+use Rattle.refusal.specs.declared.Refusal.{Refusal}
+use Rattle.refusal.specs.declared.Flaw.{Flaw}
+use Rattle.refusal.specs.Numbers.{number_of}
+use Rattle.refusal.specs.Placed.{placed}
+use Rattle.refusal.proofs.Places.{was-ok, was-err}
 use Rattle.paper.specs.Read.{Field, value, fault}
 use Rattle.paper.specs.Bytes.{is_text}
 use Rattle.paper.specs.Days.{short_day, read_day}
 use Rattle.paper.specs.Entries.{Said, no, on_field, place}
 use Rattle.paper.specs.FirstLine.{text_field, read_rest, rest_length}
-use Rattle.numeral.specs.declared.Num.{Num}
-use Rattle.numeral.specs.declared.Num.TheVariants.{Value, Refused}
 use Rattle.numeral.specs.Told.{told}
 use Rattle.numeral.proofs.given.Steps.{steps}
 use Rattle.numeral.proofs.field.Steps.{step-place, step-no-place, step_given, step-fault}
@@ -28,15 +32,26 @@ pub step-no-date : {Z : Type 0} {A : Type 0} (r : Said Z) (read : List ℕ → F
 unfolding place
 step-no-date r read s k h q = q ∙ sym (pick_true _ _ (lt-ltb (length (drop 4 s)) 6 (omega (arith, length-drop 4 s))))
 
--- a date of six bytes: m is what the reader of dates answered
-module _ {Z : Type 0} (r : Said Z) (at : ℕ) (s : List ℕ) (k : ℕ → Said Z) (m : Num) (g : told m ≡ read_day false s) where
-  pub step-day : (v : ℕ) → m ≡ Value v → r ≡ k v → r ≡ on_field at (short_day s) k
-  unfolding read_day pick
-  step-day v f q = step_given r at (short_day s) k m g v f q
+-- a number: m is what its reader answered, p the same with its place
+module _ {Z : Type 0} (r : Said Z) (at : ℕ) (k : ℕ → Said Z) (m : Result ℕ Refusal) (p : Result ℕ Flaw) (h : p ≡ placed m at) where
+  module _ (x : Field ℕ) (g : told m ≡ x) where
+    pub step-number : (v : ℕ) → p ≡ Ok v → r ≡ k v → r ≡ on_field at x k
+    step-number v f q = step_given r at x k m g v (was-ok m at v (sym h ∙ f)) q
 
-  pub step-no-day : (c : ℕ) → m ≡ Refused c → r ≡ no c at → r ≡ on_field at (short_day s) k
-  unfolding read_day pick
-  step-no-day c f q = step-fault r at (short_day s) k m g c f q
+    pub step-no-number : (y : Flaw) → p ≡ Err y → r ≡ no (number_of y.0) y.1 → r ≡ on_field at x k
+    step-no-number y f q =
+        let w = was-err m at y (sym h ∙ f) in
+        step-fault r at x k m g y.0 w.0 (q ∙ ap (no (number_of y.0)) (sym w.1))
+
+  -- a date of six bytes
+  module _ (s : List ℕ) (g : told m ≡ read_day false s) where
+    pub step-day : (v : ℕ) → p ≡ Ok v → r ≡ k v → r ≡ on_field at (short_day s) k
+    unfolding read_day pick
+    step-day v f q = step-number (short_day s) g v f q
+
+    pub step-no-day : (y : Flaw) → p ≡ Err y → r ≡ no (number_of y.0) y.1 → r ≡ on_field at (short_day s) k
+    unfolding read_day pick
+    step-no-day y f q = step-no-number (short_day s) g y f q
 
 -- two tests that must both pass
 both : {A : Type 0} (t u : Bool) (a b : A) → pick t (pick u a b) b ≡ pick (pick t u false) a b
@@ -68,7 +83,7 @@ module _ {Z : Type 0} (r : Said Z) (at : ℕ) (s : List ℕ) (k : List ℕ → S
     unfolding on_field pick
     step-no-rest e q = q ∙ rw (rest-field short s, ← g, e)
 
-pub ruleset fields = (step-no-date, step-place, step-no-place, step-day, step-no-day, step_given, step-fault, step-text, step-no-text, step-rest, step-no-rest)
+pub ruleset fields = (step-no-date, step-place, step-no-place, step-day, step-no-day, step-number, step-no-number, step-text, step-no-text, step-rest, step-no-rest)
 
 -- ---- the interval's end by itself
 

@@ -1,4 +1,5 @@
 -- `read_date` reads from the date on. Assumes nothing.
+use Rattle.std.proofs.lemmas.Result.{err_from_is_err_and}
 use Rattle.firstline.specs.Stages.{on_date}
 use Rattle.firstline.proofs.Steps.{fields}
 use Rattle.firstline.proofs.read_date.Goals as goal
@@ -7,10 +8,12 @@ pub returns-then-s-lt10 : goal.returns-then-s-lt10
 unfolding on_date
 returns-then-s-lt10 c = search fields
 
-pub returns-in-Value : goal.returns-in-Value
+pub returns-in_err-date : goal.returns-in_err-date
 unfolding on_date
-returns-in-Value c = search fields
+returns-in_err-date c =
+    let p = err_from_is_err_and c.from_residual.result c.from_residual.ensures.1 in
+    rw (p.1, p.2) (search (fields, c.in_err-date.was))
 
-pub returns-in-Refused : goal.returns-in-Refused
+pub returns : goal.returns
 unfolding on_date
-returns-in-Refused c = search fields
+returns c = search (fields, c.in_ok-date.was)
