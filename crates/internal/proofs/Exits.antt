@@ -5,6 +5,9 @@ use Prim.Native.Nat.{ℕ, ◌+◌, ◌-◌, ◌≤◌}
 use native.Mathlib.Omega.{arith}
 use lib.ListN.{length, take, drop, length-append, length-drop}
 use lib.Seq.{take_all, drop-length, length-take-le}
+use Rattle.std.specs.Prelude.{Result, Ok, Err}
+use Rattle.refusal.specs.declared.Refusal.{Refusal}
+use Rattle.refusal.specs.Numbers.{number_of}
 use Rattle.base.specs.Put.{Wrote}
 use Rattle.base.proofs.Lists.{drop-none}
 use Rattle.base.proofs.Put.{put-seam, ◌then◌}
@@ -13,8 +16,6 @@ use Rattle.paper.specs.Read.{value, fault, given}
 use Rattle.paper.specs.Numerals.{digits, fixed}
 use Rattle.paper.specs.Accounts.{account}
 use Rattle.numeral.specs.Told.{told}
-use Rattle.numeral.specs.declared.Num.{Num}
-use Rattle.numeral.specs.declared.Num.TheVariants.{Value, Refused}
 use Rattle.numeral.proofs.Fixed.{fixed-length}
 use Rattle.gpc.specs.Internal.{outside, internal, edited, account_of, read_internal, spell_internal}
 use Rattle.internal.proofs.Places.{taken-length}
@@ -22,26 +23,26 @@ use Rattle.internal.proofs.Laws.{refused, accepted}
 
 -- ---- reading: e are the bytes d in the edited order, m and n what the digits of prefix and base say
 
-module _ (d e : List ℕ) (f : e ≡ edited d) (m : Num) (g : told m ≡ digits 6 6 (take 6 (drop 0 e))) where
+module _ (d e : List ℕ) (f : e ≡ edited d) (m : Result ℕ Refusal) (g : told m ≡ digits 6 6 (take 6 (drop 0 e))) where
   prefix-said : digits 6 6 (take 6 (edited d)) ≡ told m
   prefix-said = rw (← f) (rw (drop-none e) at (sym g))
 
-  pub no-prefix : (k : ℕ) → m ≡ Refused k → fault 51 ≡ read_internal d
+  pub no-prefix : (k : Refusal) → m ≡ Err k → fault 51 ≡ read_internal d
   unfolding account_of given
-  no-prefix k r = sym (refused d k (rw (prefix-said, r) refl))
+  no-prefix k r = sym (refused d (number_of k) (rw (prefix-said, r) refl))
 
-  module _ (p : ℕ) (v : m ≡ Value p) (n : Num) (h : told n ≡ digits 10 10 (take 10 (drop 6 e))) where
+  module _ (p : ℕ) (v : m ≡ Ok p) (n : Result ℕ Refusal) (h : told n ≡ digits 10 10 (take 10 (drop 6 e))) where
     base-said : digits 10 10 (drop 6 (edited d)) ≡ told n
     unfolding edited
     base-said =
         let long : length (drop 6 e) ≡ 10 = omega (arith, length-drop 6 e, ap length f, taken-length outside d) in
         rw (← f) (rw (take_all 10 (drop 6 e) (omega arith)) at (sym h))
 
-    pub no-base : (k : ℕ) → n ≡ Refused k → fault 51 ≡ read_internal d
+    pub no-base : (k : Refusal) → n ≡ Err k → fault 51 ≡ read_internal d
     unfolding account_of given
-    no-base k r = sym (refused d k (rw (prefix-said, v, base-said, r) refl))
+    no-base k r = sym (refused d (number_of k) (rw (prefix-said, v, base-said, r) refl))
 
-    pub both_read : (b : ℕ) → n ≡ Value b → length d ≡ 16 → value (account p b) ≡ read_internal d
+    pub both_read : (b : ℕ) → n ≡ Ok b → length d ≡ 16 → value (account p b) ≡ read_internal d
     unfolding account_of given
     both_read b w long = sym (accepted d (account p b) long (rw (prefix-said, v, base-said, w) refl))
 

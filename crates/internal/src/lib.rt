@@ -8,7 +8,7 @@ ghost use Rattle.paper.specs.Accounts.{account};
 ghost use Rattle.gpc.specs.Internal.{internal as internal_of, edited as edited_of, read_internal, spell_internal};
 ghost use Rattle.internal.specs.Told.{told};
 
-use numeral::Num;
+use refusal::Refusal;
 
 // Edited digits, prefix P1 to P6 and base C1 to C10, in the internal order.
 pub fn internal(d: [u8; 16]) -> [u8; 16]
@@ -58,11 +58,11 @@ pub fn edited(d: [u8; 16]) -> [u8; 16]
     ]
 }
 
-// What a field in the internal form says: the account's prefix and base, or the refusal's number.
+// The two numbers of an account, as a field in the internal form says them.
 #[derive(Clone, Copy)]
-pub enum Found {
-    Account(u64, u64),
-    Refused(u64),
+pub struct AccountParts {
+    pub prefix: u64,
+    pub base: u64,
 }
 
 // Sixteen bytes from `at` on, by value.
@@ -77,21 +77,21 @@ fn sixteen(s: &[u8], at: usize) -> [u8; 16]
 }
 
 // The account in sixteen bytes.
-fn account_in(d: [u8; 16]) -> Found
+fn account_in(d: [u8; 16]) -> Result<AccountParts, Refusal>
     ensures { told result ≡ read_internal d }
 {
     let e = edited(d);
-    let Num::Value(prefix) = numeral::read_digits(&e[0..6], 6, 6) else {
-        return Found::Refused(51);
+    let Ok(prefix) = numeral::read_digits(&e[0..6], 6, 6) else {
+        return Err(Refusal::BadValue);
     };
-    let Num::Value(base) = numeral::read_digits(&e[6..16], 10, 10) else {
-        return Found::Refused(51);
+    let Ok(base) = numeral::read_digits(&e[6..16], 10, 10) else {
+        return Err(Refusal::BadValue);
     };
-    Found::Account(prefix, base)
+    Ok(AccountParts { prefix, base })
 }
 
 // The account in the sixteen bytes from `at` on.
-pub fn read_internal(s: &[u8], at: usize) -> Found
+pub fn read_internal(s: &[u8], at: usize) -> Result<AccountParts, Refusal>
     requires { at + 16 ≤ length s.now }
     ensures { told result ≡ read_internal (take 16 (drop at s.now)) }
 {
