@@ -6,6 +6,12 @@ use Prim.Native.Nat.{ℕ, ◌+◌, ◌≤◌}
 use native.Mathlib.Omega.{arith}
 use lib.ListN.{length, drop, length-append}
 use Rattle.base.specs.Pick.{pick}
+use Rattle.std.proofs.Common.{Result, Ok, Err}
+use Rattle.refusal.specs.declared.Refusal.{Refusal}
+use Rattle.refusal.specs.declared.Flaw.{Flaw}
+use Rattle.refusal.specs.Numbers.{number_of}
+use Rattle.refusal.specs.Placed.{placed}
+use Rattle.refusal.proofs.Places.{was-ok, was-err}
 use Rattle.sheet.specs.declared.Style.{Style}
 use Rattle.sheet.specs.declared.Sheet.{Sheet}
 use Rattle.paper.specs.Read.{Field, value, fault}
@@ -18,8 +24,6 @@ use Rattle.paper.specs.ItemLine as lines
 use Rattle.paper.proofs.Passing.{Keeps, on-passes, field-passes, gap-passes, pick-passes, counted-keeps, notices-length}
 use Rattle.numeral.proofs.given.Given.{value_same, value-fault}
 use Rattle.numeral.proofs.field.Steps.{step-known, step-unknown}
-use Rattle.text.specs.declared.TextRead.{TextRead}
-use Rattle.text.specs.declared.TextRead.TheVariants as text
 use Rattle.text.specs.Told as texts
 use Rattle.text.specs.Told.{count_texts, count_text}
 use Rattle.text.specs.declared.span.Spans.{Spans}
@@ -52,20 +56,24 @@ module _ (y : Style) (s : List ℕ) (from : ℕ) (f : Spans) (g : value (texts_a
       omega (arith, ap (λ (x : Texts ℕ). x.warnings) read-texts.2, text-warnings y l from (drop from s) read-texts.0 read-texts.1)
 
 -- t is what their judge answered
-module _ (y : Style) (s : List ℕ) (from : ℕ) (t : TextRead) (g : texts.told s t ≡ count_text (read_text y from (drop from s))) (r : Counted) where
-  module _ (amount w v : ℕ) where
-    pub step-texts : (f : Spans) → t ≡ text.Texts f → r ≡ kept amount (w + f.warnings) → r ≡ on_field from (read_text y from (drop from s)) (kept_texts amount w v)
+module _ (y : Style) (s : List ℕ) (from : ℕ) (t : Result Spans Refusal) (g : texts.told s t ≡ count_text (read_text y from (drop from s)))
+    (m : Result Spans Flaw) (h : m ≡ placed t from) where
+  module _ (r : Counted) (amount w v : ℕ) where
+    pub step-texts : (f : Spans) → m ≡ Ok f → r ≡ kept amount (w + f.warnings) → r ≡ on_field from (read_text y from (drop from s)) (kept_texts amount w v)
     unfolding kept_texts
     step-texts f e q =
-        let z = read-texts y s from f (rw e at g) in
+        let z = read-texts y s from f (rw (was-ok t from f (sym h ∙ e)) at g) in
         let n : f.warnings ≡ length z.0.warnings = ap (λ (x : Texts ℕ). x.warnings) z.2 in
         step-known r from (read_text y from (drop from s)) (kept_texts amount w v) z.0 z.1 (q ∙ ap (λ (k : ℕ). kept amount (w + k)) n)
 
-    pub step-no-texts : (c : ℕ) → t ≡ text.Refused c → r ≡ no c from → r ≡ on_field from (read_text y from (drop from s)) (kept_texts amount w v)
-    step-no-texts c e q = step-unknown r from (read_text y from (drop from s)) (kept_texts amount w v) c (counted-fault _ c (rw e at g)) q
+    pub step-no-texts : (x : Flaw) → m ≡ Err x → r ≡ no (number_of x.0) x.1 → r ≡ on_field from (read_text y from (drop from s)) (kept_texts amount w v)
+    step-no-texts x e q =
+        let u = was-err t from x (sym h ∙ e) in
+        step-unknown r from (read_text y from (drop from s)) (kept_texts amount w v) (number_of x.0) (counted-fault _ (number_of x.0) (rw u.0 at g))
+        (q ∙ ap (no (number_of x.0)) (sym u.1))
 
-pub texts-few : (y : Style) (s : List ℕ) (from : ℕ) (t : TextRead) → texts.told s t ≡ count_text (read_text y from (drop from s)) → y.most ≤ 4 → (f : Spans) → t ≡ text.Texts f → f.warnings ≤ 5
-texts-few y s from t g l f e = spans-few y s from f (rw e at g) l
+  pub texts-few : y.most ≤ 4 → (f : Spans) → m ≡ Ok f → f.warnings ≤ 5
+  texts-few l f e = spans-few y s from f (rw (was-ok t from f (sym h ∙ e)) at g) l
 
 -- ---- the walk: g is a map of what lines say that keeps refusals, and takes k to j
 

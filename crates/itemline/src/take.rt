@@ -26,8 +26,10 @@ ghost use Rattle.itemline.specs.take.Named.{with_name};
 ghost use Rattle.itemline.specs.take.Made.{taken, made_paid, made, Small, with_texts};
 
 use crate::Fields;
+use crate::tail::Tail;
 use account::at::Account;
 use numeral::field::Run;
+use refusal::Refusal;
 use sheet::{Sheet, Style};
 use text::division::{first_part, next_part};
 use text::span::{Part, Span, Spans, gather, one_part, part_at};
@@ -52,13 +54,6 @@ pub struct Front {
     pub constant: u64,
     pub priority: u64,
     pub warnings: u64,
-}
-
-// The tail of an item's line: a specific symbol and no text, or a symbol and where its text begins.
-#[derive(Clone, Copy)]
-pub enum Tail {
-    Plain(u64),
-    Text(u64, usize),
 }
 
 // No message and no name.
@@ -167,7 +162,7 @@ fn take_message(y: Style, s: &[u8], from: usize) -> Spans
 }
 
 // Where what a judged text says begins. Only a text that may have a name, or a message without `AV:`, is looked at.
-fn start_of(y: Style, s: &[u8], from: usize) -> Begun
+fn start_of(y: Style, s: &[u8], from: usize) -> Result<Begun, Refusal>
     requires from_in_bounds { from ≤ length s.now }
     requires s_value { is_value (read_text y from (drop from s.now)) ≡ true }
     ensures { Begins y s.now from result (of_text y from (drop from s.now)) }
@@ -175,7 +170,7 @@ fn start_of(y: Style, s: &[u8], from: usize) -> Begun
     if varied(y) {
         return begin_text(y, s, from);
     }
-    Begun::Message(message_start(y, s, from))
+    Ok(Begun::Message(message_start(y, s, from)))
 }
 
 // The text that begins at `from`. It was judged before: neither its bytes nor its limits are tested again.
@@ -187,9 +182,9 @@ fn take_text(y: Style, s: &[u8], from: usize) -> Spans
     ensures held { Held s.now result }
 {
     match start_of(y, s, from) {
-        Begun::Refused(_) => no_spans(),
-        Begun::Name => one_part(from, 0, from + 3, s.len() - from - 3),
-        Begun::Message(at) => take_message(y, s, at),
+        Err(_) => no_spans(),
+        Ok(Begun::Name) => one_part(from, 0, from + 3, s.len() - from - 3),
+        Ok(Begun::Message(at)) => take_message(y, s, at),
     }
 }
 
@@ -202,7 +197,10 @@ fn take_tail(s: &[u8], at: usize, y: Style, fixed: bool, bare: bool, x: Front) -
     ensures inside { Inside s.now result }
 {
     if s.len() <= at {
-        return Tail::Plain(0);
+        return Tail {
+            specific: 0,
+            text: None,
+        };
     }
     let from = at + 1;
     let got = numeral::field::digit_run(s, from, 10);
@@ -210,17 +208,32 @@ fn take_tail(s: &[u8], at: usize, y: Style, fixed: bool, bare: bool, x: Front) -
     let symbol = got.value;
     if from < end {
         if s.len() <= end {
-            return Tail::Plain(symbol);
+            return Tail {
+                specific: symbol,
+                text: None,
+            };
         }
         if s[end] == 32 {
-            return Tail::Text(symbol, end + 1);
+            return Tail {
+                specific: symbol,
+                text: Some(end + 1),
+            };
         }
-        return Tail::Text(0, from);
+        return Tail {
+            specific: 0,
+            text: Some(from),
+        };
     }
     if fixed {
-        return Tail::Text(symbol, end + 1);
+        return Tail {
+            specific: symbol,
+            text: Some(end + 1),
+        };
     }
-    Tail::Text(0, from)
+    Tail {
+        specific: 0,
+        text: Some(from),
+    }
 }
 
 // The item with its specific symbol and its texts.
@@ -253,9 +266,10 @@ fn from_tail(s: &[u8], at: usize, y: Style, fixed: bool, bare: bool, x: Front) -
     ensures result_value { told s.now result ≡ tail_of y fixed bare (made x) at (drop at s.now) }
     ensures sound { Sound s.now result }
 {
-    match take_tail(s, at, y, fixed, bare, x) {
-        Tail::Plain(specific) => whole(x, specific, no_spans()),
-        Tail::Text(specific, from) => whole(x, specific, take_text(y, s, from)),
+    let tail = take_tail(s, at, y, fixed, bare, x);
+    match tail.text {
+        None => whole(x, tail.specific, no_spans()),
+        Some(from) => whole(x, tail.specific, take_text(y, s, from)),
     }
 }
 

@@ -14,6 +14,8 @@ use Rattle.base.specs.Pick.{pick}
 use Rattle.base.specs.Seek.{all, seek}
 use Rattle.base.proofs.Cases.{by-eq, by-test, pick_true}
 use Rattle.base.proofs.Seek.{never, seek-within}
+use Rattle.std.proofs.Common.{Result, Ok, Err}
+use Rattle.refusal.specs.declared.Refusal.{Refusal}
 use Rattle.sheet.specs.declared.Style.{Style}
 use Rattle.paper.specs.Read.{Field, value, fault}
 use Rattle.paper.specs.Bytes.{is_text, bar, mark}
@@ -26,8 +28,6 @@ use Rattle.text.specs.span.Held.{texts_at, Held}
 use Rattle.text.specs.span.Places.{span, part_to, part_at, ended, found_at, one_at, four_from}
 use Rattle.text.proofs.span.Turns.{part_none, part-next, four-found, one_found}
 use Rattle.text.proofs.span.Bars.{count-least}
-use Rattle.text.specs.declared.TextRead.{TextRead}
-use Rattle.text.specs.declared.TextRead.TheVariants as answer
 use Rattle.text.specs.declared.Begun.{Begun}
 use Rattle.text.specs.declared.Begun.TheVariants as begun
 use Rattle.text.specs.Told.{count_text, told, Tells}
@@ -194,7 +194,7 @@ pub ruleset named-parts = (third-within, third-part, fourth-within, others-named
 
 -- ---- what was judged: a value is the texts at their places
 
-value-one : (s : List ℕ) (y : Style) (from size at len : ℕ) → is_value (told s (fitted_one y from size at len)) ≡ true → fitted_one y from size at len ≡ answer.Texts (one_at from size at len)
+value-one : (s : List ℕ) (y : Style) (from size at len : ℕ) → is_value (told s (fitted_one y from size at len)) ≡ true → fitted_one y from size at len ≡ Ok (one_at from size at len)
 unfolding fitted_one judged pick is_value
 value-one s y from size at len h =
     by-test (eqb y.most 0) (λ e. never (sym (simp e at h)))
@@ -202,7 +202,7 @@ value-one s y from size at len h =
     (λ f. by-test (eqb (one_at from size at len).warnings 0) (λ g. simp (e, f, g)) (λ g. never (sym (simp (e, f, g) at h)))))
 
 value-fitted : (s : List ℕ) (y : Style) (m : List ℕ) (from at len : ℕ) → is_value (told s (fitted_at y m from at len)) ≡ true
-    → (fitted_at y m from at len ≡ answer.Texts (four_from m from at len)) × (leb y.most (length (others from (drop from m))) ≡ false)
+    → (fitted_at y m from at len ≡ Ok (four_from m from at len)) × (leb y.most (length (others from (drop from m))) ≡ false)
 unfolding fitted_at judged pick is_value
 value-fitted s y m from at len h =
     by-test (leb y.most (length (others from (drop from m)))) (λ e. never (sym (simp e at h)))
@@ -210,7 +210,7 @@ value-fitted s y m from at len h =
     (λ f. by-test (eqb (four_from m from at len).warnings 0) (λ g. (simp (e, f, g), e)) (λ g. never (sym (simp (e, f, g) at h)))))
 
 value-four : (s : List ℕ) (y : Style) (m : List ℕ) (from at len : ℕ) → is_value (told s (finish_at y m from at len)) ≡ true
-    → (finish_at y m from at len ≡ answer.Texts (four_from m from at len)) × (leb y.most (length (others from (drop from m))) ≡ false)
+    → (finish_at y m from at len ≡ Ok (four_from m from at len)) × (leb y.most (length (others from (drop from m))) ≡ false)
 unfolding finish_at pick is_value
 value-four s y m from at len h =
     by-test (taken y (drop from m)) (λ e. let v = value-fitted s y m from at len (rw e at h) in (rw e v.0, v.1)) (λ e. never (sym (simp e at h)))
@@ -221,7 +221,7 @@ unfolding count_text is_value
 value-counted (value z) h = refl
 value-counted (fault n) h = h
 
-tells-value : (s : List ℕ) (r : TextRead) (f : Spans) (x : Field Noted) → Tells s r x → r ≡ answer.Texts f → (value (texts_at s f) ≡ count_text x) × Held s f
+tells-value : (s : List ℕ) (r : Result Spans Refusal) (f : Spans) (x : Field Noted) → Tells s r x → r ≡ Ok f → (value (texts_at s f) ≡ count_text x) × Held s f
 tells-value s r f x t e = (rw e at t.says, rw e at t.inside)
 
 -- take_message, where there are names
@@ -234,7 +234,7 @@ module _ (y : Style) (small : y.most ≤ 4) (s : List ℕ) (from : ℕ) (l : fro
     same_line : take (length (unnamed s from) - 0) s ≡ unnamed s from
     same_line = rw (sub-zero (length (unnamed s from)), unnamed-long s from l)
 
-    judged-so : TextRead
+    judged-so : Result Spans Refusal
     judged-so = finish_at y (unnamed s from) from (name_of s from).at (name_of s from).len
 
     tells : Tells s judged-so (message y from (drop from s))
@@ -278,7 +278,7 @@ unfolding read_text
 of-text y s from h = past-yes (all is_text (drop from s)) 4 (of_text y from (drop from s)) h
 
 pub starts-plain : (y : Style) (s : List ℕ) (from : ℕ) → from ≤ length s → pick y.names true y.may ≡ false → is_value (read_text y from (drop from s)) ≡ true
-    → (m : ℕ) → m ≡ pick y.av (from + 3) from → Begins y s from (begun.Message m) (of_text y from (drop from s))
+    → (m : ℕ) → m ≡ pick y.av (from + 3) from → Begins y s from (Ok (begun.Message m)) (of_text y from (drop from s))
 starts-plain y s from l plain h m g =
     record { means = sym (text-at y s from l plain h m g) ∙ (of-text y s from h).1; room = start-within y s from l plain h m g }
 
@@ -286,9 +286,9 @@ pub ruleset starts-text = (varied-not, starts-plain)
 
 -- ---- take_text: q is what start_of answered
 
-module _ (y : Style) (s : List ℕ) (from : ℕ) (l : from ≤ length s) (h : is_value (read_text y from (drop from s)) ≡ true) (q : Begun)
+module _ (y : Style) (s : List ℕ) (from : ℕ) (l : from ≤ length s) (h : is_value (read_text y from (drop from s)) ≡ true) (q : Result Begun Refusal)
     (t : Begins y s from q (of_text y from (drop from s))) where
-  module _ (n : ℕ) (e : q ≡ begun.Refused n) (f : Spans) where
+  module _ (n : Refusal) (e : q ≡ Err n) (f : Spans) where
     nothing : {P : Type 0} → P
     unfolding is_value
     nothing = never (sym (value_as _ _ h ((of-text y s from h).1 ∙ sym (rw e at t.means))))
@@ -299,9 +299,9 @@ module _ (y : Style) (s : List ℕ) (from : ℕ) (l : from ≤ length s) (h : is
     pub refused_none : Held s f
     refused_none = nothing
 
-  module _ (e : q ≡ begun.Name) where
+  module _ (o : Begun) (e : q ≡ Ok o) (k : o ≡ begun.Name) where
     pub name-room : from + 3 ≤ length s
-    name-room = rw e at t.room
+    name-room = rw (e, k) at t.room
 
     pub name-long : 3 ≤ length s - from
     name-long = omega (arith, name-room)
@@ -310,8 +310,8 @@ module _ (y : Style) (s : List ℕ) (from : ℕ) (l : from ≤ length s) (h : is
       name-tells : Tells s (fitted_one y from 0 (from + 3) (length s - from - 3)) (read_text y from (drop from s))
       name-tells =
           record {
-            says = read_name y s from l (all is_text (drop from s)) refl (of-text y s from h).0 q t e small _ refl;
-            inside = inside-name y s from l (all is_text (drop from s)) refl (of-text y s from h).0 q t e small _ refl;
+            says = read_name y s from l (all is_text (drop from s)) refl (of-text y s from h).0 q t o e k small _ refl;
+            inside = inside-name y s from l (all is_text (drop from s)) refl (of-text y s from h).0 q t o e k small _ refl;
           }
 
       name-found : (value (texts_at s (one_at from 0 (from + 3) (length s - from - 3))) ≡ count_text (read_text y from (drop from s))) × Held s (one_at from 0 (from + 3) (length s - from - 3))
@@ -320,22 +320,22 @@ module _ (y : Style) (s : List ℕ) (from : ℕ) (l : from ≤ length s) (h : is
           (value-one s y from 0 (from + 3) (length s - from - 3) (value_as _ _ (value-counted _ h) (sym name-tells.says)))
 
       pub name-is : (r : Spans) → r ≡ one_at from 0 (from + 3) (length s - from - 3) → value (texts_at s r) ≡ count_text (read_text y from (drop from s))
-      name-is r k = rw k name-found.0
+      name-is r g = rw g name-found.0
 
       pub name-held : (r : Spans) → r ≡ one_at from 0 (from + 3) (length s - from - 3) → Held s r
-      name-held r k = rw k name-found.1
+      name-held r g = rw g name-found.1
 
-  module _ (at : ℕ) (e : q ≡ begun.Message at) where
+  module _ (at : ℕ) (o : Begun) (e : q ≡ Ok o) (k : o ≡ begun.Message at) where
     pub begins-within : at ≤ length s
-    begins-within = rw e at t.room
+    begins-within = rw (e, k) at t.room
 
     same : message y at (drop at s) ≡ read_text y from (drop from s)
-    same = (rw e at t.means) ∙ sym (of-text y s from h).1
+    same = (rw (e, k) at t.means) ∙ sym (of-text y s from h).1
 
     pub begins-value : is_value (message y at (drop at s)) ≡ true
     begins-value = value_as _ _ h (sym same)
 
     pub begins-is : (r : Spans) → value (texts_at s r) ≡ count_text (message y at (drop at s)) → value (texts_at s r) ≡ count_text (read_text y from (drop from s))
-    begins-is r k = k ∙ ap count_text same
+    begins-is r g = g ∙ ap count_text same
 
 pub ruleset judged-texts = (refused-not, refused_none, name-room, name-long, name-is, name-held, begins-within, begins-value, begins-is)

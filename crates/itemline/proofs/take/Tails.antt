@@ -10,6 +10,8 @@ use lib.ListN.{length, get_or, drop, drop_of_length-le}
 use borrow.Author.Tests.{eq-eqb, ne_eqb}
 use Rattle.base.proofs.Cases.{by-test, pick_true, pick-false}
 use Rattle.base.proofs.Seek.{never}
+use Rattle.std.proofs.Common.{Ok, Err}
+use Rattle.refusal.specs.declared.Refusal.TheVariants.{BadField}
 use Rattle.sheet.specs.declared.Style.{Style}
 use Rattle.paper.specs.Read.{value}
 use Rattle.paper.specs.Bytes.{field_of, null}
@@ -19,7 +21,7 @@ use Rattle.paper.specs.Entries.{Counted, no, field, gap, to_end}
 use Rattle.paper.specs.ItemLine.{read_symbol_or_none, no_texts, after_symbol, fixed_tail, open_tail}
 use Rattle.numeral.specs.field.At.{missed, field_at}
 use Rattle.numeral.specs.field.Digits.{run}
-use Rattle.numeral.specs.declared.field.NumAt.TheVariants as num
+use Rattle.numeral.specs.declared.field.Run.{Run}
 use Rattle.numeral.proofs.field.Turns.{ends-here, ends-byte}
 use Rattle.numeral.proofs.field.Number.{number-value, number_short, number-long}
 use Rattle.numeral.proofs.field.Steps.{step-gap}
@@ -59,6 +61,9 @@ module _ (y : Style) (fixed bare : Bool) (k : ℕ → Noted → Counted) (s : Li
     abbrev ended : Bool
     ended = null (field_of (drop e s))
 
+    abbrev symbol : Run
+    symbol = record { value = v; end = e }
+
     -- both spaces stand there
     module _ (f : fixed ≡ true) where
       abbrev behind : ℕ → ℕ → List ℕ → Counted
@@ -76,14 +81,14 @@ module _ (y : Style) (fixed bare : Bool) (k : ℕ → Noted → Counted) (s : Li
           by-test ended (λ t. t)
           (λ t. not-said 4 (at + 1) all
           (to-symbol
-          ∙ sym (step-no-symbol (no 4 (at + 1)) s (at + 1) (λ specific a2 s2. behind specific a2 s2) (num.Refused 4) (number-long s (at + 1) 0 10 e v r ended refl t) 4 refl refl))
+          ∙ sym (step-no-symbol (no 4 (at + 1)) s (at + 1) (λ specific a2 s2. behind specific a2 s2) (Err BadField) (number-long s (at + 1) 0 10 e v r ended refl t) BadField refl refl))
           h)
 
       to-gap : all ≡ behind v e (drop e s)
       to-gap =
           to-symbol
-          ∙ sym (step-symbol (behind v e (drop e s)) s (at + 1) (λ specific a2 s2. behind specific a2 s2) (num.Value v e)
-          (number-value s (at + 1) 0 10 e v r ended refl fixed-ends g (omega arith)) v e refl refl)
+          ∙ sym (step-symbol (behind v e (drop e s)) s (at + 1) (λ specific a2 s2. behind specific a2 s2) (Ok symbol)
+          (number-value s (at + 1) 0 10 e v r ended refl fixed-ends g (omega arith)) symbol refl refl)
 
       fixed-inside : e < length s
       fixed-inside = gap-inside s e (λ a3 s3. to_end (read_text y a3) a3 s3 λ texts. k v texts) (said-as _ _ h to-gap)
@@ -95,16 +100,16 @@ module _ (y : Style) (fixed bare : Bool) (k : ℕ → Noted → Counted) (s : Li
     module _ (f : fixed ≡ false) where
       open-value : at + 1 < e → ended ≡ true → (q : Counted) → q ≡ after_symbol y k v e (drop e s) → q ≡ all
       open-value l t q c =
-          open-symbol y k q s bare at b (num.Value v e)
-          (number-value s (at + 1) 1 10 e v r ended refl t g (omega arith)) v e refl c
+          open-symbol y k q s bare at b (Ok symbol)
+          (number-value s (at + 1) 1 10 e v r ended refl t g (omega arith)) symbol refl c
           ∙ sym (is_open f)
 
       open-not : missed 4 ≡ field_at (digits 1 10) s (at + 1) → text 0 (at + 1) ≡ all
       open-not c =
           by-test bare
-          (λ t. open-bare y k (text 0 (at + 1)) s bare at b (num.Refused 4) c 4 refl t refl ∙ sym (is_open f))
+          (λ t. open-bare y k (text 0 (at + 1)) s bare at b (Err BadField) c BadField refl t refl ∙ sym (is_open f))
           (λ t. not-said 4 (at + 1) all
-          (is_open f ∙ sym (open-refused y k (no 4 (at + 1)) s bare at b (num.Refused 4) c 4 refl t refl)) h)
+          (is_open f ∙ sym (open-refused y k (no 4 (at + 1)) s bare at b (Err BadField) c BadField refl t refl)) h)
 
     module _ (l : at + 1 < e) where
       pub tail-plain : length s ≤ e → (w : Counted) → w ≡ k v no_texts → w ≡ tail_of y fixed bare k at (drop at s)

@@ -5,6 +5,7 @@ use mathlib.Core.List.{List}
 use Prim.Native.Nat.{ℕ, ◌+◌, ◌≤◌}
 use native.Mathlib.Omega.{arith}
 use lib.ListN.{length, drop}
+use Rattle.std.proofs.Common.{Option, Some, None}
 use Rattle.sheet.specs.declared.Style.{Style}
 use Rattle.paper.specs.Read.{value}
 use Rattle.paper.specs.Accounts.{account}
@@ -16,14 +17,13 @@ use Rattle.numeral.proofs.field.Steps.{step-known}
 use Rattle.text.specs.declared.span.Spans.{Spans}
 use Rattle.text.specs.span.Held.{texts_at, Held}
 use Rattle.text.specs.Told.{count_texts, count_text}
-use Rattle.itemline.specs.tail.Told.{tail_of}
+use Rattle.itemline.specs.tail.Told.{told_text, TextInside, tail_of}
 use Rattle.itemline.specs.declared.Fields.{Fields}
 use Rattle.itemline.specs.Told.{no_spans, told, Sound}
 use Rattle.itemline.specs.Walk.{item_said}
 use Rattle.itemline.proofs.Steps.{read-texts, spans-few}
 use Rattle.itemline.specs.declared.take.Front.{Front}
-use Rattle.itemline.specs.declared.take.Tail.{Tail}
-use Rattle.itemline.specs.declared.take.Tail.TheVariants.{Plain, Text}
+use Rattle.itemline.specs.declared.tail.Tail.{Tail}
 use Rattle.numeral.specs.placed.Said.{is_said}
 use Rattle.itemline.specs.take.Told.{told_tail, Inside}
 use Rattle.itemline.specs.take.Made.{made, Small, with_texts}
@@ -60,24 +60,26 @@ module _ (s : List ℕ) (x : Front) (v : ℕ) (f : Spans) (m : Fields) (q : m �
 
 module _ (y : Style) (fixed bare : Bool) (x : Front) (s : List ℕ) (at : ℕ) (t : Tail)
     (g : told_tail y s t (made x) ≡ tail_of y fixed bare (made x) at (drop at s)) where
-  pub plain-is : (v : ℕ) → t ≡ Plain v → (f : Spans) → f ≡ no_spans → (m : Fields) → m ≡ with_texts x v f → told s m ≡ tail_of y fixed bare (made x) at (drop at s)
-  plain-is v e f n m q = says_plain s x v f m q n ∙ (rw e at g)
+  pub plain-is : t.text ≡ None → (f : Spans) → f ≡ no_spans → (m : Fields) → m ≡ with_texts x t.specific f → told s m ≡ tail_of y fixed bare (made x) at (drop at s)
+  plain-is e f n m q = says_plain s x t.specific f m q n ∙ (ap (λ (o : Option ℕ). told_text y s o (made x t.specific)) (sym e) ∙ g)
 
-  module _ (v from : ℕ) (e : t ≡ Text v from) where
-    to-text : to_end (read_text y from) from (drop from s) (λ texts. made x v texts) ≡ tail_of y fixed bare (made x) at (drop at s)
-    to-text = rw e at g
+  module _ (from : ℕ) (e : t.text ≡ Some from) where
+    to-text : to_end (read_text y from) from (drop from s) (λ texts. made x t.specific texts) ≡ tail_of y fixed bare (made x) at (drop at s)
+    to-text = ap (λ (o : Option ℕ). told_text y s o (made x t.specific)) (sym e) ∙ g
 
     pub text-value : is_said (tail_of y fixed bare (made x) at (drop at s)) ≡ true → is_value (read_text y from (drop from s)) ≡ true
-    text-value h = on_value from (read_text y from (drop from s)) (λ texts. made x v texts) (said-as _ _ h (sym to-text))
+    text-value h = on_value from (read_text y from (drop from s)) (λ texts. made x t.specific texts) (said-as _ _ h (sym to-text))
 
     module _ (f : Spans) (c : value (texts_at s f) ≡ count_text (read_text y from (drop from s))) where
-      pub text-is : (m : Fields) → m ≡ with_texts x v f → told s m ≡ tail_of y fixed bare (made x) at (drop at s)
+      pub text-is : (m : Fields) → m ≡ with_texts x t.specific f → told s m ≡ tail_of y fixed bare (made x) at (drop at s)
       text-is m q =
           let z = read-texts y s from f c in
-          says-texts s x v f m q z.0 z.2
-          ∙ (step-known (made x v z.0) from (read_text y from (drop from s)) (λ texts. made x v texts) z.0 z.1 refl ∙ to-text)
+          says-texts s x t.specific f m q z.0 z.2
+          ∙ (step-known (made x t.specific z.0) from (read_text y from (drop from s)) (λ texts. made x t.specific texts) z.0 z.1 refl ∙ to-text)
 
-pub text-within : (s : List ℕ) (t : Tail) → Inside s t → (v from : ℕ) → t ≡ Text v from → from ≤ length s
-text-within s t i v from e = rw e at i
+pub text-within : (s : List ℕ) (t : Tail) → Inside s t → (from : ℕ) → t.text ≡ Some from → from ≤ length s
+text-within s t i from e =
+    let j : TextInside s t.text = i in
+    rw e at j
 
 pub ruleset wholes = (plain-is, plain-sound, text-value, text-within, spans-few, text-is, text-sound, none-few)

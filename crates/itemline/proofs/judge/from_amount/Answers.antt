@@ -1,16 +1,19 @@
 -- `from_amount`: the amount, and what follows it. Assumes nothing.
+use Rattle.std.proofs.lemmas.Result.{err_from_is_err_and}
 use Rattle.itemline.specs.Walk.{spaced, from_amount}
 use Rattle.itemline.proofs.judge.Steps.{items}
 use Rattle.itemline.proofs.judge.from_amount.Goals as goal
 
-pub returns-then-s-end : goal.returns-then-s-end
+pub returns-in_err-amount : goal.returns-in_err-amount
 unfolding from_amount spaced
-returns-then-s-end c = search items depth 12
+returns-in_err-amount c =
+    let p = err_from_is_err_and c.from_residual.result c.from_residual.ensures.1 in
+    rw (p.1, p.2) (search (items, c.in_err-amount.was) depth 12)
 
-pub returns-in-Refused : goal.returns-in-Refused
+pub returns-then-s-amount : goal.returns-then-s-amount
 unfolding from_amount spaced
-returns-in-Refused c = search items depth 12
+returns-then-s-amount c = search (items, c.in_ok-amount.was) depth 12
 
-pub returns-else-s-end : goal.returns-else-s-end
+pub returns : goal.returns
 unfolding from_amount spaced
-returns-else-s-end c = search items depth 12
+returns c = search (items, c.in_ok-amount.was) depth 12

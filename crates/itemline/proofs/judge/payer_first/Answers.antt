@@ -1,19 +1,21 @@
 -- `payer_first`: the payer where the group is single. Assumes nothing.
-use borrow.Author.Rules.{rules}
+use Rattle.std.proofs.lemmas.Result.{err_from_is_err_and}
 use Rattle.itemline.specs.Walk.{payer_first}
 use Rattle.itemline.specs.judge.Brief.{any_payer}
-use Rattle.itemline.proofs.judge.Steps.{items, bounds}
+use Rattle.itemline.proofs.judge.Steps.{items}
 use Rattle.itemline.proofs.judge.payer_first.Goals as goal
 
-pub returns-then-s-end : goal.returns-then-s-end
-returns-then-s-end c = record { by_index = λ k. search items depth 12; inside_from = search (bounds, rules) }
+pub returns-in_err-end-clause-by_index : goal.returns-in_err-end-clause-by_index
+returns-in_err-end-clause-by_index c =
+    let p = err_from_is_err_and c.from_residual.result c.from_residual.ensures.1 in
+    λ k. rw (p.1, p.2) (search (items, c.in_err-end.was) depth 12)
 
-pub returns-in-Refused : goal.returns-in-Refused
-returns-in-Refused c = record { by_index = λ k. search items depth 12; inside_from = search (bounds, rules) }
+pub returns-then-s-end-clause-by_index : goal.returns-then-s-end-clause-by_index
+returns-then-s-end-clause-by_index c = λ k. search (items, c.in_ok-end.was) depth 12
 
-pub returns-else-s-end : goal.returns-else-s-end
-returns-else-s-end c = record { by_index = λ k. search items depth 12; inside_from = search (bounds, rules) }
+pub returns-then-single-clause-by_index : goal.returns-then-single-clause-by_index
+returns-then-single-clause-by_index c = λ k. search (items, c.in_ok-end.was) depth 12
 
-pub returns-else-single : goal.returns-else-single
+pub returns-clause-by_index : goal.returns-clause-by_index
 unfolding payer_first any_payer
-returns-else-single c = record { by_index = λ k. search items depth 12; inside_from = search (bounds, rules) }
+returns-clause-by_index c = λ k. search items depth 12

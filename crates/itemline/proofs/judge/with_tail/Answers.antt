@@ -1,25 +1,26 @@
 -- `with_tail`: the tail, with the warnings of its texts. Assumes nothing.
+use Rattle.std.proofs.lemmas.Result.{err_from_is_err_and}
 use borrow.Author.Rules.{rules}
 use Rattle.itemline.specs.judge.Brief.{kept_texts}
 use Rattle.itemline.proofs.judge.Steps.{items, bounds}
 use Rattle.itemline.proofs.judge.with_tail.Goals as goal
 
-pub read_text-requires : goal.read_text-requires
-read_text-requires c = search (bounds, rules)
+pub returns-in_err-tail : goal.returns-in_err-tail
+returns-in_err-tail c =
+    let p = err_from_is_err_and c.from_residual.result c.from_residual.ensures.1 in
+    rw (p.1, p.2) (search (items, c.in_err-tail.was) depth 12)
+
+pub returns-in_err-texts-in-Some : goal.returns-in_err-texts-in-Some
+returns-in_err-texts-in-Some c =
+    let p = err_from_is_err_and c.from_residual-in_err-texts-in-Some.result c.from_residual-in_err-texts-in-Some.ensures.1 in
+    rw (p.1, p.2) (search (items, c.in_ok-tail.was, c.in_err-texts-in-Some.was) depth 12)
 
 pub with_texts-requires : goal.with_texts-requires
-with_texts-requires c = search (bounds, rules)
+with_texts-requires c = search (bounds, c.in_ok-tail.was, c.in_ok-texts-in-Some.was, rules)
 
-pub returns-in-Refused : goal.returns-in-Refused
+pub returns-in-None : goal.returns-in-None
 unfolding kept_texts
-returns-in-Refused c = search items depth 12
+returns-in-None c = search (items, c.in_ok-tail.was) depth 12
 
-pub returns-in-Plain : goal.returns-in-Plain
-unfolding kept_texts
-returns-in-Plain c = search items depth 12
-
-pub returns-in-Refused-read_text : goal.returns-in-Refused-read_text
-returns-in-Refused-read_text c = search items depth 12
-
-pub returns-in-Texts : goal.returns-in-Texts
-returns-in-Texts c = search items depth 12
+pub returns-in_ok-texts-in-Some : goal.returns-in_ok-texts-in-Some
+returns-in_ok-texts-in-Some c = search (items, c.in_ok-tail.was, c.in_ok-texts-in-Some.was) depth 12

@@ -3,17 +3,20 @@ use borrow.Author.Rules.{rules}
 use Rattle.itemline.proofs.take.Wholes.{wholes}
 use Rattle.itemline.proofs.take.from_tail.Goals as goal
 
-pub whole-requires : goal.whole-requires
-whole-requires c = search (wholes, rules)
+pub take_text-requires-clause-s_value : goal.take_text-requires-clause-s_value
+take_text-requires-clause-s_value c = search (wholes, rules)
 
-pub take_text-requires : goal.take_text-requires
-take_text-requires c = search (wholes, rules)
+pub whole-requires-in-Some : goal.whole-requires-in-Some
+whole-requires-in-Some c = search (wholes, rules)
 
-pub whole-requires-in-Text : goal.whole-requires-in-Text
-whole-requires-in-Text c = search (wholes, rules)
+pub returns-in-None-clause-result_value : goal.returns-in-None-clause-result_value
+returns-in-None-clause-result_value c = search wholes
 
-pub returns-in-Plain : goal.returns-in-Plain
-returns-in-Plain c = record { result_value = search wholes; sound = search (wholes, rules) }
+pub returns-in-None-clause-sound : goal.returns-in-None-clause-sound
+returns-in-None-clause-sound c = search (wholes, rules)
 
-pub returns-in-Text : goal.returns-in-Text
-returns-in-Text c = record { result_value = search wholes; sound = search (wholes, rules) }
+pub returns-in-Some-clause-result_value : goal.returns-in-Some-clause-result_value
+returns-in-Some-clause-result_value c = search wholes
+
+pub returns-in-Some-clause-sound : goal.returns-in-Some-clause-sound
+returns-in-Some-clause-sound c = search (wholes, rules)

@@ -3,20 +3,23 @@ use borrow.Author.Rules.{rules}
 use Rattle.itemline.proofs.take.Tails.{tails}
 use Rattle.itemline.proofs.take.take_tail.Goals as goal
 
-pub returns-then-s-at : goal.returns-then-s-at
-returns-then-s-at c = record { x_value = search tails; inside = search (tails, rules) }
+pub returns-then-s-at-clause-x_value : goal.returns-then-s-at-clause-x_value
+returns-then-s-at-clause-x_value c = search tails
 
-pub returns-then-s-end : goal.returns-then-s-end
-returns-then-s-end c = record { x_value = search tails; inside = search (tails, rules) }
+pub returns-then-s-end-clause-x_value : goal.returns-then-s-end-clause-x_value
+returns-then-s-end-clause-x_value c = search tails
 
-pub returns-then-s-end-eq32 : goal.returns-then-s-end-eq32
-returns-then-s-end-eq32 c = record { x_value = search tails; inside = search (tails, rules) }
+pub returns-then-s-end-eq32-clause-x_value : goal.returns-then-s-end-eq32-clause-x_value
+returns-then-s-end-eq32-clause-x_value c = search tails
 
-pub returns-then-from-end : goal.returns-then-from-end
-returns-then-from-end c = record { x_value = search tails; inside = search (tails, rules) }
+pub returns-then-from-end-clause-x_value : goal.returns-then-from-end-clause-x_value
+returns-then-from-end-clause-x_value c = search tails
 
-pub returns-then-fixed : goal.returns-then-fixed
-returns-then-fixed c = record { x_value = search tails; inside = search (tails, rules) }
+pub returns-then-fixed-clause-x_value : goal.returns-then-fixed-clause-x_value
+returns-then-fixed-clause-x_value c = search tails
 
-pub returns : goal.returns
-returns c = record { x_value = search tails; inside = search (tails, rules) }
+pub returns-then-fixed-clause-inside : goal.returns-then-fixed-clause-inside
+returns-then-fixed-clause-inside c = search (tails, rules)
+
+pub returns-clause-x_value : goal.returns-clause-x_value
+returns-clause-x_value c = search tails

@@ -1,22 +1,18 @@
 -- `take_text` meets its contract: what was judged is found again. Assumes nothing.
-use borrow.Author.Rules.{rules}
 use Rattle.itemline.proofs.take.Named.{judged-texts}
 use Rattle.itemline.proofs.take.take_text.Goals as goal
 
-pub overflow_add-from : goal.overflow_add-from
-overflow_add-from c = search (judged-texts, rules)
+pub take_message-requires-clause-s_value : goal.take_message-requires-clause-s_value
+take_message-requires-clause-s_value c = search judged-texts
 
-pub overflow_sub-s-in-Name : goal.overflow_sub-s-in-Name
-overflow_sub-s-in-Name c = search (judged-texts, rules)
+pub returns-in-Err-clause-result_value : goal.returns-in-Err-clause-result_value
+returns-in-Err-clause-result_value c = search judged-texts
 
-pub take_message-requires : goal.take_message-requires
-take_message-requires c = search (judged-texts, rules)
+pub returns-in-Ok-Name-clause-result_value : goal.returns-in-Ok-Name-clause-result_value
+returns-in-Ok-Name-clause-result_value c = search judged-texts
 
-pub returns-in-Refused : goal.returns-in-Refused
-returns-in-Refused c = record { result_value = search judged-texts; held = search judged-texts }
+pub returns-in-Ok-Name-clause-held : goal.returns-in-Ok-Name-clause-held
+returns-in-Ok-Name-clause-held c = search judged-texts
 
-pub returns-in-Name : goal.returns-in-Name
-returns-in-Name c = record { result_value = search judged-texts; held = search judged-texts }
-
-pub returns-in-Message : goal.returns-in-Message
-returns-in-Message c = record { result_value = search judged-texts; held = search (judged-texts, rules) }
+pub returns-in-Ok-Message-clause-result_value : goal.returns-in-Ok-Message-clause-result_value
+returns-in-Ok-Message-clause-result_value c = search judged-texts
