@@ -1,3 +1,4 @@
+pub mod field
 pub mod list
 pub mod read
 pub mod proper

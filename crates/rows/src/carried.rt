@@ -15,30 +15,37 @@ ghost use Rattle.rows.specs.read.Sized.{Inside, Sized};
 ghost use Rattle.rows.specs.read.After.{after};
 ghost use Rattle.rows.specs.carried.Words.{Taken, texts_carried};
 
-use crate::read::{Check, ItemRow};
+use crate::field::Field;
+use crate::read::ItemRow;
 use fileline::seen::Seen;
 use sheet::{Sheet, Style};
 use text::span::Span;
 
 // An account file: its kind is one of the sheet's, and its number is not refused.
-pub fn file_carried(sh: Sheet, from: u64, to: u64, seen: Seen, kind: u64, number: u64) -> Check
+pub fn file_carried(
+    sh: Sheet,
+    from: u64,
+    to: u64,
+    seen: Seen,
+    kind: u64,
+    number: u64,
+) -> Result<(), Field>
     requires { number < 1000000 }
     ensures { (h : Header) (l : List ℕ) → h.from ≡ from → h.to ≡ to → Holds seen.words l → (k : ℕ) (rest : Verdict)
         → after k result rest ≡ check k 1 (kind_allowed sh kind) (check k 2 (number_allowed sh.interval h l number) rest) }
 {
     let known = sh.kind_allowed(kind);
     if !known {
-        return Check::Wrong(1);
+        return Err(Field::FileKind);
     }
-    let fault = fileline::number_fault(sh.interval, from, to, seen, number);
-    if fault == 0 {
-        return Check::Fine;
+    match fileline::number_fault(sh.interval, from, to, seen, number) {
+        None => Ok(()),
+        Some(_) => Err(Field::FileNumber),
     }
-    Check::Wrong(2)
 }
 
 // A group of an account file of this kind: its due day is one that the sheet takes today, where that is judged by the day alone.
-pub fn group_carried(sh: Sheet, today: u64, kind: u64, date: u64) -> Check
+pub fn group_carried(sh: Sheet, today: u64, kind: u64, date: u64) -> Result<(), Field>
     requires today_value { real_day today ≡ true }
     requires date_value { real_day date ≡ true }
     ensures { (k : ℕ) (rest : Verdict) → after k result rest ≡ check k 1 (due_allowed (day_here sh kind) sh.early sh.ahead today date) rest }
@@ -46,9 +53,9 @@ pub fn group_carried(sh: Sheet, today: u64, kind: u64, date: u64) -> Check
     let limits = sh.limits();
     let here = calendar::term::day_here(sh, kind);
     if calendar::due_allowed(here, sh.early, limits.ahead, today, date) {
-        return Check::Fine;
+        return Ok(());
     }
-    Check::Wrong(1)
+    Err(Field::GroupDue)
 }
 
 // Part i of an item's message, where it stands and the sheet takes its bytes. An empty one always can be.
@@ -88,65 +95,65 @@ fn name_here(y: Style, texts: &[u8], p: Span) -> bool
 }
 
 // An item's texts, four parts and the name, where the sheet takes the parts' bytes.
-fn taken_carried(y: Style, texts: &[u8], x: ItemRow) -> Check
+fn taken_carried(y: Style, texts: &[u8], x: ItemRow) -> Result<(), Field>
     requires inside { Inside texts.now x }
     requires taken { Taken y texts.now x }
     ensures { (k : ℕ) (rest : Verdict) → after k result rest ≡ texts_carried y k (item_of texts.now x) rest }
 {
     let first = part_here(y, 0, texts, x.part1);
     if !first {
-        return Check::Wrong(11);
+        return Err(Field::ItemPart1);
     }
     let second = part_here(y, 1, texts, x.part2);
     if !second {
-        return Check::Wrong(13);
+        return Err(Field::ItemPart2);
     }
     let third = part_here(y, 2, texts, x.part3);
     if !third {
-        return Check::Wrong(15);
+        return Err(Field::ItemPart3);
     }
     let fourth = part_here(y, 3, texts, x.part4);
     if !fourth {
-        return Check::Wrong(17);
+        return Err(Field::ItemPart4);
     }
     let named = name_here(y, texts, x.name);
     if !named {
-        return Check::Wrong(19);
+        return Err(Field::ItemName);
     }
-    Check::Fine
+    Ok(())
 }
 
 // .. where each part is to be looked at for `#` and `~`.
-fn each_carried(y: Style, texts: &[u8], x: ItemRow) -> Check
+fn each_carried(y: Style, texts: &[u8], x: ItemRow) -> Result<(), Field>
     requires clean_value { y.clean ≡ true }
     requires inside { Inside texts.now x }
     ensures { (k : ℕ) (rest : Verdict) → after k result rest ≡ texts_carried y k (item_of texts.now x) rest }
 {
     let first = clean_here(y, 0, texts, x.part1);
     if !first {
-        return Check::Wrong(11);
+        return Err(Field::ItemPart1);
     }
     let second = clean_here(y, 1, texts, x.part2);
     if !second {
-        return Check::Wrong(13);
+        return Err(Field::ItemPart2);
     }
     let third = clean_here(y, 2, texts, x.part3);
     if !third {
-        return Check::Wrong(15);
+        return Err(Field::ItemPart3);
     }
     let fourth = clean_here(y, 3, texts, x.part4);
     if !fourth {
-        return Check::Wrong(17);
+        return Err(Field::ItemPart4);
     }
     let named = name_here(y, texts, x.name);
     if !named {
-        return Check::Wrong(19);
+        return Err(Field::ItemName);
     }
-    Check::Fine
+    Ok(())
 }
 
 // An item's texts. Parts that lie close together are looked at for `#` and `~` at once.
-fn texts_carried(y: Style, texts: &[u8], x: ItemRow) -> Check
+fn texts_carried(y: Style, texts: &[u8], x: ItemRow) -> Result<(), Field>
     requires { Inside texts.now x }
     ensures { (k : ℕ) (rest : Verdict) → after k result rest ≡ texts_carried y k (item_of texts.now x) rest }
 {
@@ -160,18 +167,18 @@ fn texts_carried(y: Style, texts: &[u8], x: ItemRow) -> Check
 }
 
 // An item: its amount, its priority and its texts.
-pub fn item_carried(sh: Sheet, texts: &[u8], x: ItemRow) -> Check
+pub fn item_carried(sh: Sheet, texts: &[u8], x: ItemRow) -> Result<(), Field>
     requires { Sized texts.now x }
     ensures { (k : ℕ) (rest : Verdict) → after k result rest ≡ item_carried sh k (item_of texts.now x) rest }
 {
     let limits = sh.limits();
     let small = amount::amount_proper(limits.amount, x.amount);
     if !small {
-        return Check::Wrong(6);
+        return Err(Field::ItemAmount);
     }
     let carried = bank::priority_carried(sh.priority, x.priority);
     if !carried {
-        return Check::Wrong(10);
+        return Err(Field::ItemPriority);
     }
     texts_carried(sh.text, texts, x)
 }

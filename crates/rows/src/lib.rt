@@ -3,6 +3,7 @@
 
 pub mod carried;
 pub mod clean;
+pub mod field;
 pub mod list;
 pub mod proper;
 pub mod read;

@@ -14,7 +14,8 @@ ghost use Rattle.rows.specs.read.Told.{text_of_span};
 ghost use Rattle.rows.specs.read.After.{after};
 ghost use Rattle.rows.specs.proper.Stages.{money_proper, symbols_proper, texts_proper, ItemTested};
 
-use crate::read::{Check, ItemRow};
+use crate::field::Field;
+use crate::read::ItemRow;
 use text::span::Span;
 
 // The header's name: 20 text bytes.
@@ -28,48 +29,45 @@ fn name_full(name: &[u8]) -> bool
 }
 
 // The header.
-pub fn header_check(date: u64, name: &[u8], client: u64, from: u64, to: u64) -> Check
+pub fn header_check(date: u64, name: &[u8], client: u64, from: u64, to: u64) -> Result<(), Field>
     ensures { after 0 result fine ≡ header_proper (record { date = date; name = name.now; client = client; from = from; to = to }) }
 {
     if !calendar::real_day(date) {
-        return Check::Wrong(1);
+        return Err(Field::HeaderDate);
     }
     if !name_full(name) {
-        return Check::Wrong(2);
+        return Err(Field::HeaderName);
     }
     if 10000000000 <= client {
-        return Check::Wrong(3);
+        return Err(Field::HeaderClient);
     }
     if 1000 <= from {
-        return Check::Wrong(4);
+        return Err(Field::HeaderFrom);
     }
     if 1000 <= to {
-        return Check::Wrong(5);
+        return Err(Field::HeaderTo);
     }
-    Check::Fine
+    Ok(())
 }
 
 // A kind is 1501 to 1504.
 fn kind_proper(kind: u64) -> bool
     ensures { result ≡ kind_proper kind }
 {
-    if kind < 1501 {
-        return false;
-    }
-    kind <= 1504
+    matches!(kind, 1501..=1504)
 }
 
 // An account file's row.
-pub fn file_check(kind: u64, number: u64) -> Check
+pub fn file_check(kind: u64, number: u64) -> Result<(), Field>
     ensures { (k : ℕ) (rest : Verdict) → after k result rest ≡ check k 1 (kind_proper kind) (check k 2 (ltb number 1000000) rest) }
 {
     if !kind_proper(kind) {
-        return Check::Wrong(1);
+        return Err(Field::FileKind);
     }
     if 1000000 <= number {
-        return Check::Wrong(2);
+        return Err(Field::FileNumber);
     }
-    Check::Fine
+    Ok(())
 }
 
 // A group's payer is nobody or a valid account.
@@ -83,16 +81,16 @@ fn payer_proper(prefix: u64, base: u64) -> bool
 }
 
 // A group's row.
-pub fn group_check(date: u64, prefix: u64, base: u64) -> Check
+pub fn group_check(date: u64, prefix: u64, base: u64) -> Result<(), Field>
     ensures { (k : ℕ) (rest : Verdict) → after k result rest ≡ check k 1 (real_day date) (check k 2 (payer_proper (account prefix base)) rest) }
 {
     if !calendar::real_day(date) {
-        return Check::Wrong(1);
+        return Err(Field::GroupDue);
     }
     if !payer_proper(prefix, base) {
-        return Check::Wrong(2);
+        return Err(Field::GroupPayer);
     }
-    Check::Fine
+    Ok(())
 }
 
 // An item has a payer exactly in a single group.
@@ -117,42 +115,42 @@ fn amount_fits(sum: u64, amount: u64) -> bool
 }
 
 // Fields 1 to 6 of an item: who pays whom how much.
-fn money_check(x: ItemRow, single: bool, sum: u64) -> Check
+fn money_check(x: ItemRow, single: bool, sum: u64) -> Result<(), Field>
     requires { sum ≤ most14 }
     ensures { (k : ℕ) (rest : Verdict) → after k result rest ≡ money_proper k single sum x rest }
 {
     if !item_payer_proper(single, x.payerprefix, x.payerbase) {
-        return Check::Wrong(1);
+        return Err(Field::ItemPayer);
     }
     if !account::account_proper(x.payeeprefix, x.payeebase) {
-        return Check::Wrong(3);
+        return Err(Field::ItemPayee);
     }
     if !bank::bank_proper(x.bank) {
-        return Check::Wrong(5);
+        return Err(Field::ItemBank);
     }
     if !amount_fits(sum, x.amount) {
-        return Check::Wrong(6);
+        return Err(Field::ItemAmount);
     }
-    Check::Fine
+    Ok(())
 }
 
 // Fields 7 to 10: the symbols and the priority.
-fn symbols_check(x: ItemRow) -> Check
+fn symbols_check(x: ItemRow) -> Result<(), Field>
     ensures { (k : ℕ) (rest : Verdict) → after k result rest ≡ symbols_proper k x rest }
 {
     if 10000000000 <= x.variable {
-        return Check::Wrong(7);
+        return Err(Field::ItemVariable);
     }
     if 10000000000 <= x.specific {
-        return Check::Wrong(8);
+        return Err(Field::ItemSpecific);
     }
     if 10000 <= x.constant {
-        return Check::Wrong(9);
+        return Err(Field::ItemConstant);
     }
     if !bank::priority_proper(x.priority) {
-        return Check::Wrong(10);
+        return Err(Field::ItemPriority);
     }
-    Check::Fine
+    Ok(())
 }
 
 // A part of the message: it lies inside what was lent, and is one. Most are empty, which their length tells.
@@ -186,50 +184,44 @@ fn name_fine(texts: &[u8], p: Span) -> bool
 }
 
 // Fields 11 to 19: the four parts and the name.
-fn texts_check(texts: &[u8], x: ItemRow) -> Check
+fn texts_check(texts: &[u8], x: ItemRow) -> Result<(), Field>
     ensures { (k : ℕ) (rest : Verdict) → after k result rest ≡ texts_proper k texts.now x rest }
 {
     if !part_fine(texts, x.part1) {
-        return Check::Wrong(11);
+        return Err(Field::ItemPart1);
     }
     if !part_fine(texts, x.part2) {
-        return Check::Wrong(13);
+        return Err(Field::ItemPart2);
     }
     if !part_fine(texts, x.part3) {
-        return Check::Wrong(15);
+        return Err(Field::ItemPart3);
     }
     if !part_fine(texts, x.part4) {
-        return Check::Wrong(17);
+        return Err(Field::ItemPart4);
     }
     if !name_fine(texts, x.name) {
-        return Check::Wrong(19);
+        return Err(Field::ItemName);
     }
-    Check::Fine
+    Ok(())
 }
 
 // Field 21: the reference.
-fn reference_check(x: ItemRow) -> Check
+fn reference_check(x: ItemRow) -> Result<(), Field>
     ensures { (k : ℕ) (rest : Verdict) → after k result rest ≡ check k 21 (reference_proper x.reference) rest }
 {
     if 4294967296 <= x.reference {
-        return Check::Wrong(21);
+        return Err(Field::ItemReference);
     }
-    Check::Fine
+    Ok(())
 }
 
 // An item's row, in a group that is single or not and whose items before it have this sum.
-pub fn item_check(texts: &[u8], x: ItemRow, single: bool, sum: u64) -> Check
+pub fn item_check(texts: &[u8], x: ItemRow, single: bool, sum: u64) -> Result<(), Field>
     requires { sum ≤ most14 }
     ensures { ItemTested texts.now x single sum result }
 {
-    match money_check(x, single, sum) {
-        Check::Wrong(n) => Check::Wrong(n),
-        Check::Fine => match symbols_check(x) {
-            Check::Wrong(n) => Check::Wrong(n),
-            Check::Fine => match texts_check(texts, x) {
-                Check::Wrong(n) => Check::Wrong(n),
-                Check::Fine => reference_check(x),
-            },
-        },
-    }
+    money_check(x, single, sum)?;
+    symbols_check(x)?;
+    texts_check(texts, x)?;
+    reference_check(x)
 }

@@ -65,13 +65,6 @@ pub enum RowRead {
     Strange,
 }
 
-// What a test of a row answers: it may stand, or the number of the field that is wrong.
-#[derive(Clone, Copy)]
-pub enum Check {
-    Fine,
-    Wrong(u64),
-}
-
 // Does a text lie inside what was lent? Place and length may be as large as a word, so they are not added.
 pub fn lies(texts: &[u8], p: Span) -> bool
     ensures { result ≡ leb (p.at + p.len) (length texts.now) }

@@ -8,7 +8,8 @@ ghost use Rattle.paper.specs.Rows.{rows_in, things_in};
 ghost use Rattle.rows.specs.read.Told.{told, told_item};
 ghost use Rattle.rows.specs.walk.Walks.{stage_of, before_of, Walks, verdict_of};
 
-use crate::read::{Check, ItemRow, RowRead};
+use crate::field::{Field, Wrong};
+use crate::read::{ItemRow, RowRead};
 
 // What may come next: an account file, a group, an item, or any of them.
 #[derive(Clone, Copy)]
@@ -29,20 +30,6 @@ pub struct Before {
     pub sum: u64,
 }
 
-// What a row leads to: what stands before the next one; or the field that is not as "The batch" says.
-#[derive(Clone, Copy)]
-pub enum Walk {
-    On(Before),
-    Wrong(u64),
-}
-
-// What the walk over all rows ends in: nothing is wrong, or what is wrong first, its row and its field.
-#[derive(Clone, Copy)]
-pub enum Walked {
-    Fine,
-    Wrong(u64, u64),
-}
-
 // Before the first row.
 pub fn top() -> Before
     ensures { before_of result ≡ at_top }
@@ -61,10 +48,8 @@ fn file_due(stage: Stage, files: u64) -> bool
     ensures { result ≡ pick (file_due (stage_of stage)) (ltb files 1000) false }
 {
     match stage {
-        Stage::NeedFile => files < 1000,
-        Stage::NeedGroup => false,
-        Stage::NeedItem => false,
-        Stage::Any => files < 1000,
+        Stage::NeedFile | Stage::Any => files < 1000,
+        Stage::NeedGroup | Stage::NeedItem => false,
     }
 }
 
@@ -72,12 +57,7 @@ fn file_due(stage: Stage, files: u64) -> bool
 fn group_due(stage: Stage) -> bool
     ensures { result ≡ group_due (stage_of stage) }
 {
-    match stage {
-        Stage::NeedFile => false,
-        Stage::NeedGroup => true,
-        Stage::NeedItem => false,
-        Stage::Any => true,
-    }
+    matches!(stage, Stage::NeedGroup | Stage::Any)
 }
 
 // May an item? An account file has at most 99,999.
@@ -85,10 +65,8 @@ fn item_due(stage: Stage, items: u64) -> bool
     ensures { result ≡ pick (item_due (stage_of stage)) (ltb items 99999) false }
 {
     match stage {
-        Stage::NeedFile => false,
-        Stage::NeedGroup => false,
-        Stage::NeedItem => items < 99999,
-        Stage::Any => items < 99999,
+        Stage::NeedItem | Stage::Any => items < 99999,
+        Stage::NeedFile | Stage::NeedGroup => false,
     }
 }
 
@@ -96,77 +74,66 @@ fn item_due(stage: Stage, items: u64) -> bool
 pub fn may_stop(stage: Stage) -> bool
     ensures { result ≡ may_stop (stage_of stage) }
 {
-    match stage {
-        Stage::NeedFile => false,
-        Stage::NeedGroup => false,
-        Stage::NeedItem => false,
-        Stage::Any => true,
-    }
+    matches!(stage, Stage::Any)
 }
 
-// An account file's row.
-pub fn file_proper(before: Before, kind: u64, number: u64) -> Walk
+// An account file's row: what stands before the next one, or the field that is not as "The batch" says.
+pub fn file_proper(before: Before, kind: u64, number: u64) -> Result<Before, Field>
     ensures { Walks before (a_file kind number) result }
 {
     let stage = before.stage;
     if !file_due(stage, before.files) {
-        return Walk::Wrong(0);
+        return Err(Field::Row);
     }
-    match crate::proper::file_check(kind, number) {
-        Check::Wrong(field) => Walk::Wrong(field),
-        Check::Fine => Walk::On(Before {
-            stage: Stage::NeedGroup,
-            files: before.files + 1,
-            items: 0,
-            single: false,
-            sum: 0,
-        }),
-    }
+    crate::proper::file_check(kind, number)?;
+    Ok(Before {
+        stage: Stage::NeedGroup,
+        files: before.files + 1,
+        items: 0,
+        single: false,
+        sum: 0,
+    })
 }
 
 // A group's row.
-pub fn group_proper(before: Before, date: u64, prefix: u64, base: u64) -> Walk
+pub fn group_proper(before: Before, date: u64, prefix: u64, base: u64) -> Result<Before, Field>
     ensures { Walks before (a_group date (account prefix base)) result }
 {
     let stage = before.stage;
     if !group_due(stage) {
-        return Walk::Wrong(0);
+        return Err(Field::Row);
     }
-    match crate::proper::group_check(date, prefix, base) {
-        Check::Wrong(field) => Walk::Wrong(field),
-        Check::Fine => Walk::On(Before {
-            stage: Stage::NeedItem,
-            files: before.files,
-            items: before.items,
-            single: account::is_nobody(prefix, base),
-            sum: 0,
-        }),
-    }
+    crate::proper::group_check(date, prefix, base)?;
+    Ok(Before {
+        stage: Stage::NeedItem,
+        files: before.files,
+        items: before.items,
+        single: account::is_nobody(prefix, base),
+        sum: 0,
+    })
 }
 
 // An item's row.
-pub fn item_proper(texts: &[u8], before: Before, x: ItemRow) -> Walk
+pub fn item_proper(texts: &[u8], before: Before, x: ItemRow) -> Result<Before, Field>
     requires { before.sum ≤ most14 }
     ensures { Walks before (told_item texts.now x) result }
 {
     let stage = before.stage;
     if !item_due(stage, before.items) {
-        return Walk::Wrong(0);
+        return Err(Field::Row);
     }
-    match crate::proper::item_check(texts, x, before.single, before.sum) {
-        Check::Wrong(field) => Walk::Wrong(field),
-        Check::Fine => Walk::On(Before {
-            stage: Stage::Any,
-            files: before.files,
-            items: before.items + 1,
-            single: before.single,
-            sum: before.sum + x.amount,
-        }),
-    }
+    crate::proper::item_check(texts, x, before.single, before.sum)?;
+    Ok(Before {
+        stage: Stage::Any,
+        files: before.files,
+        items: before.items + 1,
+        single: before.single,
+        sum: before.sum + x.amount,
+    })
 }
 
 // Any row.
-pub fn row_proper(texts: &[u8], before: Before, row: RowRead) -> Walk
+pub fn row_proper(texts: &[u8], before: Before, row: RowRead) -> Result<Before, Field>
     requires { before.sum ≤ most14 }
     ensures { Walks before (told texts.now row) result }
 {
@@ -174,36 +141,33 @@ pub fn row_proper(texts: &[u8], before: Before, row: RowRead) -> Walk
         RowRead::Item(x) => item_proper(texts, before, x),
         RowRead::Group(date, prefix, base) => group_proper(before, date, prefix, base),
         RowRead::File(kind, number) => file_proper(before, kind, number),
-        RowRead::Strange => Walk::Wrong(0),
+        RowRead::Strange => Err(Field::Row),
     }
 }
 
-// All lent rows. Bytes that are left over are a row of no known kind.
-pub fn proper_rows(rows: &[u8], texts: &[u8]) -> Walked
+// All lent rows: nothing is wrong, or what is wrong first. Bytes that are left over are a row of no known kind.
+pub fn proper_rows(rows: &[u8], texts: &[u8]) -> Result<(), Wrong>
     ensures { verdict_of result ≡ batch_proper (things_in texts.now (rows_in rows.now)) }
 {
-    let mut at: usize = 0;
-    let mut k: u64 = 1;
+    let count = rows.len() / 192;
     let mut before = top();
-    while 192 <= rows.len() - at {
-        let row = crate::read::read_row(rows, at);
-        match row_proper(texts, before, row) {
-            Walk::On(next) => {
-                before = next;
-                at = at + 192;
-                k = k + 1;
+    for i in 0..count {
+        let row = crate::read::read_row(rows, i * 192);
+        before = match row_proper(texts, before, row) {
+            Ok(next) => next,
+            Err(field) => {
+                return Err(Wrong {
+                    row: i as u64 + 1,
+                    field,
+                });
             }
-            Walk::Wrong(field) => {
-                return Walked::Wrong(k, field);
-            }
-        }
+        };
     }
-    if at < rows.len() {
-        return Walked::Wrong(k, 0);
+    if rows.len() == count * 192 && may_stop(before.stage) {
+        return Ok(());
     }
-    let stage = before.stage;
-    if may_stop(stage) {
-        return Walked::Fine;
-    }
-    Walked::Wrong(k, 0)
+    Err(Wrong {
+        row: count as u64 + 1,
+        field: Field::Row,
+    })
 }

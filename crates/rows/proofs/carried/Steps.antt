@@ -3,11 +3,15 @@ use mathlib.Core.Path.{◌≡◌, refl, sym, ap, ◌∙◌}
 use mathlib.Core.Bool.{Bool, true, false, not}
 use mathlib.Core.List.{List, []}
 use Prim.Native.Nat.{ℕ, ◌+◌, ◌-◌}
+use Rattle.std.proofs.Common.{Option, Some, None, arith}
 use lib.Dec.{ltb}
 use lib.ListN.{take, drop}
 use borrow.Author.Tests.{eq-eqb, ne_eqb}
 use Rattle.base.specs.Seek.{all, seek}
 use Rattle.base.proofs.Cases.{either, pick_true, pick-false, pick_same}
+use Rattle.refusal.specs.declared.Refusal.{Refusal}
+use Rattle.refusal.specs.Numbers.{answered}
+use Rattle.refusal.proofs.Positive.{positive}
 use Rattle.sheet.specs.declared.Style.{Style}
 use Rattle.sheet.specs.declared.Sheet.{Sheet}
 use Rattle.sheet.specs.declared.Limits.{Limits}
@@ -42,26 +46,26 @@ module _ (sh : Sheet) (l : Limits) (of : LimitsOf sh l) (t : Bool) where
   pub amount-limit : (v : ℕ) → t ≡ amount_proper l.amount v → t ≡ amount_proper sh.itemmax v
   amount-limit v e = rw of.amount at e
 
--- the set of words stands for the list that it holds: r is the refusal that the number gets by them
-module _ (interval : Bool) (from to : ℕ) (words : List ℕ) (n r : ℕ) (e : r ≡ fault_in interval from to words n)
+-- the set of words stands for the list that it holds: m is the refusal that the number gets by them
+module _ (interval : Bool) (from to : ℕ) (words : List ℕ) (n : ℕ) (m : Option Refusal) (e : answered m ≡ fault_in interval from to words n)
     (h : Header) (l : List ℕ) (f : h.from ≡ from) (t : h.to ≡ to) (g : Holds words l) where
-  by-list : r ≡ number_fault interval h l n
+  by-list : answered m ≡ number_fault interval h l n
   by-list = rw (← f, ← t) at e ∙ ap (λ (p : ℕ → ℕ). p n) (same-fault interval h words l g)
 
-  number-free : r ≡ 0 → number_allowed interval h l n ≡ true
+  number-free : m ≡ None → number_allowed interval h l n ≡ true
   unfolding number_allowed
-  number-free z = eq-eqb _ _ (sym by-list ∙ z)
+  number-free z = eq-eqb _ _ (sym by-list ∙ rw z)
 
-  number-taken : (r ≡ 0 → ⊥) → number_allowed interval h l n ≡ false
+  number-taken : (c : Refusal) → m ≡ Some c → number_allowed interval h l n ≡ false
   unfolding number_allowed
-  number-taken z = ne_eqb _ _ (λ q. z (by-list ∙ q))
+  number-taken c z = ne_eqb _ _ (λ q. absurd (omega (arith, positive c, rw z at by-list, q)))
 
   module _ (k : ℕ) (v rest : Verdict) where
-    pub number-passes : r ≡ 0 → v ≡ rest → v ≡ check k 2 (number_allowed interval h l n) rest
+    pub number-passes : m ≡ None → v ≡ rest → v ≡ check k 2 (number_allowed interval h l n) rest
     number-passes z q = holds k 2 v rest _ (number-free z) q
 
-    pub number-fails : (r ≡ 0 → ⊥) → v ≡ wrong k 2 → v ≡ check k 2 (number_allowed interval h l n) rest
-    number-fails z q = without k 2 v rest _ (number-taken z) q
+    pub number-fails : (c : Refusal) → m ≡ Some c → v ≡ wrong k 2 → v ≡ check k 2 (number_allowed interval h l n) rest
+    number-fails c z q = without k 2 v rest _ (number-taken c z) q
 
 -- an empty part is carried
 blank-carried : (y : Style) (i : ℕ) → true ≡ part_carried y i []

@@ -14,8 +14,8 @@ use Rattle.paper.specs.Texts.{lacks, part_proper, name_proper}
 use Rattle.paper.specs.Proper.{Verdict, check, parts_from, item_proper}
 use Rattle.paper.specs.Rows.{reference_proper}
 use Rattle.text.specs.declared.span.Span.{Span}
-use Rattle.rows.specs.declared.read.Check.{Check}
-use Rattle.rows.specs.declared.read.Check.TheVariants.{Fine, Wrong}
+use Rattle.std.proofs.Common.{Result, Ok, Err}
+use Rattle.rows.specs.declared.field.Field.{Field}
 use Rattle.rows.specs.declared.read.ItemRow.{ItemRow}
 use Rattle.rows.specs.read.Told.{text_of_span, item_of}
 use Rattle.rows.specs.read.After.{after}
@@ -84,29 +84,29 @@ module _ (t : List ℕ) (x : ItemRow) (single : Bool) (sum : ℕ) where
   abbrev whole : ℕ → Verdict → Verdict
   whole k rest = item_proper k single sum (item_of t x) (referred k rest)
 
-  module _ (m : Check) (money : (k : ℕ) (rest : Verdict) → after k m rest ≡ money_proper k single sum x rest) where
+  module _ (m : Result (Unit {0}) Field) (money : (k : ℕ) (rest : Verdict) → after k m rest ≡ money_proper k single sum x rest) where
     -- what a stage's test says is what the item's says, where those before it passed
     on-money : (k : ℕ) (rest : Verdict) → after k m (symbols_proper k x (texts_proper k t x (referred k rest))) ≡ whole k rest
     on-money k rest = money k _ ∙ stages k single sum t x (referred k rest)
 
-    pub money-wrong : (n : ℕ) → m ≡ Wrong n → ItemTested t x single sum (Wrong n)
+    pub money-wrong : (n : Field) → m ≡ Err n → ItemTested t x single sum (Err n)
     money-wrong n h = record { same = λ k rest. rw h at (on-money k rest) }
 
-    module _ (h : m ≡ Fine) (s : Check) (symbols : (k : ℕ) (rest : Verdict) → after k s rest ≡ symbols_proper k x rest) where
+    module _ (h : m ≡ Ok tt) (s : Result (Unit {0}) Field) (symbols : (k : ℕ) (rest : Verdict) → after k s rest ≡ symbols_proper k x rest) where
       on-symbols : (k : ℕ) (rest : Verdict) → after k s (texts_proper k t x (referred k rest)) ≡ whole k rest
       on-symbols k rest = symbols k _ ∙ rw h at (on-money k rest)
 
-      pub symbols-wrong : (n : ℕ) → s ≡ Wrong n → ItemTested t x single sum (Wrong n)
+      pub symbols-wrong : (n : Field) → s ≡ Err n → ItemTested t x single sum (Err n)
       symbols-wrong n g = record { same = λ k rest. rw g at (on-symbols k rest) }
 
-      module _ (g : s ≡ Fine) (l : Check) (texts : (k : ℕ) (rest : Verdict) → after k l rest ≡ texts_proper k t x rest) where
+      module _ (g : s ≡ Ok tt) (l : Result (Unit {0}) Field) (texts : (k : ℕ) (rest : Verdict) → after k l rest ≡ texts_proper k t x rest) where
         on_texts : (k : ℕ) (rest : Verdict) → after k l (referred k rest) ≡ whole k rest
         on_texts k rest = texts k _ ∙ rw g at (on-symbols k rest)
 
-        pub texts-wrong : (n : ℕ) → l ≡ Wrong n → ItemTested t x single sum (Wrong n)
+        pub texts-wrong : (n : Field) → l ≡ Err n → ItemTested t x single sum (Err n)
         texts-wrong n i = record { same = λ k rest. rw i at (on_texts k rest) }
 
-        pub reference-last : l ≡ Fine → (r : Check) → ((k : ℕ) (rest : Verdict) → after k r rest ≡ referred k rest) → ItemTested t x single sum r
+        pub reference-last : l ≡ Ok tt → (r : Result (Unit {0}) Field) → ((k : ℕ) (rest : Verdict) → after k r rest ≡ referred k rest) → ItemTested t x single sum r
         reference-last i r last = record { same = λ k rest. last k rest ∙ rw i at (on_texts k rest) }
 
 pub ruleset stages-on = (money-wrong, symbols-wrong, texts-wrong, reference-last)

@@ -19,8 +19,8 @@ use Rattle.paper.specs.Proper.{Verdict, fine, check, parts_from, item_proper}
 use Rattle.paper.specs.Rows.{reference_proper}
 use Rattle.paper.proofs.Verdicts.{check-only, name-short}
 use Rattle.text.specs.declared.span.Span.{Span}
-use Rattle.rows.specs.declared.read.Check.{Check}
-use Rattle.rows.specs.declared.read.Check.TheVariants.{Fine}
+use Rattle.std.proofs.Common.{Result, Ok}
+use Rattle.rows.specs.declared.field.Field.{Field}
 use Rattle.rows.specs.declared.read.ItemRow.{ItemRow}
 use Rattle.rows.specs.read.Told.{text_of_span, item_of}
 use Rattle.text.specs.span.Held.{Within}
@@ -104,7 +104,7 @@ module _ (t : List ℕ) (x : ItemRow) (single : Bool) (sum : ℕ) where
       )
 
   -- as the code tells it, of a row that passed all tests
-  module _ (r : Check) (tested : ItemTested t x single sum r) (e : r ≡ Fine) where
+  module _ (r : Result (Unit {0}) Field) (tested : ItemTested t x single sum r) (e : r ≡ Ok tt) where
     passed : Sized t x × (sum + x.amount ≤ most14) × (check 0 21 (reference_proper x.reference) fine ≡ fine)
     passed = item-sized 0 _ (sym ((rw e at tested.same) 0 fine))
 

@@ -1,5 +1,5 @@
 -- An item's fields in three stages, as the code tests them one after another. Assumes nothing.
-use Rattle.std.specs.Prelude.{ℕ, ◌+◌, ◌≡◌, Bool, false, List, ltb, leb}
+use Rattle.std.specs.Prelude.{ℕ, ◌+◌, ◌≡◌, Bool, false, List, Result, ltb, leb}
 use Rattle.base.specs.Pick.{pick}
 use Rattle.paper.specs.Accounts.{account, account_proper}
 use Rattle.paper.specs.Amounts.{amount_proper}
@@ -8,7 +8,7 @@ use Rattle.paper.specs.Texts.{part_proper, name_proper}
 use Rattle.paper.specs.Batch.{most14}
 use Rattle.paper.specs.Proper.{Verdict, check, item_payer_proper, item_proper}
 use Rattle.paper.specs.Rows.{reference_proper}
-use Rattle.rows.specs.declared.read.Check.{Check}
+use Rattle.rows.specs.declared.field.Field.{Field}
 use Rattle.rows.specs.declared.read.ItemRow.{ItemRow}
 use Rattle.rows.specs.read.Told.{text_of_span, item_of}
 use Rattle.rows.specs.read.After.{after}
@@ -41,5 +41,5 @@ texts_proper k t x rest =
 -- ---- the three together, and behind them the reference
 
 -- c is the answer of all tests of the row x, in a group that is single or not and whose items before it have this sum
-pub record ItemTested (t : List ℕ) (x : ItemRow) (single : Bool) (sum : ℕ) (c : Check) : Type 0 where
+pub record ItemTested (t : List ℕ) (x : ItemRow) (single : Bool) (sum : ℕ) (c : Result (Unit {0}) Field) : Type 0 where
   pub same : (k : ℕ) (rest : Verdict) → after k c rest ≡ item_proper k single sum (item_of t x) (check k 21 (reference_proper x.reference) rest)

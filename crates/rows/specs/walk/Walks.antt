@@ -1,6 +1,6 @@
 -- Refusal 20 over rows, one after another: what stands before a row as the definitions count it, and what the row leads to. Document 01, "The
 -- batch". Assumes nothing.
-use Rattle.std.specs.Prelude.{ℕ, suc, ◌<◌, ◌≡◌, true, List, ◌∷◌}
+use Rattle.std.specs.Prelude.{ℕ, suc, ◌<◌, ◌≡◌, true, List, ◌∷◌, Result, Ok, Err}
 use Rattle.paper.specs.Days.{real_day}
 use Rattle.paper.specs.Batch.{Thing, a_file, a_group, an_item, misnumbered, strange}
 use Rattle.paper.specs.Proper as paper
@@ -9,10 +9,9 @@ use Rattle.rows.specs.read.Sized.{Sized}
 use Rattle.rows.specs.declared.walk.Stage.{Stage}
 use Rattle.rows.specs.declared.walk.Stage.TheVariants as stage
 use Rattle.rows.specs.declared.walk.Before.{Before}
-use Rattle.rows.specs.declared.walk.Walk.{Walk}
-use Rattle.rows.specs.declared.walk.Walk.TheVariants.{On, Wrong}
-use Rattle.rows.specs.declared.walk.Walked.{Walked}
-use Rattle.rows.specs.declared.walk.Walked.TheVariants as all
+use Rattle.rows.specs.declared.field.Field.{Field}
+use Rattle.rows.specs.declared.field.Wrong.{Wrong}
+use Rattle.rows.specs.field.Numbers.{number_of}
 
 -- what may come next
 abbrev pub stage_of : Stage → paper.Stage
@@ -34,24 +33,24 @@ behind b (misnumbered x) = b
 behind b strange = b
 
 -- the verdict where row k leads to r, and ts are the rows behind it
-abbrev pub walked : ℕ → Walk → List Thing → paper.Verdict
-walked k (On next) ts = paper.rows_proper (suc k) (before_of next) ts
-walked k (Wrong field) ts = paper.wrong k field
+abbrev pub walked : ℕ → Result Before Field → List Thing → paper.Verdict
+walked k (Ok next) ts = paper.rows_proper (suc k) (before_of next) ts
+walked k (Err field) ts = paper.wrong k (number_of field)
 
 -- what stands before the next row, where there is one
-abbrev pub Leads : Before → Thing → Walk → Type 0
-Leads b t (On next) = before_of next ≡ behind (before_of b) t
-Leads b t (Wrong field) = Unit {0}
+abbrev pub Leads : Before → Thing → Result Before Field → Type 0
+Leads b t (Ok next) = before_of next ≡ behind (before_of b) t
+Leads b t (Err field) = Unit {0}
 
 -- The row t, before which b stands, leads to r: whatever rows follow, the verdict from t on is that.
-pub record Walks (b : Before) (t : Thing) (r : Walk) : Type 0 where
+pub record Walks (b : Before) (t : Thing) (r : Result Before Field) : Type 0 where
   pub same : (k : ℕ) (ts : List Thing) → walked k r ts ≡ paper.rows_proper k (before_of b) (t ∷ ts)
   pub leads : Leads b t r
 
 -- the verdict over all rows
-abbrev pub verdict_of : Walked → paper.Verdict
-verdict_of all.Fine = paper.fine
-verdict_of (all.Wrong row field) = paper.wrong row field
+abbrev pub verdict_of : Result (Unit {0}) Wrong → paper.Verdict
+verdict_of (Ok u) = paper.fine
+verdict_of (Err w) = paper.wrong w.row (number_of w.field)
 
 -- ---- what a row has that passed its tests
 

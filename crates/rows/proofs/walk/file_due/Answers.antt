@@ -7,9 +7,3 @@ returns-in-NeedFile c = search dues
 
 pub returns-in-NeedGroup : goal.returns-in-NeedGroup
 returns-in-NeedGroup c = search dues
-
-pub returns-in-NeedItem : goal.returns-in-NeedItem
-returns-in-NeedItem c = search dues
-
-pub returns-in-Any : goal.returns-in-Any
-returns-in-Any c = search dues

@@ -2,14 +2,8 @@
 use Rattle.rows.proofs.walk.Dues.{dues}
 use Rattle.rows.proofs.walk.may_stop.Goals as goal
 
-pub returns-in-NeedFile : goal.returns-in-NeedFile
-returns-in-NeedFile c = search dues
-
-pub returns-in-NeedGroup : goal.returns-in-NeedGroup
-returns-in-NeedGroup c = search dues
-
-pub returns-in-NeedItem : goal.returns-in-NeedItem
-returns-in-NeedItem c = search dues
-
 pub returns-in-Any : goal.returns-in-Any
 returns-in-Any c = search dues
+
+pub returns-in_default : goal.returns-in_default
+returns-in_default c = search dues
