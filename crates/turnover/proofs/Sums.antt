@@ -1,5 +1,5 @@
 -- Laws that the functions' proofs search by: one movement more, the test of a turnover. Assumes nothing.
-use Rattle.std.proofs.Common.{◌≡◌, ℕ, ◌+◌, ◌≤◌, Bool, true, false, eqb, List, [], ◌∷◌, sym, refl, ◌∙◌, arith, eq-eqb, ne_eqb}
+use Rattle.std.proofs.Common.{◌≡◌, ℕ, ◌+◌, ◌≤◌, Bool, true, false, eqb, ◌&&◌, List, [], ◌∷◌, sym, refl, ◌∙◌, arith, eq-eqb, ne_eqb}
 use Rattle.base.specs.Pick.{pick}
 use Rattle.base.proofs.Cases.{by-eq}
 use Rattle.gpc.specs.Signed.{Signed, is_difference, above, below}
@@ -84,16 +84,21 @@ unfolding is_difference above below
 difference u d x = carried x.minus x.size u d
 
 module _ (t y : Turn) (x : Signed) (s : Stands y (above x) (below x)) where
-  pub same-high : t.high ≡ y.high → (u d : ℕ) → Stands t u d → eqb t.low y.low ≡ is_difference u d x
+  same-high : t.high ≡ y.high → (u d : ℕ) → Stands t u d → eqb t.low y.low ≡ is_difference u d x
   same-high e u d h =
       same_test t.low y.low (above x + d) (u + below x) (λ q. omega (arith, h.same, s.same)) (λ q. omega (arith, h.same, s.same))
       ∙ sym (difference u d x)
 
-  pub other-high : (t.high ≡ y.high → ⊥) → (u d : ℕ) → Stands t u d → false ≡ is_difference u d x
+  other-high : (t.high ≡ y.high → ⊥) → (u d : ℕ) → Stands t u d → false ≡ is_difference u d x
   other-high n u d h =
       sym (difference u d x ∙ ne_eqb (above x + d) (u + below x) (λ q. n (omega (arith, h.same, h.small, s.same, s.small))))
 
-pub ruleset testing = (same-high, other-high)
+  -- both words are equal, or one is not
+  pub both-tested : (u d : ℕ) → Stands t u d → eqb t.high y.high && eqb t.low y.low ≡ is_difference u d x
+  both-tested u d h =
+      by-eq t.high y.high
+      (λ e. rw (eq-eqb t.high y.high e) (same-high e u d h))
+      (λ n. rw (ne_eqb t.high y.high n) (other-high n u d h))
 
 -- ---- `Turn::of`
 

@@ -13,7 +13,7 @@ ghost use Rattle.turnover.specs.Counts.{Stands, Room, Raised, Lowered, Moves, Co
 use crate::signed::Signed;
 
 // A number that may fall below nothing: (high - 2^63) * 10^14 + low. What a turnover's field can hold is in low.
-#[derive(Clone, Copy)]
+#[derive(Clone, Copy, PartialEq, Eq)]
 pub struct Turn {
     pub high: u64,
     pub low: u64,
@@ -96,11 +96,7 @@ impl Turn {
         requires { x.size ≤ most14 }
         ensures { (u d : ℕ) → Stands self u d → result ≡ is_difference u d (said x) }
     {
-        let said = Turn::of(x);
-        if self.high == said.high {
-            return self.low == said.low;
-        }
-        false
+        self == Turn::of(x)
     }
 }
 
