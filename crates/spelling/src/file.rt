@@ -29,13 +29,12 @@ fn group_sum(rows: &[u8], from: usize) -> u64
     ensures { result ≡ item_sum (rows_from 24 rows.now from) }
 {
     let mut sum: u64 = 0;
-    let mut at = from;
-    while 192 <= rows.len() - at {
+    for i in 0..(rows.len() - from) / 192 {
+        let at = from + i * 192;
         if out::word::word_at(rows, at) != 3 {
             return sum;
         }
-        sum = sum + out::word::word_at(rows, at + 48);
-        at = at + 192;
+        sum += out::word::word_at(rows, at + 48);
     }
     sum
 }
@@ -104,14 +103,12 @@ pub fn fill_file(rows: &[u8], texts: &[u8], sh: Sheet, out: &mut [u8], at: usize
     requires rows_in_bounds { at + length (flat sh need_file (things_in texts.now (rows_in rows.now))) ≤ length out.old }
     ensures { Wrote out.old at (flat sh need_file (things_in texts.now (rows_in rows.now))) out.new result }
 {
-    let mut row = 0;
-    let mut next = at;
-    let mut due = false;
-    while 192 <= rows.len() - row {
-        let step = fill_row(rows, row, texts, sh, due, out, next);
-        next = step.next;
-        due = step.due;
-        row = row + 192;
+    let mut step = Step {
+        next: at,
+        due: false,
+    };
+    for i in 0..rows.len() / 192 {
+        step = fill_row(rows, i * 192, texts, sh, step.due, out, step.next);
     }
-    end_file(out, next, due)
+    end_file(out, step.next, step.due)
 }

@@ -1,23 +1,25 @@
 -- `group_sum` meets its contract: the sum so far and that of the rows that are left are the whole. Assumes nothing.
-use native.Mathlib.Omega.{arith}
-use borrow.Author.Rules.{rules}
+use Rattle.std.proofs.Common.{◌≡◌, ◌+◌, ◌-◌, ◌*◌, ◌<◌, ◌≤◌, length, arith, rules}
 use Rattle.spelling.proofs.file.Sum.{sum-next, sum_fits, sum-stop, sum-last}
 use Rattle.spelling.proofs.file.group_sum.Goals as goal
 
-pub loop-at-init : goal.loop-at-init
-loop-at-init c = (omega arith, omega arith)
-
 pub returns-then-word_at-ne3 : goal.returns-then-word_at-ne3
-returns-then-word_at-ne3 c = search sum-stop
+returns-then-word_at-ne3 c =
+    let here : 192 ≤ length c.args.rows.now - (c.args.from + c.loop-i.i * 192) = omega arith in
+    search sum-stop
 
 pub overflow_add-sum : goal.overflow_add-sum
-overflow_add-sum c = search (sum_fits, rules)
+overflow_add-sum c =
+    let here : 192 ≤ length c.args.rows.now - (c.args.from + c.loop-i.i * 192) = omega arith in
+    search (sum_fits, rules)
 
-pub loop-at-smaller : goal.loop-at-smaller
-loop-at-smaller c = omega arith
-
-pub loop-at-preserved : goal.loop-at-preserved
-loop-at-preserved c = (omega arith, search sum-next)
+pub loop-i-preserved : goal.loop-i-preserved
+loop-i-preserved c =
+    let here : 192 ≤ length c.args.rows.now - (c.args.from + c.loop-i.i * 192) = omega arith in
+    let next : c.args.from + (c.loop-i.i + 1) * 192 ≡ c.args.from + c.loop-i.i * 192 + 192 = omega arith in
+    rw next (search sum-next)
 
 pub returns : goal.returns
-returns c = search sum-last
+returns c =
+    let none : length c.args.rows.now - (c.args.from + c.loop-i.i * 192) < 192 = omega arith in
+    search sum-last
