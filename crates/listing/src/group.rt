@@ -17,7 +17,6 @@ ghost use Rattle.listing.specs.group.Warned.{group_warned, cut, line_in, at_fiel
 ghost use Rattle.listing.specs.group.Ahead.{ItemsSaid};
 
 use crate::Telling;
-use groupline::GroupRead;
 use itemline::take::take_item;
 use scan::kind::LineKind;
 use sheet::Sheet;
@@ -120,19 +119,11 @@ pub fn put_group(
     requires in_bounds { 2 ≤ length (take (stop - start) (drop start f.now)) }
     ensures { Counted out.old at (listed t f.now (group_warned t.sheet t.today line (line_in f.now start stop) here exact)) out.new result }
 {
-    match groupline::group_line(&f[start..stop], t.sheet, t.today, here) {
-        GroupRead::Refused(n, off) => at,
-        GroupRead::Group {
-            single,
-            total,
-            date,
-            warnings,
-            spot,
-        } => {
-            let d = put_total(out, at, t, f, line, start, stop, spot, total, exact);
-            put_past(out, d, t, f, line, start, stop, spot, warnings)
-        }
-    }
+    let Ok(g) = groupline::group_line(&f[start..stop], t.sheet, t.today, here) else {
+        return at;
+    };
+    let d = put_total(out, at, t, f, line, start, stop, g.spot, g.total, exact);
+    put_past(out, d, t, f, line, start, stop, g.spot, g.warnings)
 }
 
 // ---- the items that follow
@@ -141,14 +132,7 @@ pub fn put_group(
 fn is_item(s: &[u8]) -> bool
     ensures { result ≡ is item_line (kind_of s.now) }
 {
-    match scan::kind::kind_of(s) {
-        LineKind::Item => true,
-        LineKind::Head => false,
-        LineKind::File => false,
-        LineKind::Group => false,
-        LineKind::GroupEnd => false,
-        LineKind::FileEnd => false,
-    }
+    matches!(scan::kind::kind_of(s), LineKind::Item)
 }
 
 // The exact sum of the items that follow from `at` on, in a group that is single or not; past 14 digits it is not counted on. The items were

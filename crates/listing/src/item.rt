@@ -18,7 +18,6 @@ ghost use Rattle.listing.specs.item.Found.{behind, bank_place, digit_warned, pri
 
 use crate::{Telling, put_finding};
 use itemline::take::take_item;
-use numeral::field::NumAt;
 use scan::find::find_byte;
 use sheet::Style;
 use text::span::{Span, Spans};
@@ -113,19 +112,19 @@ fn put_priority(
     requires s_value { is_value (digits 8 10 (field_of (drop from s.now))) ≡ true }
     ensures { Counted out.old at (listed t f.now (priority_warned h.line (line_of h.start s.now) from)) out.new result }
 {
-    match numeral::field::number_at(s, from, 8, 10) {
-        NumAt::Refused(_) => at,
-        NumAt::Value(n, end) => put_digit(
-            out,
-            at,
-            t,
-            f,
-            h.line,
-            h.start + from,
-            end - from,
-            n / 100000000,
-        ),
-    }
+    let Ok(bank) = numeral::field::number_at(s, from, 8, 10) else {
+        return at;
+    };
+    put_digit(
+        out,
+        at,
+        t,
+        f,
+        h.line,
+        h.start + from,
+        bank.end - from,
+        bank.value / 100000000,
+    )
 }
 
 // ---- parts and name

@@ -1,5 +1,5 @@
 -- The sum of the items that follow: what each line gives to it, and the sum so far. Assumes nothing.
-use mathlib.Core.Path.{◌≡◌, refl, sym, ap, ◌∙◌}
+use mathlib.Core.Path.{◌≡◌, refl, sym, ◌∙◌}
 use mathlib.Core.Bool.{Bool, true, false}
 use mathlib.Core.List.{List, ◌∷◌}
 use Prim.Native.Nat.{ℕ, ◌+◌, ◌-◌, ◌≤◌, ◌<◌}
@@ -19,8 +19,6 @@ use Rattle.paper.specs.Spells.{read_as, read_line}
 use Rattle.paper.specs.Judge.{is}
 use Rattle.paper.specs.Rows.{accepted}
 use Rattle.paper.proofs.LineSays.{Asked, LineSays, no-header, a_header, a-file, a-group, an-item, a_group_end, a_file_end, refused, says}
-use Rattle.scan.specs.declared.kind.LineKind.{LineKind}
-use Rattle.scan.specs.kind.Told as kinds
 use Rattle.scan.specs.declared.line.Cut.{Cut}
 use Rattle.scan.specs.line.Cutting.{Cuts}
 use Rattle.scan.proofs.line.Lines.{at-end}
@@ -34,10 +32,6 @@ use Rattle.listing.specs.group.Warned.{cut, line_in}
 use Rattle.listing.specs.group.Ahead.{ItemsSaid}
 
 -- ---- is it an item's line?
-
--- v is the kind that was found
-pub of-kind : (s : List ℕ) (r : LineKind) → kinds.told r ≡ kind_of s → (v : LineKind) → r ≡ v → (b : Bool) → b ≡ is item_line (kinds.told v) → b ≡ is item_line (kind_of s)
-of-kind s r g v e b q = q ∙ ap (is item_line) (ap kinds.told (sym e) ∙ g)
 
 is-item : (k : Kind) → is item_line k ≡ true → k ≡ item_line
 is-item head_line e = never (sym e)

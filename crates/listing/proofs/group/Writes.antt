@@ -16,8 +16,10 @@ use Rattle.paper.proofs.Passing.{counted-no}
 use Rattle.numeral.specs.counted.Counted.{Counted}
 use Rattle.numeral.proofs.counted.Laws.{counted-nothing, ◌counted-then◌}
 use Rattle.numeral.proofs.field.Front.{field-long}
-use Rattle.groupline.specs.declared.GroupRead.{GroupRead}
-use Rattle.groupline.specs.declared.GroupRead.TheVariants as read
+use Rattle.std.proofs.Common.{Result, Ok, Err}
+use Rattle.refusal.specs.declared.Flaw.{Flaw}
+use Rattle.refusal.specs.Numbers.{number_of}
+use Rattle.groupline.specs.declared.GroupLine.{GroupLine}
 use Rattle.groupline.specs.Told.{Tells, Low}
 use Rattle.why.specs.declared.Finding.{Finding}
 use Rattle.why.specs.Names.{field_number}
@@ -85,33 +87,33 @@ module _ (t : Telling) (f : List ℕ) {o : List ℕ} {at : ℕ} where
 
 -- ---- the line: r is what its reader answered
 
-pub line-once : (r : GroupRead) → Low r → (single : Bool) (total date warnings spot : ℕ) → r ≡ read.Group single total date warnings spot → warnings ≤ 1
-line-once r low single total date warnings spot e = (rw e at low).1
+pub line-once : (r : Result GroupLine Flaw) → Low r → (g : GroupLine) → r ≡ Ok g → g.warnings ≤ 1
+line-once r low g e = (rw e at low).1
 
-module _ (t : Telling) (f : List ℕ) (start stop : ℕ) (here : Bool) (r : GroupRead) (tells : Tells (read_group t.sheet t.today here (cut f start stop)) r) where
-  pub line_refused : (n off : ℕ) → r ≡ read.Refused n off → {o : List ℕ} {at : ℕ} (k exact : ℕ) → Counted o at (listed t f (group_warned t.sheet t.today k (line_in f start stop) here exact)) o at
+module _ (t : Telling) (f : List ℕ) (start stop : ℕ) (here : Bool) (r : Result GroupLine Flaw) (tells : Tells (read_group t.sheet t.today here (cut f start stop)) r) where
+  pub line_refused : (x : Flaw) → r ≡ Err x → {o : List ℕ} {at : ℕ} (k exact : ℕ) → Counted o at (listed t f (group_warned t.sheet t.today k (line_in f start stop) here exact)) o at
   unfolding group_warned on_listed
-  line_refused n off e k exact =
-      let x = counted-no (read_group t.sheet t.today here (cut f start stop)) n off (rw e at tells.says) in
-      rw (← x) (put-none t f)
+  line_refused x e k exact =
+      let z = counted-no (read_group t.sheet t.today here (cut f start stop)) (number_of x.0) x.1 (rw e at tells.says) in
+      rw (← z) (put-none t f)
 
-  module _ (long : 2 ≤ length (cut f start stop)) (single : Bool) (total date warnings spot : ℕ) (e : r ≡ read.Group single total date warnings spot) where
+  module _ (long : 2 ≤ length (cut f start stop)) (g : GroupLine) (e : r ≡ Ok g) where
     abbrev w : List ℕ
     w = cut f start stop
 
-    says : (read_group t.sheet t.today here w ≡ said (group tells.payer total date) (notices past_day (spot + seek space (drop spot w) + 1) warnings) (total_at spot))
-        × (spot + seek space (drop spot w) < length w)
+    says : (read_group t.sheet t.today here w ≡ said (group tells.payer g.total g.date) (notices past_day (g.spot + seek space (drop g.spot w) + 1) g.warnings) (total_at g.spot))
+        × (g.spot + seek space (drop g.spot w) < length w)
     says = group-spot w t.sheet t.today here long (rw e at tells.says)
 
     module _ (p : start ≤ stop) (q : stop ≤ length f) where
-      pub line-day : start + (spot + seek space (drop spot (cut f start stop))) < stop
-      line-day = spot-within f start stop p q (spot + seek space (drop spot w)) says.1
+      pub line-day : start + (g.spot + seek space (drop g.spot (cut f start stop))) < stop
+      line-day = spot-within f start stop p q (g.spot + seek space (drop g.spot w)) says.1
 
-      pub line-total : start + spot ≤ stop
+      pub line-total : start + g.spot ≤ stop
       line-total = omega (arith, line-day)
 
-    pub line-put : {o o1 o2 : List ℕ} {at d h : ℕ} (k exact : ℕ) → Counted o at (listed t f (differing k (line_in f start stop) spot total exact)) o1 d
-        → Counted o1 d (listed t f (map (noticed t.sheet t.today k (line_in f start stop) (total_at spot)) (notices past_day (spot + seek space (drop spot w) + 1) warnings))) o2 h
+    pub line-put : {o o1 o2 : List ℕ} {at d h : ℕ} (k exact : ℕ) → Counted o at (listed t f (differing k (line_in f start stop) g.spot g.total exact)) o1 d
+        → Counted o1 d (listed t f (map (noticed t.sheet t.today k (line_in f start stop) (total_at g.spot)) (notices past_day (g.spot + seek space (drop g.spot w) + 1) g.warnings))) o2 h
         → Counted o at (listed t f (group_warned t.sheet t.today k (line_in f start stop) here exact)) o2 h
     unfolding group_warned on_listed on_group on_entry
     line-put k exact a b = rw (says.0, listed-append t f) (a counted-then b)

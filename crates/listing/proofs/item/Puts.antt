@@ -6,6 +6,9 @@ use Prim.Native.Nat.{ℕ, ◌+◌, ◌-◌, ◌/◌, ◌≤◌, ◌<◌}
 use native.Mathlib.Omega.{arith}
 use lib.ListN.{length, take, drop, length-take, length-drop}
 use Rattle.base.proofs.Seek.{never}
+use Rattle.std.proofs.Common.{Result, Ok, Err}
+use Rattle.refusal.specs.declared.Refusal.{Refusal}
+use Rattle.refusal.specs.Numbers.{number_of}
 use Rattle.sheet.specs.declared.Style.{Style}
 use Rattle.sheet.specs.declared.Sheet.{Sheet}
 use Rattle.paper.specs.Bytes.{field_of}
@@ -16,8 +19,7 @@ use Rattle.paper.specs.ItemLine.{is_value, read_item}
 use Rattle.numeral.specs.counted.Counted.{Counted}
 use Rattle.numeral.specs.field.At.{field_at}
 use Rattle.numeral.specs.field.Told.{told}
-use Rattle.numeral.specs.declared.field.NumAt.{NumAt}
-use Rattle.numeral.specs.declared.field.NumAt.TheVariants.{Value, Refused}
+use Rattle.numeral.specs.declared.field.Run.{Run}
 use Rattle.numeral.proofs.field.Front.{field-long}
 use Rattle.numeral.proofs.field.Steps.{found-value, found-end, missed-fault}
 use Rattle.text.specs.declared.span.Span.{Span}
@@ -34,27 +36,27 @@ use Rattle.listing.specs.item.Found.{bank_place, digit_warned, priority_warned, 
 use Rattle.listing.proofs.Putting.{none-put, both-put, lt-put, ge-put}
 use Rattle.listing.proofs.item.Found.{spells, item-found}
 
-pub digit-end : (w : List ℕ) (from : ℕ) (m : NumAt) → told m ≡ field_at (digits 8 10) w from → (n e : ℕ) → m ≡ Value n e → from ≤ e
-digit-end w from m g n e q = omega (arith, found-end (digits 8 10) w from n e (rw q at g))
+pub digit-end : (w : List ℕ) (from : ℕ) (m : Result Run Refusal) → told m ≡ field_at (digits 8 10) w from → (d : Run) → m ≡ Ok d → from ≤ d.end
+digit-end w from m g d q = omega (arith, found-end (digits 8 10) w from d.value d.end (rw q at g))
 
 module _ (t : Telling) (f : List ℕ) {o : List ℕ} {at : ℕ} where
   module _ (k start : ℕ) (w : List ℕ) where
     -- ---- put_priority: m is what number_at answered
 
-    module _ (from : ℕ) (m : NumAt) (g : told m ≡ field_at (digits 8 10) w from) where
-      pub digit-put : {o1 : List ℕ} {r : ℕ} (n e : ℕ) → m ≡ Value n e → Counted o at (listed t f (digit_warned k (start + from) (e - from) (n / 100000000))) o1 r
+    module _ (from : ℕ) (m : Result Run Refusal) (g : told m ≡ field_at (digits 8 10) w from) where
+      pub digit-put : {o1 : List ℕ} {r : ℕ} (d : Run) → m ≡ Ok d → Counted o at (listed t f (digit_warned k (start + from) (d.end - from) (d.value / 100000000))) o1 r
           → Counted o at (listed t f (priority_warned k (line start w) from)) o1 r
       unfolding priority_warned
-      digit-put n e q c =
+      digit-put d q c =
           let h = rw q at g in
-          let z = spells (field_of (drop from w)) n (found-value (digits 8 10) w from n e h) in
-          let l : length (field_of (drop from w)) ≡ e - from = omega (arith, found-end (digits 8 10) w from n e h, field-long (drop from w)) in
+          let z = spells (field_of (drop from w)) d.value (found-value (digits 8 10) w from d.value d.end h) in
+          let l : length (field_of (drop from w)) ≡ d.end - from = omega (arith, found-end (digits 8 10) w from d.value d.end h, field-long (drop from w)) in
           rw (z, l) c
 
-      pub digit-none : {o1 : List ℕ} {r : ℕ} (n : ℕ) → m ≡ Refused n → is_value (digits 8 10 (field_of (drop from w))) ≡ true
+      pub digit-none : {o1 : List ℕ} {r : ℕ} (c : Refusal) → m ≡ Err c → is_value (digits 8 10 (field_of (drop from w))) ≡ true
           → Counted o at (listed t f (priority_warned k (line start w) from)) o1 r
       unfolding is_value
-      digit-none n q v = never (sym (rw (missed-fault (digits 8 10) w from n (rw q at g)) at v))
+      digit-none c q v = never (sym (rw (missed-fault (digits 8 10) w from (number_of c) (rw q at g)) at v))
 
     -- ---- put_part and put_name
 

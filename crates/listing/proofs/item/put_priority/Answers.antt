@@ -1,13 +1,13 @@
--- `put_priority` puts the digit of the bank field.
+-- `put_priority` puts the digit of the bank field. Assumes nothing.
 use borrow.Author.Rules.{rules}
 use Rattle.listing.proofs.item.Puts.{priorities}
 use Rattle.listing.proofs.item.put_priority.Goals as goal
 
-pub overflow_sub-end : goal.overflow_sub-end
-overflow_sub-end c = search (priorities, rules)
+pub returns-in_default : goal.returns-in_default
+returns-in_default c = search (priorities, rules)
 
-pub returns-in-Refused : goal.returns-in-Refused
-returns-in-Refused c = search (priorities, rules)
+pub overflow_sub-bank : goal.overflow_sub-bank
+overflow_sub-bank c = search (priorities, rules)
 
-pub returns-in-Value : goal.returns-in-Value
-returns-in-Value c = search (priorities, rules)
+pub returns : goal.returns
+returns c = search (priorities, rules)
