@@ -9,75 +9,60 @@ ghost use Rattle.why.specs.Walk.{why_behind, why_open, why_payee, why_item};
 ghost use Rattle.fault.specs.line.Walks.{walk};
 ghost use Rattle.fault.specs.item.Stages.{from_text, from_symbol, from_fixed, from_tail, from_bank, from_variable, from_amount, from_single};
 
-use crate::field::Ruling;
-use crate::line::{Walk, malformed, stopped};
+use crate::line::{Fault, in_line, malformed};
 use sheet::Sheet;
 
 // A text to the line's end.
-fn walk_text(s: &[u8], at: usize, sh: Sheet) -> Walk
+fn walk_text(s: &[u8], at: usize, sh: Sheet) -> Result<(), Fault>
     requires { at ≤ length s.now }
     ensures { (today : ℕ) (c : Context) → result ≡ walk (from_text sh today c s.now at (drop at s.now)) }
 {
     let n = s.len();
-    match crate::texts::check_text(&s[at..n], sh.text) {
-        Ruling::Broke {
-            number,
-            cause,
-            least,
-            most,
-        } => stopped(number, cause, at, n - at, 36, least, most),
-        Ruling::Kept => Walk::Passed,
-    }
+    in_line(crate::texts::check_text(&s[at..n], sh.text), at, n - at, 36)
 }
 
 // Behind a symbol: nothing, or a space and a text.
-fn walk_behind(s: &[u8], at: usize, sh: Sheet) -> Walk
+fn walk_behind(s: &[u8], at: usize, sh: Sheet) -> Result<(), Fault>
     requires { at ≤ length s.now }
     ensures { (today : ℕ) (c : Context) → result ≡ walk (why_behind sh today c s.now at (drop at s.now)) }
 {
     if at < s.len() {
         return walk_text(s, at + 1, sh);
     }
-    Walk::Passed
+    Ok(())
 }
 
 // A symbol, and what follows it off S.
-fn walk_symbol(s: &[u8], at: usize, sh: Sheet) -> Walk
+fn walk_symbol(s: &[u8], at: usize, sh: Sheet) -> Result<(), Fault>
     requires { at ≤ length s.now }
     ensures { (today : ℕ) (c : Context) → result ≡ walk (from_symbol sh today c s.now at (drop at s.now)) }
 {
     let end = scan::line::field_end(s, at);
-    match crate::field::check_symbol(&s[at..end], sh.fixedtail) {
-        Ruling::Broke {
-            number,
-            cause,
-            least,
-            most,
-        } => stopped(number, cause, at, end - at, 35, least, most),
-        Ruling::Kept => walk_behind(s, end, sh),
-    }
+    in_line(
+        crate::field::check_symbol(&s[at..end], sh.fixedtail),
+        at,
+        end - at,
+        35,
+    )?;
+    walk_behind(s, end, sh)
 }
 
 // A symbol or none, a space and a text (S).
-fn walk_fixed_symbol(s: &[u8], at: usize, sh: Sheet) -> Walk
+fn walk_fixed_symbol(s: &[u8], at: usize, sh: Sheet) -> Result<(), Fault>
     requires { at ≤ length s.now }
     ensures { (today : ℕ) (c : Context) → result ≡ walk (from_fixed sh today c s.now at (drop at s.now)) }
 {
     let end = scan::line::field_end(s, at);
-    match crate::field::check_symbol(&s[at..end], sh.fixedtail) {
-        Ruling::Broke {
-            number,
-            cause,
-            least,
-            most,
-        } => stopped(number, cause, at, end - at, 35, least, most),
-        Ruling::Kept => {
-            if end < s.len() {
-                return walk_text(s, end + 1, sh);
-            }
-            malformed(41, end, 0, 36)
-        }
+    in_line(
+        crate::field::check_symbol(&s[at..end], sh.fixedtail),
+        at,
+        end - at,
+        35,
+    )?;
+    if end < s.len() {
+        return walk_text(s, end + 1, sh);
     }
+    Err(malformed(41, end, 0, 36))
 }
 
 // Whether what stands at `at` is no symbol, where a text may stand for it (`bare`).
@@ -87,21 +72,13 @@ fn no_symbol(s: &[u8], at: usize, bare: bool) -> bool
 {
     if bare {
         let end = scan::line::field_end(s, at);
-        return match crate::field::check_digits(&s[at..end], 1, 10) {
-            Ruling::Kept => false,
-            Ruling::Broke {
-                number: _,
-                cause: _,
-                least: _,
-                most: _,
-            } => true,
-        };
+        return crate::field::check_digits(&s[at..end], 1, 10).is_err();
     }
     false
 }
 
 // The tail on K, C, E and P.
-fn walk_open(s: &[u8], at: usize, sh: Sheet) -> Walk
+fn walk_open(s: &[u8], at: usize, sh: Sheet) -> Result<(), Fault>
     requires { at ≤ length s.now }
     ensures { (today : ℕ) (c : Context) → result ≡ walk (why_open sh today c s.now at (drop at s.now)) }
 {
@@ -112,11 +89,11 @@ fn walk_open(s: &[u8], at: usize, sh: Sheet) -> Walk
         }
         return walk_symbol(s, from, sh);
     }
-    Walk::Passed
+    Ok(())
 }
 
 // The tail: on S a space always, elsewhere it may be missing.
-fn walk_tail(s: &[u8], at: usize, sh: Sheet) -> Walk
+fn walk_tail(s: &[u8], at: usize, sh: Sheet) -> Result<(), Fault>
     requires { at ≤ length s.now }
     ensures { (today : ℕ) (c : Context) → result ≡ walk (from_tail sh today c s.now at (drop at s.now)) }
 {
@@ -125,132 +102,127 @@ fn walk_tail(s: &[u8], at: usize, sh: Sheet) -> Walk
         if at < s.len() {
             return walk_fixed_symbol(s, at + 1, sh);
         }
-        return malformed(41, at, 0, 35);
+        return Err(malformed(41, at, 0, 35));
     }
     walk_open(s, at, sh)
 }
 
 // The bank field, in an account file of that kind and a group of that date, and the tail.
-fn walk_bank(s: &[u8], at: usize, sh: Sheet, today: u64, kind: u64, date: u64) -> Walk
+fn walk_bank(s: &[u8], at: usize, sh: Sheet, today: u64, kind: u64, date: u64) -> Result<(), Fault>
     requires at_in_bounds { at ≤ length s.now }
     requires today_value { real_day today ≡ true }
     ensures { (c : Context) → c.kind ≡ kind → c.date ≡ date → result ≡ walk (from_bank sh today c s.now at (drop at s.now)) }
 {
     let end = scan::line::field_end(s, at);
-    match crate::banks::check_bank(
+    let ruling = crate::banks::check_bank(
         &s[at..end],
         sh.priority,
         calendar::term::is_collection(sh, kind),
         sh.bank,
         today,
         date,
-    ) {
-        Ruling::Broke {
-            number,
-            cause,
-            least,
-            most,
-        } => stopped(number, cause, at, end - at, 34, least, most),
-        Ruling::Kept => walk_tail(s, end, sh),
-    }
+    );
+    in_line(ruling, at, end - at, 34)?;
+    walk_tail(s, end, sh)
 }
 
 // The variable symbol and what follows it.
-fn walk_variable(s: &[u8], at: usize, sh: Sheet, today: u64, kind: u64, date: u64) -> Walk
+fn walk_variable(
+    s: &[u8],
+    at: usize,
+    sh: Sheet,
+    today: u64,
+    kind: u64,
+    date: u64,
+) -> Result<(), Fault>
     requires at_in_bounds { at ≤ length s.now }
     requires today_value { real_day today ≡ true }
     ensures { (c : Context) → c.kind ≡ kind → c.date ≡ date → result ≡ walk (from_variable sh today c s.now at (drop at s.now)) }
 {
     let end = scan::line::field_end(s, at);
-    match crate::field::check_digits(&s[at..end], 1, 10) {
-        Ruling::Broke {
-            number,
-            cause,
-            least,
-            most,
-        } => stopped(number, cause, at, end - at, 33, least, most),
-        Ruling::Kept => {
-            if end < s.len() {
-                return walk_bank(s, end + 1, sh, today, kind, date);
-            }
-            malformed(41, end, 0, 34)
-        }
+    in_line(
+        crate::field::check_digits(&s[at..end], 1, 10),
+        at,
+        end - at,
+        33,
+    )?;
+    if end < s.len() {
+        return walk_bank(s, end + 1, sh, today, kind, date);
     }
+    Err(malformed(41, end, 0, 34))
 }
 
 // The amount and what follows it.
-fn walk_amount(s: &[u8], at: usize, sh: Sheet, today: u64, kind: u64, date: u64) -> Walk
+fn walk_amount(
+    s: &[u8],
+    at: usize,
+    sh: Sheet,
+    today: u64,
+    kind: u64,
+    date: u64,
+) -> Result<(), Fault>
     requires at_in_bounds { at ≤ length s.now }
     requires today_value { real_day today ≡ true }
     requires itemdigits_bound { sh.itemdigits ≤ 19 }
     ensures { (c : Context) → c.kind ≡ kind → c.date ≡ date → result ≡ walk (from_amount sh today c s.now at (drop at s.now)) }
 {
     let end = scan::line::field_end(s, at);
-    match crate::field::check_amount(&s[at..end], sh.comma, sh.itemdigits, sh.itemmax) {
-        Ruling::Broke {
-            number,
-            cause,
-            least,
-            most,
-        } => stopped(number, cause, at, end - at, 32, least, most),
-        Ruling::Kept => {
-            if end < s.len() {
-                return walk_variable(s, end + 1, sh, today, kind, date);
-            }
-            malformed(41, end, 0, 33)
-        }
+    let ruling = crate::field::check_amount(&s[at..end], sh.comma, sh.itemdigits, sh.itemmax);
+    in_line(ruling, at, end - at, 32)?;
+    if end < s.len() {
+        return walk_variable(s, end + 1, sh, today, kind, date);
     }
+    Err(malformed(41, end, 0, 33))
 }
 
 // The payee's account and what follows it.
-fn walk_payee(s: &[u8], at: usize, sh: Sheet, today: u64, kind: u64, date: u64) -> Walk
+fn walk_payee(s: &[u8], at: usize, sh: Sheet, today: u64, kind: u64, date: u64) -> Result<(), Fault>
     requires at_in_bounds { at ≤ length s.now }
     requires today_value { real_day today ≡ true }
     requires itemdigits_bound { sh.itemdigits ≤ 19 }
     ensures { (c : Context) → c.kind ≡ kind → c.date ≡ date → result ≡ walk (why_payee sh today c s.now at (drop at s.now)) }
 {
     let end = scan::line::field_end(s, at);
-    match crate::accounts::check_account(&s[at..end], sh.joined, sh.basemin) {
-        Ruling::Broke {
-            number,
-            cause,
-            least,
-            most,
-        } => stopped(number, cause, at, end - at, 31, least, most),
-        Ruling::Kept => {
-            if end < s.len() {
-                return walk_amount(s, end + 1, sh, today, kind, date);
-            }
-            malformed(41, end, 0, 32)
-        }
+    in_line(
+        crate::accounts::check_account(&s[at..end], sh.joined, sh.basemin),
+        at,
+        end - at,
+        31,
+    )?;
+    if end < s.len() {
+        return walk_amount(s, end + 1, sh, today, kind, date);
     }
+    Err(malformed(41, end, 0, 32))
 }
 
 // The payer's account of an item, and what follows it.
-fn walk_single(s: &[u8], sh: Sheet, today: u64, kind: u64, date: u64) -> Walk
+fn walk_single(s: &[u8], sh: Sheet, today: u64, kind: u64, date: u64) -> Result<(), Fault>
     requires today_value { real_day today ≡ true }
     requires itemdigits_bound { sh.itemdigits ≤ 19 }
     ensures { (c : Context) → c.kind ≡ kind → c.date ≡ date → result ≡ walk (from_single sh today c s.now 0 s.now) }
 {
     let end = scan::line::field_end(s, 0);
-    match crate::accounts::check_account(&s[0..end], sh.joined, sh.basemin) {
-        Ruling::Broke {
-            number,
-            cause,
-            least,
-            most,
-        } => stopped(number, cause, 0, end - 0, 30, least, most),
-        Ruling::Kept => {
-            if end < s.len() {
-                return walk_payee(s, end + 1, sh, today, kind, date);
-            }
-            malformed(41, end, 0, 31)
-        }
+    in_line(
+        crate::accounts::check_account(&s[0..end], sh.joined, sh.basemin),
+        0,
+        end - 0,
+        30,
+    )?;
+    if end < s.len() {
+        return walk_payee(s, end + 1, sh, today, kind, date);
     }
+    Err(malformed(41, end, 0, 31))
 }
 
 // An item: the payer's account comes first where the group is single.
-pub fn walk_item(s: &[u8], sh: Sheet, today: u64, kind: u64, date: u64, single: bool) -> Walk
+pub fn walk_item(
+    s: &[u8],
+    sh: Sheet,
+    today: u64,
+    kind: u64,
+    date: u64,
+    single: bool,
+) -> Result<(), Fault>
     requires today_value { real_day today ≡ true }
     requires itemdigits_bound { sh.itemdigits ≤ 19 }
     ensures { (c : Context) → c.kind ≡ kind → c.date ≡ date → c.single ≡ single → result ≡ walk (why_item sh today c s.now) }

@@ -7,7 +7,7 @@ ghost use Rattle.why.specs.Walk.{why_as};
 ghost use Rattle.fault.specs.line.Walks.{walk};
 ghost use Rattle.fault.specs.known.Bears.{Bears};
 
-use crate::line::Walk;
+use crate::line::Fault;
 use fileline::seen::Seen;
 use scan::kind::LineKind;
 use sheet::Sheet;
@@ -25,7 +25,7 @@ pub struct Bearing {
 }
 
 // The line s, its end apart.
-pub fn walk_line(s: &[u8], sh: Sheet, today: u64, x: Bearing) -> Walk
+pub fn walk_line(s: &[u8], sh: Sheet, today: u64, x: Bearing) -> Result<(), Fault>
     requires today_value { real_day today ≡ true }
     requires itemdigits_bound { sh.itemdigits ≤ 19 }
     ensures { (c : Context) → Bears x c (kind_of s.now) → result ≡ walk (why_as sh today c s.now (kind_of s.now)) }

@@ -6,27 +6,24 @@ ghost use Rattle.paper.specs.GroupLine.{has_payer};
 ghost use Rattle.paper.specs.Spells.{Context, after};
 ghost use Rattle.fileline.specs.seen.Bits.{Holds};
 ghost use Rattle.why.specs.Walk.{why_file, why_total, why_group};
-ghost use Rattle.fault.specs.line.Walks.{walk};
+ghost use Rattle.fault.specs.line.Walks.{walk, stop, in_line};
 ghost use Rattle.fault.specs.line.Stages.{from_code, from_number, from_day, from_payer};
 
-use crate::field::Ruling;
+use crate::field::Broken;
 use fileline::seen::Seen;
 use sheet::Sheet;
 
-// The line breaks no rule; or its first fault: the refusal's number, the cause, the offset in the line, how many bytes were found there, the
-// field, and from what to what was allowed.
+// A line's first fault: the refusal's number, the cause, the offset in the line, how many bytes were found there, the field, and from what to
+// what was allowed.
 #[derive(Clone, Copy)]
-pub enum Walk {
-    Passed,
-    Stopped {
-        number: u64,
-        cause: u64,
-        offset: usize,
-        length: usize,
-        field: u64,
-        least: u64,
-        most: u64,
-    },
+pub struct Fault {
+    pub number: u64,
+    pub cause: u64,
+    pub offset: usize,
+    pub length: usize,
+    pub field: u64,
+    pub least: u64,
+    pub most: u64,
 }
 
 // A field that broke a rule.
@@ -38,10 +35,10 @@ pub fn stopped(
     field: u64,
     least: u64,
     most: u64,
-) -> Walk
-    ensures { result ≡ Walk.Stopped number cause offset length field least most }
+) -> Fault
+    ensures { result ≡ stop number cause offset length field least most }
 {
-    Walk::Stopped {
+    Fault {
         number,
         cause,
         offset,
@@ -53,133 +50,118 @@ pub fn stopped(
 }
 
 // 4 for the line's form.
-pub fn malformed(cause: u64, offset: usize, length: usize, field: u64) -> Walk
-    ensures { result ≡ Walk.Stopped 4 cause offset length field 0 0 }
+pub fn malformed(cause: u64, offset: usize, length: usize, field: u64) -> Fault
+    ensures { result ≡ stop 4 cause offset length field 0 0 }
 {
     stopped(4, cause, offset, length, field, 0, 0)
+}
+
+// What is told of the field of that number, which stands at `offset` in `length` bytes: a rule that it breaks is the line's fault.
+pub fn in_line(
+    ruling: Result<(), Broken>,
+    offset: usize,
+    length: usize,
+    field: u64,
+) -> Result<(), Fault>
+    ensures { result ≡ in_line ruling offset length field }
+{
+    match ruling {
+        Ok(()) => Ok(()),
+        Err(rule) => Err(Fault {
+            number: rule.number,
+            cause: rule.cause,
+            offset,
+            length,
+            field,
+            least: rule.least,
+            most: rule.most,
+        }),
+    }
 }
 
 // ---- an account file's line
 
 // BANK, and nothing behind it.
-fn walk_code(s: &[u8], at: usize, sh: Sheet) -> Walk
+fn walk_code(s: &[u8], at: usize, sh: Sheet) -> Result<(), Fault>
     requires { at ≤ length s.now }
     ensures { (today : ℕ) (c : Context) → result ≡ walk (from_code sh today c s.now at (drop at s.now)) }
 {
     let end = scan::line::field_end(s, at);
-    match crate::field::check_code(&s[at..end], sh) {
-        Ruling::Broke {
-            number,
-            cause,
-            least,
-            most,
-        } => stopped(number, cause, at, end - at, 12, least, most),
-        Ruling::Kept => {
-            if end < s.len() {
-                return malformed(42, end, s.len() - end, 12);
-            }
-            Walk::Passed
-        }
+    in_line(crate::field::check_code(&s[at..end], sh), at, end - at, 12)?;
+    if end < s.len() {
+        return Err(malformed(42, end, s.len() - end, 12));
     }
+    Ok(())
 }
 
 // NUMBER and what follows it.
-fn walk_number(s: &[u8], at: usize, sh: Sheet, from: u64, to: u64, seen: Seen) -> Walk
+fn walk_number(s: &[u8], at: usize, sh: Sheet, from: u64, to: u64, seen: Seen) -> Result<(), Fault>
     requires { at ≤ length s.now }
     ensures { (today : ℕ) (c : Context) (h : Header) (l : List ℕ) → c.numbers ≡ after h l → Holds seen.words l → h.from ≡ from → h.to ≡ to → result ≡ walk (from_number sh today c s.now at (drop at s.now)) }
 {
     let end = scan::line::field_end(s, at);
-    match crate::field::check_number(&s[at..end], sh.interval, from, to, seen) {
-        Ruling::Broke {
-            number,
-            cause,
-            least,
-            most,
-        } => stopped(number, cause, at, end - at, 11, least, most),
-        Ruling::Kept => {
-            if end < s.len() {
-                return walk_code(s, end + 1, sh);
-            }
-            malformed(41, end, 0, 12)
-        }
+    let ruling = crate::field::check_number(&s[at..end], sh.interval, from, to, seen);
+    in_line(ruling, at, end - at, 11)?;
+    if end < s.len() {
+        return walk_code(s, end + 1, sh);
     }
+    Err(malformed(41, end, 0, 12))
 }
 
 // `1 KIND NUMBER BANK`, of a line that begins so.
-pub fn walk_file(s: &[u8], sh: Sheet, from: u64, to: u64, seen: Seen) -> Walk
+pub fn walk_file(s: &[u8], sh: Sheet, from: u64, to: u64, seen: Seen) -> Result<(), Fault>
     requires { 2 ≤ length s.now }
     ensures { (today : ℕ) (c : Context) (h : Header) (l : List ℕ) → c.numbers ≡ after h l → Holds seen.words l → h.from ≡ from → h.to ≡ to → result ≡ walk (why_file sh today c s.now) }
 {
     let end = scan::line::field_end(s, 2);
-    match crate::field::check_kind(&s[2..end], sh) {
-        Ruling::Broke {
-            number,
-            cause,
-            least,
-            most,
-        } => stopped(number, cause, 2, end - 2, 10, least, most),
-        Ruling::Kept => {
-            if end < s.len() {
-                return walk_number(s, end + 1, sh, from, to, seen);
-            }
-            malformed(41, end, 0, 11)
-        }
+    in_line(crate::field::check_kind(&s[2..end], sh), 2, end - 2, 10)?;
+    if end < s.len() {
+        return walk_number(s, end + 1, sh, from, to, seen);
     }
+    Err(malformed(41, end, 0, 11))
 }
 
 // ---- a group's line
 
 // DATE, in an account file of that kind, and nothing behind it.
-fn walk_day(s: &[u8], at: usize, sh: Sheet, today: u64, kind: u64) -> Walk
+fn walk_day(s: &[u8], at: usize, sh: Sheet, today: u64, kind: u64) -> Result<(), Fault>
     requires at_in_bounds { at ≤ length s.now }
     requires today_value { real_day today ≡ true }
     ensures { (c : Context) → c.kind ≡ kind → result ≡ walk (from_day sh today c s.now at (drop at s.now)) }
 {
     let end = scan::line::field_end(s, at);
-    match crate::due::check_due(
+    let ruling = crate::due::check_due(
         &s[at..end],
         sh.longdate,
         calendar::term::day_here(sh, kind),
         sh.early,
         sh.ahead,
         today,
-    ) {
-        Ruling::Broke {
-            number,
-            cause,
-            least,
-            most,
-        } => stopped(number, cause, at, end - at, 22, least, most),
-        Ruling::Kept => {
-            if end < s.len() {
-                return malformed(42, end, s.len() - end, 22);
-            }
-            Walk::Passed
-        }
+    );
+    in_line(ruling, at, end - at, 22)?;
+    if end < s.len() {
+        return Err(malformed(42, end, s.len() - end, 22));
     }
+    Ok(())
 }
 
 // TOTAL and what follows it.
-fn walk_total(s: &[u8], at: usize, sh: Sheet, today: u64, kind: u64) -> Walk
+fn walk_total(s: &[u8], at: usize, sh: Sheet, today: u64, kind: u64) -> Result<(), Fault>
     requires at_in_bounds { at ≤ length s.now }
     requires today_value { real_day today ≡ true }
     ensures { (c : Context) → c.kind ≡ kind → result ≡ walk (why_total sh today c s.now at (drop at s.now)) }
 {
     let end = scan::line::field_end(s, at);
-    match crate::field::check_total(&s[at..end], sh.comma) {
-        Ruling::Broke {
-            number,
-            cause,
-            least,
-            most,
-        } => stopped(number, cause, at, end - at, 21, least, most),
-        Ruling::Kept => {
-            if end < s.len() {
-                return walk_day(s, end + 1, sh, today, kind);
-            }
-            malformed(41, end, 0, 22)
-        }
+    in_line(
+        crate::field::check_total(&s[at..end], sh.comma),
+        at,
+        end - at,
+        21,
+    )?;
+    if end < s.len() {
+        return walk_day(s, end + 1, sh, today, kind);
     }
+    Err(malformed(41, end, 0, 22))
 }
 
 // Whether the line has its payer's field: always (`always`), or where it has three spaces or more.
@@ -193,36 +175,28 @@ fn has_payer(s: &[u8], always: bool) -> bool
 }
 
 // The payer's account of a group, and what follows it.
-fn walk_payer(s: &[u8], sh: Sheet, today: u64, kind: u64) -> Walk
+fn walk_payer(s: &[u8], sh: Sheet, today: u64, kind: u64) -> Result<(), Fault>
     requires in_bounds { 2 ≤ length s.now }
     requires today_value { real_day today ≡ true }
     ensures { (c : Context) → c.kind ≡ kind → result ≡ walk (from_payer sh today c s.now 2 (drop 2 s.now)) }
 {
     let end = scan::line::field_end(s, 2);
-    match crate::accounts::check_payer(
+    let ruling = crate::accounts::check_payer(
         &s[2..end],
         sh.emptypayer,
         sh.zeropayer,
         sh.joined,
         sh.basemin,
-    ) {
-        Ruling::Broke {
-            number,
-            cause,
-            least,
-            most,
-        } => stopped(number, cause, 2, end - 2, 20, least, most),
-        Ruling::Kept => {
-            if end < s.len() {
-                return walk_total(s, end + 1, sh, today, kind);
-            }
-            malformed(41, end, 0, 21)
-        }
+    );
+    in_line(ruling, 2, end - 2, 20)?;
+    if end < s.len() {
+        return walk_total(s, end + 1, sh, today, kind);
     }
+    Err(malformed(41, end, 0, 21))
 }
 
 // `2 TOTAL DATE`, or with the payer's account before TOTAL, of a line that begins so.
-pub fn walk_group(s: &[u8], sh: Sheet, today: u64, kind: u64) -> Walk
+pub fn walk_group(s: &[u8], sh: Sheet, today: u64, kind: u64) -> Result<(), Fault>
     requires in_bounds { 2 ≤ length s.now }
     requires today_value { real_day today ≡ true }
     ensures { (c : Context) → c.kind ≡ kind → result ≡ walk (why_group sh today c s.now) }

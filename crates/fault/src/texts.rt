@@ -5,16 +5,16 @@ ghost use Rattle.paper.specs.Bytes.{null};
 ghost use Rattle.paper.specs.Texts.{divide, overs};
 ghost use Rattle.why.specs.Rule.{first_broken};
 ghost use Rattle.why.specs.Texts.{unmarked, is_message, is_name, begins, marked_rules, plain_rules, text_rules};
-ghost use Rattle.fault.specs.field.Ruled.{ruling};
+ghost use Rattle.fault.specs.field.Ruled.{ruling, broken};
 
-use crate::field::Ruling;
+use crate::field::{Broken, broke};
 use sheet::Style;
 
 // A rule of texts is broken; as many parts as the sheet takes were allowed, of 35 bytes.
-fn breaks(cause: u64, y: Style) -> Ruling
-    ensures { result ≡ Ruling.Broke 14 cause y.most 35 }
+fn breaks(cause: u64, y: Style) -> Broken
+    ensures { result ≡ broken 14 cause y.most 35 }
 {
-    Ruling::Broke {
+    Broken {
         number: 14,
         cause,
         least: y.most as u64,
@@ -50,20 +50,20 @@ fn is_short(n: usize, y: Style) -> bool
 }
 
 // Its length, that it holds no `|`, and its bytes.
-fn check_plain(f: &[u8], y: Style) -> Ruling
+fn check_plain(f: &[u8], y: Style) -> Result<(), Broken>
     ensures { result ≡ ruling (first_broken (plain_rules y) f.now) }
 {
     if is_short(f.len(), y) {
         let at = scan::find::find_byte(f, 0, 124);
         if at < f.len() {
-            return breaks(143, y);
+            return Err(breaks(143, y));
         }
         if text::bytes_taken(y, f, 0) {
-            return Ruling::Kept;
+            return Ok(());
         }
-        return breaks(144, y);
+        return Err(breaks(144, y));
     }
-    breaks(142, y)
+    Err(breaks(142, y))
 }
 
 // ---- a text with marks
@@ -123,7 +123,7 @@ fn ends_short(y: Style, parts: bool, n: usize, end: usize) -> bool
 }
 
 // A message from `from` on: how many parts it has, how long they and the name are, and the parts' bytes.
-fn check_message(f: &[u8], y: Style, from: usize) -> Ruling
+fn check_message(f: &[u8], y: Style, from: usize) -> Result<(), Broken>
     requires f_value { begins y f.now ≡ true }
     requires f_value_2 { is_name y f.now ≡ false }
     requires f_value_3 { unmarked f.now ≡ drop from f.now }
@@ -134,15 +134,15 @@ fn check_message(f: &[u8], y: Style, from: usize) -> Ruling
     let m = measure_parts(&f[from..end]);
     let most = y.most;
     if most < m.count {
-        return breaks(141, y);
+        return Err(breaks(141, y));
     }
     if ends_short(y, m.short, f.len(), end) {
         if text::bytes_taken(y, &f[from..end], 0) {
-            return Ruling::Kept;
+            return Ok(());
         }
-        return breaks(144, y);
+        return Err(breaks(144, y));
     }
-    breaks(142, y)
+    Err(breaks(142, y))
 }
 
 // Whether `NP:` and a name have n bytes or fewer than are too many, where longer ones are not cut.
@@ -157,23 +157,23 @@ fn is_short_name(n: usize, y: Style) -> bool
 }
 
 // `NP:` and a name alone: one part, which is empty, and how long the name is.
-fn check_named(f: &[u8], y: Style) -> Ruling
+fn check_named(f: &[u8], y: Style) -> Result<(), Broken>
     requires { is_name y f.now ≡ true }
     ensures { result ≡ ruling (first_broken (marked_rules y) f.now) }
 {
     let most = y.most;
     if most < 1 {
-        return breaks(141, y);
+        return Err(breaks(141, y));
     }
     // the name stands behind three bytes
     if is_short_name(f.len(), y) {
-        return Ruling::Kept;
+        return Ok(());
     }
-    breaks(142, y)
+    Err(breaks(142, y))
 }
 
 // Its start, and what follows that.
-fn check_marked(f: &[u8], y: Style) -> Ruling
+fn check_marked(f: &[u8], y: Style) -> Result<(), Broken>
     ensures { result ≡ ruling (first_broken (marked_rules y) f.now) }
 {
     if text::only_name(y, f, 0) {
@@ -186,13 +186,13 @@ fn check_marked(f: &[u8], y: Style) -> Ruling
     if may {
         return check_message(f, y, 0);
     }
-    breaks(140, y)
+    Err(breaks(140, y))
 }
 
 // ---- any text
 
 // First its bytes, then by the style.
-pub fn check_text(f: &[u8], y: Style) -> Ruling
+pub fn check_text(f: &[u8], y: Style) -> Result<(), Broken>
     ensures { result ≡ ruling (first_broken (text_rules y) f.now) }
 {
     if is_message(f, y) {
@@ -202,5 +202,5 @@ pub fn check_text(f: &[u8], y: Style) -> Ruling
         }
         return check_plain(f, y);
     }
-    crate::field::broke(4, 40)
+    Err(broke(4, 40))
 }

@@ -7,6 +7,7 @@ use native.Mathlib.Numerals.{add-one}
 use native.Mathlib.Omega.{arith}
 use lib.ListN.{length, take, drop, drop_of_length-le}
 use lib.Seq.{drop-cons}
+use Rattle.std.proofs.Common.{Ok, Err, is_err}
 use Rattle.base.specs.Pick.{pick}
 use Rattle.base.specs.Seek.{seek}
 use Rattle.base.proofs.Cases.{by-test, pick_true, pick-false}
@@ -19,14 +20,10 @@ use Rattle.why.specs.Forms.{are_digits}
 use Rattle.why.specs.Names.{specific_symbol, field_number}
 use Rattle.why.specs.Fields.{digit_rules, bank_rules}
 use Rattle.why.specs.Walk.{why_fixed, why_behind, why_open, why_payee, why_item}
-use Rattle.fault.specs.declared.field.Ruling.{Ruling}
-use Rattle.fault.specs.declared.field.Ruling.TheVariants.{Kept, Broke}
-use Rattle.fault.specs.declared.line.Walk.{Walk}
-use Rattle.fault.specs.declared.line.Walk.TheVariants.{Passed, Stopped}
-use Rattle.fault.specs.field.Ruled.{ruling}
-use Rattle.fault.specs.line.Walks.{walk}
+use Rattle.fault.specs.field.Ruled.{Ruling, broken, ruling}
+use Rattle.fault.specs.line.Walks.{Walk, walk, stop}
 use Rattle.fault.specs.item.Stages.{from_text, from_symbol, from_fixed, from_tail, from_bank, from_variable, from_amount, from_single}
-use Rattle.fault.proofs.line.Steps.{gap-there, gap-missing}
+use Rattle.fault.proofs.line.Steps.{is-fault, gap-there, gap-missing}
 
 module _ (sh : Sheet) (today : ℕ) (c : Context) (w : List ℕ) (x : Walk) where
   module _ (at : ℕ) where
@@ -75,7 +72,7 @@ module _ (sh : Sheet) (today : ℕ) (c : Context) (w : List ℕ) (x : Walk) wher
     unfolding why_behind
     behind-there l h = h ∙ sym (ap walk (rw (drop-cons w at 0 l, ← (add-one at))))
 
-    pub behind-end : length w ≤ at → x ≡ Passed → x ≡ walk (why_behind sh today c w at (drop at w))
+    pub behind-end : length w ≤ at → x ≡ Ok tt → x ≡ walk (why_behind sh today c w at (drop at w))
     unfolding why_behind walk
     behind-end l h = h ∙ sym (rw (drop_of_length-le w l))
 
@@ -90,7 +87,7 @@ module _ (sh : Sheet) (today : ℕ) (c : Context) (w : List ℕ) (x : Walk) wher
       unfolding why_open
       open-symbol y h = h ∙ sym (ap walk (rw (drop-cons w at 0 l, ← (add-one at)) (pick-false _ _ (sym q ∙ y))))
 
-    pub open-end : length w ≤ at → x ≡ Passed → x ≡ walk (why_open sh today c w at (drop at w))
+    pub open-end : length w ≤ at → x ≡ Ok tt → x ≡ walk (why_open sh today c w at (drop at w))
     unfolding why_open walk
     open-end l h = h ∙ sym (rw (drop_of_length-le w l))
 
@@ -98,7 +95,7 @@ module _ (sh : Sheet) (today : ℕ) (c : Context) (w : List ℕ) (x : Walk) wher
     unfolding why_fixed
     tail-fixed o l h = gap-there w x specific_symbol at (from_fixed sh today c w) l h ∙ sym (ap walk (pick_true _ _ o))
 
-    pub tail-missing : sh.fixedtail ≡ true → length w ≤ at → x ≡ Stopped 4 41 at 0 (field_number specific_symbol) 0 0 → x ≡ walk (from_tail sh today c w at (drop at w))
+    pub tail-missing : sh.fixedtail ≡ true → length w ≤ at → x ≡ Err (stop 4 41 at 0 (field_number specific_symbol) 0 0) → x ≡ walk (from_tail sh today c w at (drop at w))
     unfolding why_fixed
     tail-missing o l h = gap-missing w x specific_symbol at (from_fixed sh today c w) l h ∙ sym (ap walk (pick_true _ _ o))
 
@@ -135,27 +132,17 @@ module _ (x bare : Bool) (w : List ℕ) (at end : ℕ) where
     bytes-are : take (end - at) (drop at w) ≡ field_of (drop at w)
     bytes-are = let n : end - at ≡ seek space (drop at w) = omega arith in ap (λ (m : ℕ). take m (drop at w)) n
 
-    told-by : ruling (first_broken (digit_rules 1 10) (field_of (drop at w))) ≡ r
-    told-by = sym (q ∙ ap (λ (s : List ℕ). ruling (first_broken (digit_rules 1 10) s)) bytes-are)
-
-    pub a_symbol : r ≡ Kept → x ≡ false → x ≡ pick bare (pick (are_digits 1 10 (field_of (drop at w))) false true) false
+    -- k is what was asked of what is told of its bytes
+    pub no_digits : (k : Bool) → k ≡ is_err r → x ≡ k → x ≡ pick bare (pick (are_digits 1 10 (field_of (drop at w))) false true) false
     unfolding first_broken ruling pick
-    a_symbol y h =
-        by-test (are_digits 1 10 (field_of (drop at w)))
-        (λ f. h ∙ rw (o, f))
-        (λ f. absurd (let g : ruling (first_broken (digit_rules 1 10) (field_of (drop at w))) ≡ Kept = told-by ∙ y in let i : Broke 4 40 0 0 ≡ Kept = rw f at g in let z : ◌≡◌ {A = ℕ} 0 1 = cc in omega arith))
-
-    pub a_text : (m why a b : ℕ) → r ≡ Broke m why a b → x ≡ true → x ≡ pick bare (pick (are_digits 1 10 (field_of (drop at w))) false true) false
-    unfolding first_broken ruling pick
-    a_text m why a b y h =
-        by-test (are_digits 1 10 (field_of (drop at w)))
-        (λ f. absurd (let g : ruling (first_broken (digit_rules 1 10) (field_of (drop at w))) ≡ Broke m why a b = told-by ∙ y in let i : Kept ≡ Broke m why a b = rw f at g in let z : ◌≡◌ {A = ℕ} 0 1 = cc in omega arith))
-        (λ f. h ∙ rw (o, f))
+    no_digits k f h =
+        let z : ruling (first_broken (digit_rules 1 10) (field_of (drop at w))) ≡ r = sym (q ∙ ap (λ (s : List ℕ). ruling (first_broken (digit_rules 1 10) s)) bytes-are) in
+        h ∙ (f ∙ (ap (λ (y : Ruling). is_err y) (sym z) ∙ by-test (are_digits 1 10 (field_of (drop at w))) (λ d. rw (o, d)) (λ d. rw (o, d))))
 
 pub ruleset turns = (item-single, item-other)
 
-pub ruleset tails = (on-text, on-behind, on-symbol, on-fixed, on-open, behind-there, behind-end, open-bare, open-symbol, open-end, tail-fixed, tail-missing, tail-open)
+pub ruleset tails = (is-fault, on-text, on-behind, on-symbol, on-fixed, on-open, behind-there, behind-end, open-bare, open-symbol, open-end, tail-fixed, tail-missing, tail-open)
 
 pub ruleset items = (on-tail, on-bank, on-variable, on-amount, on-payee, bank-known)
 
-pub ruleset bares = (not-bare, a_symbol, a_text)
+pub ruleset bares = (not-bare, no_digits)

@@ -15,9 +15,8 @@ use Rattle.scan.specs.declared.kind.LineKind.TheVariants.{Head, File, Group, Ite
 use Rattle.fileline.specs.seen.Bits.{Holds}
 use Rattle.why.specs.Names.{Name, group_closing, file_closing, field_number}
 use Rattle.why.specs.Walk.{why_close, why_first, why_file, why_group, why_item, why_as}
-use Rattle.fault.specs.declared.line.Walk.{Walk}
 use Rattle.fault.specs.declared.known.Bearing.{Bearing}
-use Rattle.fault.specs.line.Walks.{walk}
+use Rattle.fault.specs.line.Walks.{Walk, walk}
 use Rattle.fault.specs.known.Bears.{Bears}
 
 module _ (w : List ℕ) (k : LineKind) (q : told k ≡ kind_of w) where

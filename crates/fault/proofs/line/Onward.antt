@@ -13,10 +13,8 @@ use Rattle.paper.specs.Spells.{Context}
 use Rattle.why.specs.Rule.{first_broken}
 use Rattle.why.specs.Fields.{due_rules}
 use Rattle.why.specs.Walk.{why_total, why_group}
-use Rattle.fault.specs.declared.field.Ruling.{Ruling}
-use Rattle.fault.specs.declared.line.Walk.{Walk}
-use Rattle.fault.specs.field.Ruled.{ruling}
-use Rattle.fault.specs.line.Walks.{walk}
+use Rattle.fault.specs.field.Ruled.{Ruling, ruling}
+use Rattle.fault.specs.line.Walks.{Walk, walk}
 use Rattle.fault.specs.line.Stages.{from_day, from_payer}
 
 module _ (sh : Sheet) (today : ℕ) (c : Context) (w : List ℕ) (x : Walk) where

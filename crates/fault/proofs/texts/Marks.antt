@@ -7,6 +7,7 @@ use native.Mathlib.Omega.{arith}
 use lib.Dec.{ltb, leb}
 use lib.ListN.{length, take, drop, length-drop}
 use borrow.Author.Tests.{lt-ltb, le-ltb, le-leb, lt-leb}
+use Rattle.std.proofs.Common.{Ok, Err}
 use Rattle.base.specs.Pick.{pick}
 use Rattle.base.specs.Seek.{starts, seek}
 use Rattle.base.proofs.Cases.{by-lt, pick_true, pick-false, pick-both}
@@ -20,10 +21,8 @@ use Rattle.text.proofs.Right.{none-taken, divide-taken}
 use Rattle.why.specs.Rule.{within, first_broken}
 use Rattle.why.specs.Texts.{unmarked, is_name, begins, parts_of, name_of, are_short, are_taken, marked_rules}
 use Rattle.why.proofs.Texts.{null-both, null-over}
-use Rattle.fault.specs.declared.field.Ruling.{Ruling}
-use Rattle.fault.specs.declared.field.Ruling.TheVariants.{Kept, Broke}
-use Rattle.fault.specs.field.Ruled.{ruling}
-use Rattle.fault.proofs.field.Rulings.{first-broke}
+use Rattle.fault.specs.field.Ruled.{Ruling, broken, ruling}
+use Rattle.fault.proofs.field.Rulings.{is-broken, first-broke}
 use Rattle.fault.proofs.texts.Rules.{marked-many, marked-long, marked-kept, marked-unclean}
 
 by_flag : (t : Bool) (a b : ℕ) → a ≤ b → pick t a b ≤ b
@@ -83,24 +82,24 @@ module _ (x : Ruling) (y : Style) (s : List ℕ) (b : begins y s ≡ true) (n : 
     counted : length (parts_of y s) ≡ count
     counted = ap length parts-are ∙ sym c
 
-    pub message-many : y.most < count → x ≡ Broke 14 141 y.most 35 → x ≡ ruling (first_broken (marked_rules y) s)
+    pub message-many : y.most < count → x ≡ Err (broken 14 141 y.most 35) → x ≡ ruling (first_broken (marked_rules y) s)
     message-many l h = marked-many x y s b count counted l h
 
     module _ (l : count ≤ y.most) (p : Bool) (q : p ≡ null (overs (divide 0 Message))) (k : Bool) (r : k ≡ pick y.cuts true (pick p (leb (length s - end) 39) false)) where
-      pub message-long : k ≡ false → x ≡ Broke 14 142 y.most 35 → x ≡ ruling (first_broken (marked_rules y) s)
+      pub message-long : k ≡ false → x ≡ Err (broken 14 142 y.most 35) → x ≡ ruling (first_broken (marked_rules y) s)
       message-long f h = marked-long x y s b count counted l k (short-are p q ∙ sym r) f h
 
       module _ (g : k ≡ true) (j : Bool) (t : j ≡ taken y (drop 0 Message)) where
         taken_is : are_taken y s ≡ j
         taken_is = taken-are ∙ (ap (taken y) (sym (drop-none Message)) ∙ sym t)
 
-        pub message-kept : j ≡ true → x ≡ Kept → x ≡ ruling (first_broken (marked_rules y) s)
+        pub message-kept : j ≡ true → x ≡ Ok tt → x ≡ ruling (first_broken (marked_rules y) s)
         message-kept f h = marked-kept x y s b count counted l k (short-are p q ∙ sym r) g j taken_is f h
 
-        pub message-unclean : j ≡ false → x ≡ Broke 14 144 y.most 35 → x ≡ ruling (first_broken (marked_rules y) s)
+        pub message-unclean : j ≡ false → x ≡ Err (broken 14 144 y.most 35) → x ≡ ruling (first_broken (marked_rules y) s)
         message-unclean f h = marked-unclean x y s b count counted l k (short-are p q ∙ sym r) g j taken_is f h
 
-pub ruleset messages = (end-in, message-many, message-long, message-kept, message-unclean)
+pub ruleset messages = (is-broken, end-in, message-many, message-long, message-kept, message-unclean)
 
 -- ---- a name alone
 
@@ -135,17 +134,17 @@ module _ (x : Ruling) (y : Style) (s : List ℕ) (n : is_name y s ≡ true) wher
   unfolding are_taken parts_taken
   empty-taken = rw one-part (pick_true _ _ (none-taken y))
 
-  pub named-many : y.most < 1 → x ≡ Broke 14 141 y.most 35 → x ≡ ruling (first_broken (marked_rules y) s)
+  pub named-many : y.most < 1 → x ≡ Err (broken 14 141 y.most 35) → x ≡ ruling (first_broken (marked_rules y) s)
   named-many l h = marked-many x y s opens 1 (ap length one-part) l h
 
   module _ (l : 1 ≤ y.most) (k : Bool) (r : k ≡ pick y.cuts true (leb (length s) 38)) where
-    pub named-long : k ≡ false → x ≡ Broke 14 142 y.most 35 → x ≡ ruling (first_broken (marked_rules y) s)
+    pub named-long : k ≡ false → x ≡ Err (broken 14 142 y.most 35) → x ≡ ruling (first_broken (marked_rules y) s)
     named-long f h = marked-long x y s opens 1 (ap length one-part) l k (short-is ∙ sym r) f h
 
-    pub named-kept : k ≡ true → x ≡ Kept → x ≡ ruling (first_broken (marked_rules y) s)
+    pub named-kept : k ≡ true → x ≡ Ok tt → x ≡ ruling (first_broken (marked_rules y) s)
     named-kept f h = marked-kept x y s opens 1 (ap length one-part) l k (short-is ∙ sym r) f true empty-taken refl h
 
-pub ruleset names = (named-many, named-long, named-kept)
+pub ruleset names = (is-broken, named-many, named-long, named-kept)
 
 -- ---- how it begins
 
@@ -185,11 +184,11 @@ module _ (y : Style) (s : List ℕ) (k : Bool) (q : k ≡ pick y.names (starts n
         unfolding unmarked
         bare-unmarked = pick-false _ _ (led ∙ f)
 
-        pub not-begun : (x : Ruling) → y.may ≡ false → x ≡ Broke 14 140 y.most 35 → x ≡ ruling (first_broken (marked_rules y) s)
+        pub not-begun : (x : Ruling) → y.may ≡ false → x ≡ Err (broken 14 140 y.most 35) → x ≡ ruling (first_broken (marked_rules y) s)
         unfolding begins
         not-begun x m h = first-broke x s (within 14 140 y.most 35 (begins y)) _ (pick-false _ _ no_name ∙ (pick-false _ _ (led ∙ f) ∙ m)) h
 
 pub from-start : (s : List ℕ) → 0 ≤ length s
 from-start s = omega arith
 
-pub ruleset begun = (from-start, is-name, no_name, led-begins, led-unmarked, led-long, bare-begins, bare-unmarked, not-begun)
+pub ruleset begun = (is-broken, from-start, is-name, no_name, led-begins, led-unmarked, led-long, bare-begins, bare-unmarked, not-begun)

@@ -1,10 +1,23 @@
 -- What is told of a line's walk: that it passed, or the numbers of its first fault. Document 02, W-205. Assumes nothing.
+use Rattle.std.specs.Prelude.{ℕ, Result, Ok, Err}
 use Rattle.why.specs.Names.{field_number}
 use Rattle.why.specs.Walk.{Walked, passed, stopped}
-use Rattle.fault.specs.declared.line.Walk.{Walk}
-use Rattle.fault.specs.declared.line.Walk.TheVariants.{Passed, Stopped}
+use Rattle.fault.specs.declared.line.Fault.{Fault}
+use Rattle.fault.specs.field.Ruled.{Ruling}
+
+abbrev pub Walk : Type 0
+Walk = Result (Unit {0}) Fault
+
+-- a refusal's number, a cause, where and how long what was found is, the field's number, and from what to what is allowed
+abbrev pub stop : ℕ → ℕ → ℕ → ℕ → ℕ → ℕ → ℕ → Fault
+stop n why at l field a b = record { number = n; cause = why; offset = at; length = l; field = field; least = a; most = b }
 
 -- the field by its number
 unfoldable pub walk : Walked → Walk
-walk passed = Passed
-walk (stopped x) = Stopped x.number x.cause x.offset x.length (field_number x.field) x.least x.most
+walk passed = Ok tt
+walk (stopped x) = Err (stop x.number x.cause x.offset x.length (field_number x.field) x.least x.most)
+
+-- a field at `at` of n bytes was ruled on: its rule that is broken is the line's fault
+unfoldable pub in_line : Ruling → ℕ → ℕ → ℕ → Walk
+in_line (Ok u) at n field = Ok tt
+in_line (Err r) at n field = Err (stop r.number r.cause at n field r.least r.most)

@@ -2,11 +2,11 @@
 use Rattle.fault.proofs.accounts.Parts.{twos}
 use Rattle.fault.proofs.accounts.check_two.Goals as goal
 
-pub returns-in-Value-read_digits : goal.returns-in-Value-read_digits
-returns-in-Value-read_digits c = search twos
+pub returns-in_default : goal.returns-in_default
+returns-in_default c = search twos
 
-pub returns-in-Refused-read_digits : goal.returns-in-Refused-read_digits
-returns-in-Refused-read_digits c = search twos
+pub returns-in_default-read_digits : goal.returns-in_default-read_digits
+returns-in_default-read_digits c = search twos
 
-pub returns-in-Refused : goal.returns-in-Refused
-returns-in-Refused c = search twos
+pub returns : goal.returns
+returns c = search twos

@@ -11,8 +11,8 @@ returns-then-n-gt999999999 c = search banks
 pub returns-then-ninth_zero : goal.returns-then-ninth_zero
 returns-then-ninth_zero c = search banks
 
-pub returns-else-ninth_zero : goal.returns-else-ninth_zero
-returns-else-ninth_zero c = search banks
+pub returns : goal.returns
+returns c = search banks
 
-pub returns-in-Refused : goal.returns-in-Refused
-returns-in-Refused c = search banks
+pub returns-in_default : goal.returns-in_default
+returns-in_default c = search banks

@@ -9,8 +9,8 @@ check_term-requires c = search (dues, rules)
 pub returns-then-real_day : goal.returns-then-real_day
 returns-then-real_day c = search dues
 
-pub returns-else-real_day : goal.returns-else-real_day
-returns-else-real_day c = search dues
+pub returns : goal.returns
+returns c = search dues
 
-pub returns-in-Refused : goal.returns-in-Refused
-returns-in-Refused c = search dues
+pub returns-in_default : goal.returns-in_default
+returns-in_default c = search dues

@@ -8,8 +8,8 @@ returns-then-v-lt1 c = search amounts
 pub returns-then-max-v : goal.returns-then-max-v
 returns-then-max-v c = search amounts
 
-pub returns-else-max-v : goal.returns-else-max-v
-returns-else-max-v c = search amounts
+pub returns : goal.returns
+returns c = search amounts
 
-pub returns-in-Refused : goal.returns-in-Refused
-returns-in-Refused c = search amounts
+pub returns-in_default : goal.returns-in_default
+returns-in_default c = search amounts

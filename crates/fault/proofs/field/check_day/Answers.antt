@@ -5,8 +5,8 @@ use Rattle.fault.proofs.field.check_day.Goals as goal
 pub returns-then-real_day : goal.returns-then-real_day
 returns-then-real_day c = search dates
 
-pub returns-else-real_day : goal.returns-else-real_day
-returns-else-real_day c = search dates
+pub returns : goal.returns
+returns c = search dates
 
-pub returns-in-Refused : goal.returns-in-Refused
-returns-in-Refused c = search dates
+pub returns-in_default : goal.returns-in_default
+returns-in_default c = search dates

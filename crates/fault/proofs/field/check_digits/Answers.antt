@@ -2,8 +2,8 @@
 use Rattle.fault.proofs.field.Rulings.{rulings}
 use Rattle.fault.proofs.field.check_digits.Goals as goal
 
-pub returns-in-Value : goal.returns-in-Value
-returns-in-Value c = search rulings
+pub returns : goal.returns
+returns c = search rulings
 
-pub returns-in-Refused : goal.returns-in-Refused
-returns-in-Refused c = search rulings
+pub returns-in_default : goal.returns-in_default
+returns-in_default c = search rulings

@@ -11,5 +11,5 @@ returns-else-end-start c = search intervals
 pub returns-else-ordered : goal.returns-else-ordered
 returns-else-ordered c = search intervals
 
-pub returns-in-Refused : goal.returns-in-Refused
-returns-in-Refused c = search intervals
+pub returns-in_default : goal.returns-in_default
+returns-in_default c = search intervals

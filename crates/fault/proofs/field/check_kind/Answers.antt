@@ -5,8 +5,8 @@ use Rattle.fault.proofs.field.check_kind.Goals as goal
 pub returns-then-kind_allowed : goal.returns-then-kind_allowed
 returns-then-kind_allowed c = search kinds
 
-pub returns-else-kind_allowed : goal.returns-else-kind_allowed
-returns-else-kind_allowed c = search kinds
+pub returns : goal.returns
+returns c = search kinds
 
-pub returns-in-Refused : goal.returns-in-Refused
-returns-in-Refused c = search kinds
+pub returns-in_default : goal.returns-in_default
+returns-in_default c = search kinds

@@ -9,8 +9,8 @@ check_series-requires c = search (numbers, rules)
 pub returns-then-interval : goal.returns-then-interval
 returns-then-interval c = search numbers
 
-pub returns-else-interval : goal.returns-else-interval
-returns-else-interval c = search numbers
+pub returns : goal.returns
+returns c = search numbers
 
-pub returns-in-Refused : goal.returns-in-Refused
-returns-in-Refused c = search numbers
+pub returns-in_default : goal.returns-in_default
+returns-in_default c = search numbers

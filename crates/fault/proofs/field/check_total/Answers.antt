@@ -2,8 +2,8 @@
 use Rattle.fault.proofs.field.Rulings.{totals}
 use Rattle.fault.proofs.field.check_total.Goals as goal
 
-pub returns-in-Value : goal.returns-in-Value
-returns-in-Value c = search totals
+pub returns : goal.returns
+returns c = search totals
 
-pub returns-in-Refused : goal.returns-in-Refused
-returns-in-Refused c = search totals
+pub returns-in_default : goal.returns-in_default
+returns-in_default c = search totals

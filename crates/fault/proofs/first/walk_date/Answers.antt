@@ -1,4 +1,5 @@
 -- `walk_date`: the creation date and what follows it. Assumes nothing.
+use Rattle.std.proofs.lemmas.Result.{err_from_is_err_and}
 use Rattle.why.specs.Names.{field_number}
 use Rattle.why.specs.Fields.{rules_of}
 use Rattle.fault.proofs.first.Places.{dates}
@@ -8,10 +9,12 @@ pub returns-then-n-lt10 : goal.returns-then-n-lt10
 unfolding rules_of field_number
 returns-then-n-lt10 c = search dates
 
-pub returns-in-Broke : goal.returns-in-Broke
+pub returns-in_err-in_line : goal.returns-in_err-in_line
 unfolding rules_of field_number
-returns-in-Broke c = search dates
+returns-in_err-in_line c =
+    let p = err_from_is_err_and c.from_residual.result c.from_residual.ensures.1 in
+    rw (p.1, p.2) (search (dates, c.in_err-in_line.was))
 
-pub returns-in-Kept : goal.returns-in-Kept
+pub returns : goal.returns
 unfolding rules_of field_number
-returns-in-Kept c = search dates
+returns c = search (dates, c.in_ok-in_line.was)

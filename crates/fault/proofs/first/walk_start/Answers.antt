@@ -8,10 +8,10 @@ pub returns-then-n-lt43 : goal.returns-then-n-lt43
 unfolding rules_of field_number
 returns-then-n-lt43 c = search starts
 
-pub returns-in-Value : goal.returns-in-Value
+pub returns : goal.returns
 unfolding rules_of field_number
-returns-in-Value c = search starts
+returns c = search starts
 
-pub returns-in-Refused : goal.returns-in-Refused
+pub returns-in_default : goal.returns-in_default
 unfolding rules_of field_number
-returns-in-Refused c = search starts
+returns-in_default c = search starts

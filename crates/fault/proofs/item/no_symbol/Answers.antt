@@ -7,11 +7,8 @@ use Rattle.fault.proofs.item.no_symbol.Goals as goal
 pub slice_bounds-check_digits-end : goal.slice_bounds-check_digits-end
 slice_bounds-check_digits-end c = search (bares, steps, rules)
 
-pub returns-in-Kept : goal.returns-in-Kept
-returns-in-Kept c = search (bares, steps)
-
-pub returns-in-Broke : goal.returns-in-Broke
-returns-in-Broke c = search (bares, steps)
+pub returns-then-bare : goal.returns-then-bare
+returns-then-bare c = search (bares, steps)
 
 pub returns : goal.returns
 returns c = search (bares, steps)

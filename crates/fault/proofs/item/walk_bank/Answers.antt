@@ -1,5 +1,6 @@
 -- `walk_bank`: the bank field, in an account file of that kind and a group of that date, and the tail. Assumes nothing.
 use borrow.Author.Rules.{rules}
+use Rattle.std.proofs.lemmas.Result.{err_from_is_err_and}
 use Rattle.why.specs.Names.{field_number}
 use Rattle.why.specs.Fields.{rules_of}
 use Rattle.fault.proofs.line.Steps.{steps}
@@ -12,10 +13,12 @@ slice_bounds-check_bank-end c = search (items, steps, rules)
 pub walk_tail-requires : goal.walk_tail-requires
 walk_tail-requires c = search (items, steps, rules)
 
-pub returns-in-Broke : goal.returns-in-Broke
+pub returns-in_err-in_line : goal.returns-in_err-in_line
 unfolding rules_of field_number
-returns-in-Broke c = search (items, steps)
+returns-in_err-in_line c =
+    let p = err_from_is_err_and c.from_residual.result c.from_residual.ensures.1 in
+    rw (p.1, p.2) (search (items, steps, c.in_err-in_line.was))
 
-pub returns-in-Kept : goal.returns-in-Kept
+pub returns : goal.returns
 unfolding rules_of field_number
-returns-in-Kept c = search (items, steps)
+returns c = search (items, steps, c.in_ok-in_line.was)

@@ -1,5 +1,6 @@
 -- `walk_fixed_symbol`: a symbol or none, a space and a text (S). Assumes nothing.
 use borrow.Author.Rules.{rules}
+use Rattle.std.proofs.lemmas.Result.{err_from_is_err_and}
 use Rattle.why.specs.Names.{field_number}
 use Rattle.why.specs.Fields.{rules_of}
 use Rattle.fault.proofs.line.Steps.{steps}
@@ -11,12 +12,14 @@ slice_bounds-check_symbol-end c = search (tails, steps, rules)
 
 pub returns-then-end-s : goal.returns-then-end-s
 unfolding rules_of field_number
-returns-then-end-s c = search (tails, steps)
+returns-then-end-s c = search (tails, steps, c.in_ok-in_line.was)
 
-pub returns-in-Broke : goal.returns-in-Broke
+pub returns-in_err-in_line : goal.returns-in_err-in_line
 unfolding rules_of field_number
-returns-in-Broke c = search (tails, steps)
+returns-in_err-in_line c =
+    let p = err_from_is_err_and c.from_residual.result c.from_residual.ensures.1 in
+    rw (p.1, p.2) (search (tails, steps, c.in_err-in_line.was))
 
-pub returns-else-end-s : goal.returns-else-end-s
+pub returns : goal.returns
 unfolding rules_of field_number
-returns-else-end-s c = search (tails, steps)
+returns c = search (tails, steps, c.in_ok-in_line.was)

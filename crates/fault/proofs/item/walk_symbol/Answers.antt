@@ -1,5 +1,6 @@
 -- `walk_symbol`: a symbol, and what follows it off S. Assumes nothing.
 use borrow.Author.Rules.{rules}
+use Rattle.std.proofs.lemmas.Result.{err_from_is_err_and}
 use Rattle.why.specs.Names.{field_number}
 use Rattle.why.specs.Fields.{rules_of}
 use Rattle.fault.proofs.line.Steps.{steps}
@@ -12,10 +13,12 @@ slice_bounds-check_symbol-end c = search (tails, steps, rules)
 pub walk_behind-requires : goal.walk_behind-requires
 walk_behind-requires c = search (tails, steps, rules)
 
-pub returns-in-Broke : goal.returns-in-Broke
+pub returns-in_err-in_line : goal.returns-in_err-in_line
 unfolding rules_of field_number
-returns-in-Broke c = search (tails, steps)
+returns-in_err-in_line c =
+    let p = err_from_is_err_and c.from_residual.result c.from_residual.ensures.1 in
+    rw (p.1, p.2) (search (tails, steps, c.in_err-in_line.was))
 
-pub returns-in-Kept : goal.returns-in-Kept
+pub returns : goal.returns
 unfolding rules_of field_number
-returns-in-Kept c = search (tails, steps)
+returns c = search (tails, steps, c.in_ok-in_line.was)
