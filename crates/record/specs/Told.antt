@@ -1,5 +1,7 @@
 -- What the answers of a record's readers stand for; the kept bytes stay where they are. Document 02, W-204. Assumes nothing.
-use Rattle.std.specs.Prelude.{ℕ, ◌≤◌, ◌<◌, List}
+use Rattle.std.specs.Prelude.{ℕ, ◌≤◌, ◌<◌, Result, Ok, Err, List}
+use Rattle.refusal.specs.declared.Flaw.{Flaw}
+use Rattle.refusal.specs.Numbers.{number_of}
 use Rattle.paper.specs.Accounts.{account}
 use Rattle.paper.specs.Batch.{most14}
 use Rattle.paper.specs.Entries.{Said, got, no}
@@ -11,10 +13,6 @@ use Rattle.record.specs.declared.HeadFields.{HeadFields}
 use Rattle.record.specs.declared.MovementFields.{MovementFields}
 use Rattle.record.specs.declared.Entry.{Entry}
 use Rattle.record.specs.declared.Entry.TheVariants as entry
-use Rattle.record.specs.declared.HeadRead.{HeadRead}
-use Rattle.record.specs.declared.HeadRead.TheVariants as head
-use Rattle.record.specs.declared.MovementRead.{MovementRead}
-use Rattle.record.specs.declared.MovementRead.TheVariants as movement
 
 -- the kept bytes: before and behind what is read, of a head and of a movement
 pub record Kept : Type 0 where
@@ -65,21 +63,19 @@ abbrev pub movement_of : Kept → MovementFields → Movement
 movement_of k x = movement_with k.movement k.movement_end x
 
 -- a head that was read, or where it was refused
-abbrev pub told_head : Kept → HeadRead → Said Head
-told_head k (head.Head x) = got (head_of k x)
-told_head k (head.Refused at) = no 51 at
+abbrev pub told_head : Kept → Result HeadFields Flaw → Said Head
+told_head k (Ok x) = got (head_of k x)
+told_head k (Err x) = no (number_of x.0) x.1
 
 -- a movement
-abbrev pub told_movement : Kept → MovementRead → Said Movement
-told_movement k (movement.Movement x) = got (movement_of k x)
-told_movement k (movement.Refused at) = no 51 at
+abbrev pub told_movement : Kept → Result MovementFields Flaw → Said Movement
+told_movement k (Ok x) = got (movement_of k x)
+told_movement k (Err x) = no (number_of x.0) x.1
 
 -- a record
 abbrev pub told : Kept → Entry → Record
-told k (entry.Head x) = head_is (got (head_of k x))
-told k (entry.HeadRefused at) = head_is (no 51 at)
-told k (entry.Movement x) = movement_is (got (movement_of k x))
-told k (entry.MovementRefused at) = movement_is (no 51 at)
+told k (entry.Head r) = head_is (told_head k r)
+told k (entry.Movement r) = movement_is (told_movement k r)
 told k entry.Nothing = no_record
 
 -- numbers are no larger than their digits say
@@ -87,21 +83,19 @@ abbrev pub SmallHead : HeadFields → Type 0
 SmallHead x = (x.old.size ≤ most14) × (x.new.size ≤ most14) × (x.debit.size ≤ most14) × (x.credit.size ≤ most14)
 
 -- .. of a head that was read
-abbrev pub SmallHeadRead : HeadRead → Type 0
-SmallHeadRead (head.Head x) = SmallHead x
-SmallHeadRead (head.Refused at) = Unit {0}
+abbrev pub SmallHeadRead : Result HeadFields Flaw → Type 0
+SmallHeadRead (Ok x) = SmallHead x
+SmallHeadRead (Err x) = Unit {0}
 
 -- .. of a movement
-abbrev pub SmallMovementRead : MovementRead → Type 0
-SmallMovementRead (movement.Movement x) = x.amount ≤ most12
-SmallMovementRead (movement.Refused at) = Unit {0}
+abbrev pub SmallMovementRead : Result MovementFields Flaw → Type 0
+SmallMovementRead (Ok x) = x.amount ≤ most12
+SmallMovementRead (Err x) = Unit {0}
 
 -- .. of what was found
 abbrev pub Small : Entry → Type 0
-Small (entry.Head x) = SmallHead x
-Small (entry.HeadRefused at) = Unit {0}
-Small (entry.Movement x) = x.amount ≤ most12
-Small (entry.MovementRefused at) = Unit {0}
+Small (entry.Head r) = SmallHeadRead r
+Small (entry.Movement r) = SmallMovementRead r
 Small entry.Nothing = Unit {0}
 
 -- the numbers of accounts have no more digits than their spelling
@@ -113,19 +107,17 @@ abbrev pub FitsMovement : MovementFields → Type 0
 FitsMovement x = (x.prefix < 1000000) × (x.base < 10000000000) × (x.otherprefix < 1000000) × (x.otherbase < 10000000000)
 
 -- .. of a head that was read
-abbrev pub FitsHeadRead : HeadRead → Type 0
-FitsHeadRead (head.Head x) = FitsHead x
-FitsHeadRead (head.Refused at) = Unit {0}
+abbrev pub FitsHeadRead : Result HeadFields Flaw → Type 0
+FitsHeadRead (Ok x) = FitsHead x
+FitsHeadRead (Err x) = Unit {0}
 
 -- .. of a movement
-abbrev pub FitsMovementRead : MovementRead → Type 0
-FitsMovementRead (movement.Movement x) = FitsMovement x
-FitsMovementRead (movement.Refused at) = Unit {0}
+abbrev pub FitsMovementRead : Result MovementFields Flaw → Type 0
+FitsMovementRead (Ok x) = FitsMovement x
+FitsMovementRead (Err x) = Unit {0}
 
 -- .. of what was found
 abbrev pub Fits : Entry → Type 0
-Fits (entry.Head x) = FitsHead x
-Fits (entry.HeadRefused at) = Unit {0}
-Fits (entry.Movement x) = FitsMovement x
-Fits (entry.MovementRefused at) = Unit {0}
+Fits (entry.Head r) = FitsHeadRead r
+Fits (entry.Movement r) = FitsMovementRead r
 Fits entry.Nothing = Unit {0}

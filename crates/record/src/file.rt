@@ -14,23 +14,15 @@ ghost use Rattle.gpc.specs.Records.{read_code, read_head, read_movement, crlf, r
 ghost use Rattle.record.specs.Told.{in_file, head_with, movement_with, told_head, told_movement, told, SmallHeadRead, SmallMovementRead, Small};
 ghost use Rattle.record.specs.file.Told.{told_signed, SmallSigned, told_pair, SmallPair, pair_at, read_as};
 
-use crate::{Entry, HeadFields, HeadRead, MovementFields, MovementRead};
-use internal::Found;
-use numeral::Num;
+use crate::{Entry, HeadFields, MovementFields};
+use refusal::{Flaw, Refusal, placed};
 use turnover::signed::Signed;
 
-// A number with a sign, or the place of what is not so.
+// Two numbers with a sign, one behind the other.
 #[derive(Clone, Copy)]
-pub enum SignedRead {
-    Number(Signed),
-    Refused(u64),
-}
-
-// Two of them, one behind the other.
-#[derive(Clone, Copy)]
-pub enum PairRead {
-    Both(Signed, Signed),
-    Refused(u64),
+pub struct Pair {
+    pub first: Signed,
+    pub second: Signed,
 }
 
 // The type of a record.
@@ -38,11 +30,10 @@ pub enum PairRead {
 pub enum Kind {
     Head,
     Movement,
-    Neither,
 }
 
 // The digits of a field of k bytes.
-fn digits_at(s: &[u8], at: usize, k: usize) -> Num
+fn digits_at(s: &[u8], at: usize, k: usize) -> Result<u64, Refusal>
     requires { (at + k ≤ length s.now) × (k ≤ 19) }
     ensures { told_number result ≡ digits k k (slice at k s.now) }
 {
@@ -51,62 +42,52 @@ fn digits_at(s: &[u8], at: usize, k: usize) -> Num
 }
 
 // Fourteen digits at `at`, and the sign behind them, a minus or `plus`.
-fn read_signed(s: &[u8], at: usize, plus: u8) -> SignedRead
+fn read_signed(s: &[u8], at: usize, plus: u8) -> Result<Signed, Flaw>
     requires { at + 15 ≤ length s.now }
     ensures result_value { told_signed result ≡ on_signed plus at s.now got }
     ensures small_signed { SmallSigned result }
 {
-    let Num::Value(size) = digits_at(s, at, 14) else {
-        return SignedRead::Refused(at as u64);
+    let Ok(size) = digits_at(s, at, 14) else {
+        return Err(Flaw(Refusal::BadValue, at));
     };
     let sign = s[at + 14];
     if sign == 45 {
-        return SignedRead::Number(Signed::of(true, size));
+        return Ok(Signed::of(true, size));
     }
     if sign == plus {
-        return SignedRead::Number(Signed::of(false, size));
+        return Ok(Signed::of(false, size));
     }
-    SignedRead::Refused(at as u64 + 14)
+    Err(Flaw(Refusal::BadValue, at + 14))
 }
 
 // Two numbers with the same signs, the first at `at`.
-fn read_pair(s: &[u8], at: usize, plus: u8) -> PairRead
+fn read_pair(s: &[u8], at: usize, plus: u8) -> Result<Pair, Flaw>
     requires { at + 30 ≤ length s.now }
     ensures result_value { told_pair result ≡ pair_at plus at s.now }
     ensures small_pair { SmallPair result }
 {
-    match read_signed(s, at, plus) {
-        SignedRead::Refused(off) => PairRead::Refused(off),
-        SignedRead::Number(x) => match read_signed(s, at + 15, plus) {
-            SignedRead::Refused(off) => PairRead::Refused(off),
-            SignedRead::Number(y) => PairRead::Both(x, y),
-        },
-    }
+    let first = read_signed(s, at, plus)?;
+    let second = read_signed(s, at + 15, plus)?;
+    Ok(Pair { first, second })
 }
 
 // The bytes of a head.
-fn read_head(s: &[u8]) -> HeadRead
+fn read_head(s: &[u8]) -> Result<HeadFields, Flaw>
     requires { 128 ≤ length s.now }
     ensures result_value { told_head (in_file s.now) result ≡ read_head s.now }
     ensures small_head_read { SmallHeadRead result }
 {
-    let Found::Account(prefix, base) = internal::read_internal(s, 3) else {
-        return HeadRead::Refused(3);
-    };
-    match read_pair(s, 45, 43) {
-        PairRead::Refused(off) => HeadRead::Refused(off),
-        PairRead::Both(old, new) => match read_pair(s, 75, 48) {
-            PairRead::Refused(off) => HeadRead::Refused(off),
-            PairRead::Both(debit, credit) => HeadRead::Head(HeadFields {
-                prefix,
-                base,
-                old,
-                new,
-                debit,
-                credit,
-            }),
-        },
-    }
+    let account = placed(internal::read_internal(s, 3), 3)?;
+    let balances = read_pair(s, 45, 43)?;
+    let turnovers = read_pair(s, 75, 48)?;
+    Ok(HeadFields {
+        prefix: account.prefix,
+        base: account.base,
+        old: balances.first,
+        new: balances.second,
+        debit: turnovers.first,
+        credit: turnovers.second,
+    })
 }
 
 // Is it a posting code?
@@ -126,82 +107,76 @@ pub fn is_code(c: u64) -> bool
 }
 
 // The posting code at `at`.
-fn read_code(s: &[u8], at: usize) -> Num
+fn read_code(s: &[u8], at: usize) -> Result<u64, Refusal>
     requires { at + 1 ≤ length s.now }
     ensures { told_number result ≡ read_code (slice at 1 s.now) }
 {
     let b = s[at];
     if b == 49 {
-        return Num::Value(1);
+        return Ok(1);
     }
     if b == 50 {
-        return Num::Value(2);
+        return Ok(2);
     }
     if b == 52 {
-        return Num::Value(4);
+        return Ok(4);
     }
     if b == 53 {
-        return Num::Value(5);
+        return Ok(5);
     }
-    Num::Refused(51)
+    Err(Refusal::BadValue)
 }
 
 // The bytes of a movement.
-fn read_movement(s: &[u8]) -> MovementRead
+fn read_movement(s: &[u8]) -> Result<MovementFields, Flaw>
     requires { 128 ≤ length s.now }
     ensures result_value { told_movement (in_file s.now) result ≡ read_movement s.now }
     ensures small_movement_read { SmallMovementRead result }
 {
-    let Found::Account(prefix, base) = internal::read_internal(s, 3) else {
-        return MovementRead::Refused(3);
+    let own = placed(internal::read_internal(s, 3), 3)?;
+    let other = placed(internal::read_internal(s, 19), 19)?;
+    let Ok(amount) = digits_at(s, 48, 12) else {
+        return Err(Flaw(Refusal::BadValue, 48));
     };
-    let Found::Account(otherprefix, otherbase) = internal::read_internal(s, 19) else {
-        return MovementRead::Refused(19);
+    let code = placed(read_code(s, 60), 60)?;
+    let Ok(variable) = digits_at(s, 61, 10) else {
+        return Err(Flaw(Refusal::BadValue, 61));
     };
-    let Num::Value(amount) = digits_at(s, 48, 12) else {
-        return MovementRead::Refused(48);
-    };
-    let Num::Value(code) = read_code(s, 60) else {
-        return MovementRead::Refused(60);
-    };
-    let Num::Value(variable) = digits_at(s, 61, 10) else {
-        return MovementRead::Refused(61);
-    };
-    MovementRead::Movement(MovementFields {
-        prefix,
-        base,
-        otherprefix,
-        otherbase,
+    Ok(MovementFields {
+        prefix: own.prefix,
+        base: own.base,
+        otherprefix: other.prefix,
+        otherbase: other.base,
         amount,
         code,
         variable,
     })
 }
 
-// A record's type, if it is whole.
-fn kind_of(s: &[u8]) -> Kind
+// A record's type, if it is whole and has one.
+fn kind_of(s: &[u8]) -> Option<Kind>
     requires { length s.now ≡ 130 }
     ensures { read_as result s.now ≡ read_record s.now }
 {
     if s[128] != 13 {
-        return Kind::Neither;
+        return None;
     }
     if s[129] != 10 {
-        return Kind::Neither;
+        return None;
     }
     if s[0] != 48 {
-        return Kind::Neither;
+        return None;
     }
     if s[1] != 55 {
-        return Kind::Neither;
+        return None;
     }
     if s[2] == 52 {
-        return Kind::Head;
+        return Some(Kind::Head);
     }
     if s[2] == 53 {
-        return Kind::Movement;
+        return Some(Kind::Movement);
     }
-    Kind::Neither
+    None
 }
 
 // The 130 bytes of a record.
@@ -211,15 +186,9 @@ pub fn read_record(s: &[u8]) -> Entry
     ensures small { Small result }
 {
     match kind_of(s) {
-        Kind::Movement => match read_movement(s) {
-            MovementRead::Movement(x) => Entry::Movement(x),
-            MovementRead::Refused(at) => Entry::MovementRefused(at),
-        },
-        Kind::Head => match read_head(s) {
-            HeadRead::Head(x) => Entry::Head(x),
-            HeadRead::Refused(at) => Entry::HeadRefused(at),
-        },
-        Kind::Neither => Entry::Nothing,
+        Some(Kind::Movement) => Entry::Movement(read_movement(s)),
+        Some(Kind::Head) => Entry::Head(read_head(s)),
+        None => Entry::Nothing,
     }
 }
 

@@ -4,6 +4,7 @@
 pub mod file;
 pub mod row;
 
+use refusal::Flaw;
 use turnover::signed::Signed;
 
 // What is read of a head.
@@ -29,25 +30,10 @@ pub struct MovementFields {
     pub variable: u64,
 }
 
-// What stands where a record is due: a head or a movement, or one that is refused with 51 at a place in it; or no record.
+// What stands where a record is due: a head or a movement, read or refused at a place in it; or no record.
 #[derive(Clone, Copy)]
 pub enum Entry {
-    Head(HeadFields),
-    HeadRefused(u64),
-    Movement(MovementFields),
-    MovementRefused(u64),
+    Head(Result<HeadFields, Flaw>),
+    Movement(Result<MovementFields, Flaw>),
     Nothing,
-}
-
-// What the bytes of a head, or of a movement, say; or the place of the first that is refused.
-#[derive(Clone, Copy)]
-pub enum HeadRead {
-    Head(HeadFields),
-    Refused(u64),
-}
-
-#[derive(Clone, Copy)]
-pub enum MovementRead {
-    Movement(MovementFields),
-    Refused(u64),
 }

@@ -4,42 +4,43 @@ ghost use Rattle.base.specs.Put.{Wrote};
 ghost use Rattle.gpc.specs.StatementRows.{head_in, movement_in, thing_in, head_tested, movement_tested, tested, head_row, movement_row};
 ghost use Rattle.record.specs.Told.{Kept, in_row, head_with, movement_with, head_of, movement_of, told_head, told_movement, told, SmallHeadRead, SmallMovementRead, Small, FitsHeadRead, FitsMovementRead, Fits};
 
-use crate::{Entry, HeadFields, HeadRead, MovementFields, MovementRead};
+use crate::{Entry, HeadFields, MovementFields};
+use refusal::{Flaw, Refusal};
 use turnover::signed::Signed;
 
 // The numbers of a head: the first word that passes its digits is refused.
-fn head_tested(x: HeadFields) -> HeadRead
+fn head_tested(x: HeadFields) -> Result<HeadFields, Flaw>
     ensures result_value { (k : Kept) → told_head k result ≡ head_tested (head_of k x) }
     ensures small_head_read { SmallHeadRead result }
     ensures fits_head_read { FitsHeadRead result }
 {
     if 999999 < x.prefix {
-        return HeadRead::Refused(1);
+        return Err(Flaw(Refusal::BadValue, 1));
     }
     if 9999999999 < x.base {
-        return HeadRead::Refused(2);
+        return Err(Flaw(Refusal::BadValue, 2));
     }
     let old = x.old;
     if 99999999999999 < old.size {
-        return HeadRead::Refused(3);
+        return Err(Flaw(Refusal::BadValue, 3));
     }
     let new = x.new;
     if 99999999999999 < new.size {
-        return HeadRead::Refused(4);
+        return Err(Flaw(Refusal::BadValue, 4));
     }
     let debit = x.debit;
     if 99999999999999 < debit.size {
-        return HeadRead::Refused(5);
+        return Err(Flaw(Refusal::BadValue, 5));
     }
     let credit = x.credit;
     if 99999999999999 < credit.size {
-        return HeadRead::Refused(6);
+        return Err(Flaw(Refusal::BadValue, 6));
     }
-    HeadRead::Head(x)
+    Ok(x)
 }
 
 // The words of a head's row.
-fn read_head(r: &[u8]) -> HeadRead
+fn read_head(r: &[u8]) -> Result<HeadFields, Flaw>
     requires { 136 ≤ length r.now }
     ensures result_value { told_head (in_row r.now) result ≡ head_tested (head_in r.now) }
     ensures small_head_read { SmallHeadRead result }
@@ -62,37 +63,37 @@ fn read_head(r: &[u8]) -> HeadRead
 }
 
 // The numbers of a movement: the first word that passes its digits, or is no code, is refused.
-fn movement_tested(x: MovementFields) -> MovementRead
+fn movement_tested(x: MovementFields) -> Result<MovementFields, Flaw>
     ensures result_value { (k : Kept) → told_movement k result ≡ movement_tested (movement_of k x) }
     ensures small_movement_read { SmallMovementRead result }
     ensures fits_movement_read { FitsMovementRead result }
 {
     if 999999 < x.prefix {
-        return MovementRead::Refused(1);
+        return Err(Flaw(Refusal::BadValue, 1));
     }
     if 9999999999 < x.base {
-        return MovementRead::Refused(2);
+        return Err(Flaw(Refusal::BadValue, 2));
     }
     if 999999 < x.otherprefix {
-        return MovementRead::Refused(3);
+        return Err(Flaw(Refusal::BadValue, 3));
     }
     if 9999999999 < x.otherbase {
-        return MovementRead::Refused(4);
+        return Err(Flaw(Refusal::BadValue, 4));
     }
     if 999999999999 < x.amount {
-        return MovementRead::Refused(5);
+        return Err(Flaw(Refusal::BadValue, 5));
     }
     if crate::file::is_code(x.code) {
         if 9999999999 < x.variable {
-            return MovementRead::Refused(7);
+            return Err(Flaw(Refusal::BadValue, 7));
         }
-        return MovementRead::Movement(x);
+        return Ok(x);
     }
-    MovementRead::Refused(6)
+    Err(Flaw(Refusal::BadValue, 6))
 }
 
 // The words of a movement's row.
-fn read_movement(r: &[u8]) -> MovementRead
+fn read_movement(r: &[u8]) -> Result<MovementFields, Flaw>
     requires { 136 ≤ length r.now }
     ensures result_value { told_movement (in_row r.now) result ≡ movement_tested (movement_in r.now) }
     ensures small_movement_read { SmallMovementRead result }
@@ -118,16 +119,10 @@ pub fn read_row(r: &[u8]) -> Entry
 {
     let kind = out::word::word_at(r, 0);
     if kind == 75 {
-        return match read_movement(r) {
-            MovementRead::Movement(x) => Entry::Movement(x),
-            MovementRead::Refused(at) => Entry::MovementRefused(at),
-        };
+        return Entry::Movement(read_movement(r));
     }
     if kind == 74 {
-        return match read_head(r) {
-            HeadRead::Head(x) => Entry::Head(x),
-            HeadRead::Refused(at) => Entry::HeadRefused(at),
-        };
+        return Entry::Head(read_head(r));
     }
     Entry::Nothing
 }

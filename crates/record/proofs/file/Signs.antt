@@ -6,32 +6,33 @@ use Prim.Native.Nat.{ℕ, ◌+◌, ◌≤◌}
 use native.Mathlib.Omega.{arith}
 use lib.ListN.{length, get_or}
 use borrow.Author.Tests.{eq-eqb, ne_eqb}
+use Rattle.std.specs.Prelude.{Result, Ok, Err}
 use Rattle.base.specs.Pick.{pick}
+use Rattle.refusal.specs.declared.Refusal.{Refusal}
+use Rattle.refusal.specs.declared.Flaw.{Flaw}
+use Rattle.refusal.specs.Numbers.{number_of}
 use Rattle.paper.specs.Batch.{most14}
 use Rattle.paper.specs.Read.{Field, value, fault}
 use Rattle.paper.specs.Numerals.{digits}
 use Rattle.paper.specs.Entries.{Said, got, no, on_field}
 use Rattle.numeral.specs.Told.{told}
-use Rattle.numeral.specs.declared.Num.{Num}
-use Rattle.numeral.specs.declared.Num.TheVariants.{Value, Refused}
 use Rattle.numeral.proofs.Sound.{digits-sound}
 use Rattle.gpc.specs.Parts.{slice, or51}
 use Rattle.gpc.specs.Signed.{Signed as Number, signed, read_digits, read_minus, on_signed}
 use Rattle.turnover.specs.declared.signed.Signed.{Signed}
 use Rattle.turnover.specs.signed.Told.{said}
-use Rattle.record.specs.declared.file.SignedRead.{SignedRead}
-use Rattle.record.specs.declared.file.SignedRead.TheVariants as signs
+use Rattle.record.specs.declared.file.Pair.{Pair}
 use Rattle.record.specs.file.Told.{told_signed, SmallSigned, Two, two, pair_at}
 use Rattle.record.proofs.file.Fields.{one_byte}
 
 -- ---- `read_signed`: m is what the digits say
 
-module _ (plus at : ℕ) (s : List ℕ) (m : Num) (g : told m ≡ digits 14 14 (slice at 14 s)) where
-  pub no-digits : (n : ℕ) → m ≡ Refused n → no 51 at ≡ on_signed plus at s got
+module _ (plus at : ℕ) (s : List ℕ) (m : Result ℕ Refusal) (g : told m ≡ digits 14 14 (slice at 14 s)) where
+  pub no-digits : (n : Refusal) → m ≡ Err n → no 51 at ≡ on_signed plus at s got
   unfolding on_signed on_field read_digits or51
   no-digits n e = rw (← g, e) refl
 
-  module _ (v : ℕ) (e : m ≡ Value v) where
+  module _ (v : ℕ) (e : m ≡ Ok v) where
     read : digits 14 14 (slice at 14 s) ≡ value v
     read = sym g ∙ ap told e
 
@@ -96,24 +97,24 @@ module _ {B : Type 0} (plus at : ℕ) (s : List ℕ) (k : Number → Said B) whe
 
 -- ---- `read_pair`: m and w are what the two fields say
 
-module _ (plus at : ℕ) (s : List ℕ) (m : SignedRead) (g : told_signed m ≡ on_signed plus at s got) where
-  pub first-refused : (off : ℕ) → m ≡ signs.Refused off → no 51 off ≡ pair_at plus at s
+module _ (plus at : ℕ) (s : List ℕ) (m : Result Signed Flaw) (g : told_signed m ≡ on_signed plus at s got) where
+  pub first-refused : (f : Flaw) → m ≡ Err f → no (number_of f.0) f.1 ≡ pair_at plus at s
   unfolding pair_at
-  first-refused off e = sym (signed-stays plus at s _ 51 off (rw e at g))
+  first-refused f e = sym (signed-stays plus at s _ (number_of f.0) f.1 (rw e at g))
 
-  module _ (x : Signed) (e : m ≡ signs.Number x) (w : SignedRead) (h : told_signed w ≡ on_signed plus (at + 15) s got) where
+  module _ (x : Signed) (e : m ≡ Ok x) (w : Result Signed Flaw) (h : told_signed w ≡ on_signed plus (at + 15) s got) where
     first : {B : Type 0} (k : Number → Said B) → on_signed plus at s k ≡ k (said x)
     first k = signed-goes plus at s k (said x) (rw e at g)
 
-    pub second-refused : (off : ℕ) → w ≡ signs.Refused off → no 51 off ≡ pair_at plus at s
+    pub second-refused : (f : Flaw) → w ≡ Err f → no (number_of f.0) f.1 ≡ pair_at plus at s
     unfolding pair_at
-    second-refused off f = sym (first _ ∙ signed-stays plus (at + 15) s _ 51 off (rw f at h))
+    second-refused f d = sym (first _ ∙ signed-stays plus (at + 15) s _ (number_of f.0) f.1 (rw d at h))
 
-    pub pair_read : (y : Signed) → w ≡ signs.Number y → got (two (said x) (said y)) ≡ pair_at plus at s
+    pub pair_read : (y : Signed) → w ≡ Ok y → got (two (said x) (said y)) ≡ pair_at plus at s
     unfolding pair_at
     pair_read y f = sym (first _ ∙ signed-goes plus (at + 15) s _ (said y) (rw f at h))
 
-pub number_small : (m : SignedRead) (x : Signed) → SmallSigned m → m ≡ signs.Number x → x.size ≤ most14
+pub number_small : (m : Result Signed Flaw) (x : Signed) → SmallSigned m → m ≡ Ok x → x.size ≤ most14
 number_small m x h e = rw e at h
 
 pub ruleset pairing = (first-refused, second-refused, pair_read, number_small)
