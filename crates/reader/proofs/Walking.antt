@@ -1,125 +1,116 @@
 -- A reader that passes line after line: what it knows where it stands, what it knows a line further on, and that it ends at the line of the number
 -- asked for. Assumes nothing.
+use Rattle.std.proofs.Common.{◌≢◌, Option, Some, None}
+use Rattle.std.specs.Borrow.{Bor}
+use Rattle.std.specs.Option.{is_some}
 use mathlib.Core.Path.{◌≡◌, refl, sym, ap, subst, ◌∙◌}
-use mathlib.Core.Bool.{Bool, true, false}
+use mathlib.Core.Bool.{true, false}
 use mathlib.Core.List.{List, [], ◌∷◌, ◌++◌}
 use Prim.Native.Nat.{ℕ, ◌+◌, ◌-◌, ◌≤◌, ◌<◌, ◌^◌}
 use native.Mathlib.Omega.{arith}
-use lib.Dec.{ltb}
 use lib.ListN.{length, take, drop, length-drop}
 use lib.Seq.{length-take-le}
-use borrow.Author.Tests.{ltb-true, ltb-false, eq-eqb, ne_eqb}
+use borrow.Author.Tests.{ne_eqb}
 use Rattle.base.specs.Pick.{pick}
-use Rattle.base.proofs.Cases.{by-test, by-eq, pick-both}
 use Rattle.paper.specs.Lines.{Line, lines_from}
-use Rattle.scan.specs.line.Cutting.{Cuts}
 use Rattle.scan.proofs.line.Lines.{lines_none}
 use Rattle.reader.specs.declared.Found.{Found}
+use Rattle.reader.specs.declared.LineReader.{LineReader}
 use Rattle.reader.specs.Named.{LineAnswer, no_line, nth, end_line, places, line_answer}
-use Rattle.reader.specs.Finding.{Says, Finds, cut_of, goes_on, answer_at}
+use Rattle.reader.specs.Finding.{Finds, reader_at, behind, answer_at}
 
--- What has been found has number k, and the line asked for is among those from there on.
-pub record Stands (f : List ℕ) (number : ℕ) (r : Found) (k : ℕ) : Type 0 where
-  pub at : ℕ
-  pub finds : Finds f at r
-  pub inside : at ≤ length f
-  pub counted : (1 ≤ k) × (k ≤ number - 1 + 1)
-  pub goes : nth (number + 1 - k) (lines_from f at ++ (end_line f ∷ [])) ≡ line_answer number f
+-- The reader stands in the file where the line of number k starts (the file's end is a line more); the line asked for is among those from there on.
+pub record Stands (f : List ℕ) (number : ℕ) (d : LineReader) (k : ℕ) : Type 0 where
+  pub same_file : d.file.now ≡ f
+  pub inside : d.at ≤ length f
+  pub counted : (1 ≤ k) × (k ≤ number)
+  pub goes : nth (number + 1 - k) (lines_from f d.at ++ (end_line f ∷ [])) ≡ line_answer number f
 
 nth-zero : (ts : List Line) → nth 0 ts ≡ no_line
 unfolding nth pick
 nth-zero [] = refl
 nth-zero (t ∷ ts) = nth-zero ts
 
+-- lines count from 1
+pub none_zero : (f : List ℕ) (number : ℕ) → number ≡ 0 → no_line ≡ line_answer number f
+unfolding line_answer
+none_zero f number e = rw e (sym (nth-zero (places f)))
+
 abbrev place_at : ℕ → ℕ → LineAnswer
 place_at a n = record { found = 1; at = a; len = n }
 
-module _ (f : List ℕ) (number : ℕ) (r : Found) where
-  pub starts-at : Finds f 0 r → Stands f number r 1
-  unfolding line_answer places lines_from
-  starts-at h =
-      let e : number + 1 - 1 ≡ number = omega arith in
-      record { at = 0; finds = h; inside = omega arith; counted = (omega arith, omega arith); goes = rw e }
+pub starts-at : (file : Bor (List ℕ)) (number : ℕ) (d : LineReader) → number ≢ 0 → d ≡ reader_at file 0 → Stands file.now number d 1
+unfolding line_answer places lines_from
+starts-at file number d h e =
+    let n : number + 1 - 1 ≡ number = omega arith in
+    rw e (record { same_file = refl; inside = omega arith; counted = (omega arith, omega arith); goes = rw n })
 
-  module _ (k : ℕ) where
-    pub less : goes_on r k number ≡ true → (r.line ≡ true) × (k < number)
-    unfolding goes_on
-    less g = let (l, h) = pick-both r.line (ltb k number) g in (l, ltb-true k number h)
+module _ (f : List ℕ) (number : ℕ) (d : LineReader) (k : ℕ) (t : Stands f number d k) where
+  -- the lines from there on, and the file's end
+  abbrev left : List Line
+  left = lines_from f d.at ++ (end_line f ∷ [])
 
-    module _ (t : Stands f number r k) where
-      -- the lines from there on, and the file's end
-      abbrev left : List Line
-      left = lines_from f t.at ++ (end_line f ∷ [])
+  -- a number is as small as the one asked for
+  pub fits : number < 2 ^ 64 → k < 2 ^ 64
+  fits h = let m = t.counted in omega (arith, m.1)
 
-      -- a number is as small as the one asked for
-      pub fits : number < 2 ^ 64 → k < 2 ^ 64
-      fits h = let m = t.counted in omega (arith, m.1)
+  -- in the file itself
+  there : (found : Option Found) → Finds d.file.now d.at found → Finds f d.at found
+  there found h = subst (λ (x : List ℕ). Finds x d.at found) t.same_file h
 
-      -- the line found, if one was
-      cut : r.line ≡ true → (r.start ≡ t.at) × Cuts f t.at (cut_of r)
-      cut e = subst (λ (b : Bool). Says b f t.at r) e t.finds
+  module _ (m : k < number) where
+    not_yet : number + 1 - k ≢ 1
+    not_yet e = omega arith
 
-      long : r.line ≡ true → length (take (r.start + r.len - t.at) (drop t.at f)) ≡ r.len
-      long e =
-          let (s, c) = cut e in
-          let to = c.to in
-          let inside = c.inside in
-          let n : r.start + r.len - t.at ≡ r.len = omega arith in
-          rw n (length-take-le r.len (drop t.at f) (omega (arith, length-drop t.at f)))
+    -- a line further on
+    pub passes_on : (found : Option Found) (e : LineReader) → is_some found ≡ true → Finds d.file.now d.at found
+        → e ≡ reader_at d.file (behind d.at found) → Stands f number e (k + 1)
+    unfolding nth pick
+    passes_on None e q h moved = cc
+    passes_on (Some r) e q h moved =
+        let c = (there (Some r) h).1 in
+        let n : number + 1 - (k + 1) ≡ number + 1 - k - 1 = omega arith in
+        rw moved
+        (record {
+          same_file = t.same_file;
+          inside = c.inside;
+          counted = (omega arith, omega arith);
+          goes = rw n (sym (rw (c.lines, ne_eqb (number + 1 - k) 1 not_yet) refl) ∙ t.goes);
+        })
 
-      -- a line further on
-      pub passes_on : goes_on r k number ≡ true → (s : Found) → Finds f r.next s → Stands f number s (k + 1)
-      unfolding nth pick
-      passes_on g s h =
-          let (l, m) = less g in
-          let c = (cut l).1 in
-          let n : number + 1 - (k + 1) ≡ number + 1 - k - 1 = omega arith in
-          record {
-            at = r.next;
-            finds = h;
-            inside = c.inside;
-            counted = (omega arith, omega arith);
-            goes = rw n (sym (rw (c.lines, ne_eqb (number + 1 - k) 1 (λ e. absurd (omega arith))) refl) ∙ t.goes);
-          }
+    -- the file has ended before the line that is asked for
+    pub beyond : (found : Option Found) → is_some found ≡ false → Finds d.file.now d.at found → no_line ≡ line_answer number f
+    unfolding nth pick
+    beyond (Some r) q h = cc
+    beyond None q h =
+        let b : nth (number + 1 - k) left ≡ no_line = rw (there None h, ne_eqb (number + 1 - k) 1 not_yet) in
+        sym b ∙ t.goes
 
-      -- the line that is asked for; or none, since lines count from 1
-      at-line : r.line ≡ true → number ≤ k → answer_at r k number ≡ line_answer number f
-      unfolding answer_at nth pick
-      at-line e h =
-          let (s, c) = cut e in
-          let m = t.counted in
-          by-eq k number
-          (λ q.
-          let n : number + 1 - k ≡ 1 = omega arith in
-          let a : answer_at r k number ≡ place_at r.start r.len = rw (eq-eqb k number q) in
-          let b : nth (number + 1 - k) left ≡ place_at t.at _ = rw (n, c.lines) in
-          a ∙ (ap (λ (x : ℕ). place_at x r.len) s ∙ (ap (place_at t.at) (sym (long e)) ∙ (sym b ∙ t.goes))))
-          (λ q.
-          let n : number + 1 - k ≡ 0 = omega (arith, m.0, m.1) in
-          let a : answer_at r k number ≡ no_line = rw (ne_eqb k number q) in
-          let b : nth (number + 1 - k) left ≡ no_line = rw n (nth-zero left) in
-          a ∙ (sym b ∙ t.goes))
+  module _ (m : number ≤ k) where
+    one : number + 1 - k ≡ 1
+    one = let c = t.counted in omega (arith, c.1)
 
-      -- the file has ended
-      at_none : r.line ≡ false → answer_at r k number ≡ line_answer number f
-      unfolding answer_at nth pick lines_from
-      at_none e =
-          let (s, none) = subst (λ (b : Bool). Says b f t.at r) e t.finds in
-          let d = ap length (lines_none t.at (drop t.at f) none) in
-          let m = t.counted in
-          let i = t.inside in
-          let last : t.at ≡ length f = omega (arith, length-drop t.at f) in
-          by-eq k number
-          (λ q.
-          let n : number + 1 - k ≡ 1 = omega arith in
-          let a : answer_at r k number ≡ place_at r.start r.len = rw (eq-eqb k number q) in
-          let b : nth (number + 1 - k) left ≡ place_at (length f) 0 = rw (n, none) in
-          a ∙ (ap (λ (x : Found). place_at x.start x.len) s ∙ (ap (λ (x : ℕ). place_at x 0) last ∙ (sym b ∙ t.goes))))
-          (λ q.
-          let a : answer_at r k number ≡ no_line = rw (ne_eqb k number q) in
-          let b : nth (number + 1 - k) left ≡ no_line = rw (none, ne_eqb (number + 1 - k) 1 (λ n. q (omega (arith, m.0, m.1)))) in
-          a ∙ (sym b ∙ t.goes))
+    -- the line that is asked for
+    at-line : (r : Found) → Finds f d.at (Some r) → answer_at (Some r) d.at ≡ line_answer number f
+    unfolding nth pick
+    at-line r (s, c) =
+        let to = c.to in
+        let inside = c.inside in
+        let n : r.start + r.len - d.at ≡ r.len = omega arith in
+        let long : length (take (r.start + r.len - d.at) (drop d.at f)) ≡ r.len = rw n (length-take-le r.len (drop d.at f) (omega (arith, length-drop d.at f))) in
+        let b : nth (number + 1 - k) left ≡ place_at d.at _ = rw (one, c.lines) in
+        ap (λ (x : ℕ). place_at x r.len) s ∙ (ap (place_at d.at) (sym long) ∙ (sym b ∙ t.goes))
 
-      pub ends : goes_on r k number ≡ false → answer_at r k number ≡ line_answer number f
-      unfolding goes_on pick
-      ends g = by-test r.line (λ e. at-line e (ltb-false k number (rw e at g))) at_none
+    -- the file's end
+    at_none : lines_from f d.at ≡ [] → answer_at None d.at ≡ line_answer number f
+    unfolding nth pick lines_from
+    at_none h =
+        let e = ap length (lines_none d.at (drop d.at f) h) in
+        let i = t.inside in
+        let last : d.at ≡ length f = omega (arith, length-drop d.at f) in
+        let b : nth (number + 1 - k) left ≡ place_at (length f) 0 = rw (one, h) in
+        ap (λ (x : ℕ). place_at x 0) last ∙ (sym b ∙ t.goes)
+
+    pub ends : (found : Option Found) → Finds d.file.now d.at found → answer_at found (behind d.at found) ≡ line_answer number f
+    ends (Some r) h = at-line r (there (Some r) h)
+    ends None h = at_none (there None h)

@@ -1,11 +1,10 @@
-// A reader of lines: a struct that borrows a file and keeps the place where the next line starts. The functions over it are thin: the work is in
-// `line_at`, `passes` and `named`, which take plain values. `line_of` stands above them.
+// A reader of lines: a struct that borrows a file and keeps the place where the next line starts. `line_of` goes with it to the line of a number.
 #![tactic(auto)]
 
 pub mod shown;
 
 ghost use Rattle.std.specs.Prelude.{◌≡◌};
-ghost use Rattle.reader.specs.Finding.{Finds, reader_at, goes_on, answer_at};
+ghost use Rattle.reader.specs.Finding.{Finds, reader_at, behind, answer_at};
 ghost use Rattle.reader.specs.Named.{told, line_answer};
 
 #[derive(Drop)]
@@ -14,21 +13,12 @@ pub struct LineReader<'a> {
     pub at: usize,
 }
 
-// What stands at a place of a file. Either a line: where it starts, how many bytes it has without its end, and where the next one starts. Or
-// the file has ended there: an empty place, and nothing behind it.
+// A line of a file: where it starts, how many bytes it has without its end, and where the next one starts.
 #[derive(Clone, Copy)]
 pub struct Found {
-    pub line: bool,
     pub start: usize,
     pub len: usize,
     pub next: usize,
-}
-
-// What a reader has found, and the reader moved on behind it.
-#[derive(Drop)]
-pub struct Step<'a> {
-    pub found: Found,
-    pub reader: LineReader<'a>,
 }
 
 // The line of a number, as a C program is told: found 1, where it starts and how many bytes it has; or found 0.
@@ -40,26 +30,27 @@ pub struct AboLine {
     pub len: u64,
 }
 
-// What stands at a place of a file.
-pub fn line_at(file: &[u8], at: usize) -> Found
+// No line has the number.
+const NO_LINE: AboLine = AboLine {
+    found: 0,
+    at: 0,
+    len: 0,
+};
+
+// The line that starts at a place of a file; none where the file has ended.
+pub fn line_at(file: &[u8], at: usize) -> Option<Found>
     ensures { Finds file.now at result }
 {
     if at < file.len() {
         let cut = scan::line::next_line(file, at);
         let stop = cut.stop;
-        return Found {
-            line: true,
+        return Some(Found {
             start: at,
             len: stop - at,
             next: cut.next,
-        };
+        });
     }
-    Found {
-        line: false,
-        start: at,
-        len: 0,
-        next: at,
-    }
+    None
 }
 
 impl<'a> LineReader<'a> {
@@ -70,43 +61,32 @@ impl<'a> LineReader<'a> {
         LineReader { file, at: 0 }
     }
 
-    // The line where the reader stands, or that the file has ended; and the reader moved on.
-    pub fn next_line(self) -> Step<'a>
-        ensures { Finds self.entry.file.now self.entry.at result.found × (result.reader ≡ reader_at self.entry.file result.found.next) }
+    // The line where the reader stands, and the reader moves on behind it; none where the file has ended, and the reader stays there.
+    pub fn next_line(&mut self) -> Option<Found>
+        ensures found { Finds self.old.file.now self.old.at result }
+        ensures moved { self.new ≡ reader_at self.old.file (behind self.old.at result) }
     {
-        let found = line_at(self.file, self.at);
-        Step {
-            found,
-            reader: LineReader {
-                file: self.file,
-                at: found.next,
-            },
-        }
+        let line = line_at(self.file, self.at)?;
+        self.at = line.next;
+        Some(line)
     }
 }
 
-// Is there a line here, number k, and one of a higher number asked for?
-fn passes(found: Found, k: u64, number: u64) -> bool
-    ensures { result ≡ goes_on found k number }
+// What stands at a place, as a C program is told: a line, or the file's end as an empty one.
+fn named(found: Option<Found>, at: usize) -> AboLine
+    ensures { told result ≡ answer_at found at }
 {
-    if found.line { k < number } else { false }
-}
-
-// What stands here is the answer if its number, k, is the one asked for.
-fn named(found: Found, k: u64, number: u64) -> AboLine
-    ensures { told result ≡ answer_at found k number }
-{
-    if k == number {
-        return AboLine {
+    match found {
+        Some(line) => AboLine {
             found: 1,
-            at: found.start as u64,
-            len: found.len as u64,
-        };
-    }
-    AboLine {
-        found: 0,
-        at: 0,
-        len: 0,
+            at: line.start as u64,
+            len: line.len as u64,
+        },
+        None => AboLine {
+            found: 1,
+            at: at as u64,
+            len: 0,
+        },
     }
 }
 
@@ -114,11 +94,14 @@ fn named(found: Found, k: u64, number: u64) -> AboLine
 pub fn line_of(file: &[u8], number: u64) -> AboLine
     ensures { told result ≡ line_answer number file.now }
 {
-    let mut step = LineReader::new(file).next_line();
-    let mut k: u64 = 1;
-    while passes(step.found, k, number) {
-        step = step.reader.next_line();
-        k = k + 1;
+    if number == 0 {
+        return NO_LINE;
     }
-    named(step.found, k, number)
+    let mut reader = LineReader::new(file);
+    for _k in 1..number {
+        if reader.next_line().is_none() {
+            return NO_LINE;
+        }
+    }
+    named(reader.next_line(), reader.at)
 }
