@@ -19,14 +19,14 @@ ghost use Rattle.survey.specs.Told.{told, judged, Small};
 use crate::state::{State, Step};
 use calendar::term::Banks;
 use fileline::seen::Seen;
+use rows::field::{Field, Wrong};
 use sheet::Sheet;
 
-// What judging ends in: 20 or 21, at a row and a field; or the bytes of all lines behind the first.
+// Why rows are not written: they are no batch (20), or the sheet cannot carry them (21); and what is wrong first.
 #[derive(Clone, Copy)]
-pub enum Surveyed {
-    Improper(u64, u64),
-    Unfit(u64, u64),
-    Fits(u64),
+pub enum Unwritable {
+    NotABatch(Wrong),
+    NotCarried(Wrong),
 }
 
 // The bytes of all lines behind the first, once the lines that close are added.
@@ -40,65 +40,76 @@ fn all_bytes(st: State) -> u64
     st.bytes + closing
 }
 
-// Behind the last row, where row k would stand.
-fn finish(k: u64, st: State) -> Surveyed
+// Behind the last row, where row k would stand: the bytes of all lines behind the first.
+fn finish(k: u64, st: State) -> Result<u64, Unwritable>
     requires { Low k st }
     ensures result_value { (sh : sheets.Sheet) (today : ℕ) (h : Header) (p : Place) → told result ≡ resume sh today h k p st [] }
     ensures small { Small result }
 {
     let before = st.before;
-    let stage = before.stage;
-    if rows::walk::may_stop(stage) {
-        let found = st.found;
-        if 0 < found.row {
-            return Surveyed::Unfit(found.row, found.field);
-        }
-        return Surveyed::Fits(all_bytes(st));
+    if !rows::walk::may_stop(before.stage) {
+        return Err(Unwritable::NotABatch(Wrong {
+            row: k,
+            field: Field::Row,
+        }));
     }
-    Surveyed::Improper(k, 0)
+    match st.found {
+        Some(found) => Err(Unwritable::NotCarried(found)),
+        None => Ok(all_bytes(st)),
+    }
 }
 
-// The lent rows, on a sheet and a day; the header's interval goes from `from` to `to`.
-pub fn survey(rows: &[u8], texts: &[u8], sh: Sheet, today: u64, from: u64, to: u64) -> Surveyed
+// The lent rows, on a sheet and a day; the header's interval goes from `from` to `to`. They take so many bytes, with their CR LF.
+pub fn survey(
+    rows: &[u8],
+    texts: &[u8],
+    sh: Sheet,
+    today: u64,
+    from: u64,
+    to: u64,
+) -> Result<u64, Unwritable>
     requires { real_day today ≡ true }
     ensures result_value { (h : Header) → h.from ≡ from → h.to ≡ to → told result ≡ judged sh today h (things_in texts.now (rows_in rows.now)) }
     ensures small { Small result }
 {
-    let mut at: usize = 0;
-    let mut k: u64 = 1;
+    let count = rows.len() / 192;
     let mut all: u64 = 0;
     let mut kind: u64 = 0;
     let mut due = Banks::Any;
     let mut seen = Seen::none();
     let mut st = crate::state::start();
-    while 192 <= rows.len() - at {
-        let row = rows::read::read_row(rows, at);
-        match step::step_of(row, texts, sh, today, from, to, seen, k, all, kind, due, st) {
+    for i in 0..count {
+        let k = i as u64 + 1;
+        let row = rows::read::read_row(rows, i * 192);
+        let step = match step::step_of(
+            row, texts, sh, today, from, to, seen, k, all, kind, due, st,
+        ) {
+            Ok(step) => step,
+            Err(field) => return Err(Unwritable::NotABatch(Wrong { row: k, field })),
+        };
+        match step {
             Step::Item(next) => {
                 st = next;
-                at = at + 192;
-                k = k + 1;
-                all = all + 1;
+                all += 1;
             }
             Step::Group(next, date) => {
                 st = next;
-                at = at + 192;
-                k = k + 1;
                 due = calendar::term::banks_due(sh, today, kind, date);
             }
             Step::File(next, other, first) => {
                 st = next;
-                at = at + 192;
-                k = k + 1;
                 seen = seen.with(first);
                 kind = other;
                 due = calendar::term::banks_due(sh, today, kind, 0);
             }
-            Step::Wrong(field) => return Surveyed::Improper(k, field),
         }
     }
-    if at < rows.len() {
-        return Surveyed::Improper(k, 0);
+    let end = count as u64 + 1;
+    if count * 192 < rows.len() {
+        return Err(Unwritable::NotABatch(Wrong {
+            row: end,
+            field: Field::Row,
+        }));
     }
-    finish(k, st)
+    finish(end, st)
 }

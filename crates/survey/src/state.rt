@@ -4,32 +4,25 @@ ghost use Rattle.roundtrip.specs.flat.Count.{group_closing, file_closing};
 ghost use Rattle.rows.specs.walk.Walks.{stage_of};
 ghost use Rattle.survey.specs.state.Stands.{Tests, Starts};
 
-use rows::read::Check;
+use rows::field::{Field, Wrong};
 use rows::walk::{Before, Stage};
 
-// The first thing that the sheet cannot carry (21): its row and field; row 0 where there is none so far.
-#[derive(Clone, Copy)]
-pub struct Found {
-    pub row: u64,
-    pub field: u64,
-}
-
-// Before a row: what refusal 20 counts; bytes that the rows before it take, but for the open group's total; what was found.
+// Before a row: what refusal 20 counts; bytes that the rows before it take, but for the open group's total; the first thing, if any, that the
+// sheet cannot carry (21).
 #[derive(Clone, Copy)]
 pub struct State {
     pub before: Before,
     pub bytes: u64,
-    pub found: Found,
+    pub found: Option<Wrong>,
 }
 
 // What a row leads to: the state behind an item; behind a group, with its due date; behind an account file, with its kind and the first three
-// digits of its number; or the field that is not as "The batch" says (20).
+// digits of its number.
 #[derive(Clone, Copy)]
 pub enum Step {
     Item(State),
     Group(State, u64),
     File(State, u64, u64),
-    Wrong(u64),
 }
 
 // Before the first row.
@@ -40,7 +33,7 @@ pub fn start() -> State
     State {
         before,
         bytes: 0,
-        found: Found { row: 0, field: 0 },
+        found: None,
     }
 }
 
@@ -68,14 +61,12 @@ pub fn group_closing(stage: Stage, sum: u64) -> u64
     }
 }
 
-// What was found once row k is tested, where nothing was before it.
-pub fn tested(found: Found, k: u64, c: Check) -> Found
-    requires row_value { found.row ≡ 0 }
-    requires k_nonzero { 0 < k }
+// What is found once row k is tested, where nothing was before it.
+pub fn tested(k: u64, c: Result<(), Field>) -> Option<Wrong>
     ensures { Tests k c result }
 {
     match c {
-        Check::Fine => found,
-        Check::Wrong(field) => Found { row: k, field },
+        Ok(()) => None,
+        Err(field) => Some(Wrong { row: k, field }),
     }
 }

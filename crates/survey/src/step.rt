@@ -1,6 +1,6 @@
 // One lent row, judged: what it leads to by 20, 21 and its line's bytes. Each kind of row goes by the same stages: what it leads to by 20
 // (`rows::walk`); what was found for 21 behind it; the bytes behind it; the state behind it, which is these three.
-ghost use Rattle.std.specs.Prelude.{◌≡◌, true, List, ℕ, ◌+◌, ◌≤◌, ◌<◌, ltb};
+ghost use Rattle.std.specs.Prelude.{◌≡◌, true, List, ℕ, ◌+◌, ◌≤◌, ◌<◌, ltb, Ok};
 ghost use Rattle.sheet.specs.declared.Sheet as sheets;
 ghost use Rattle.paper.specs.Accounts.{account};
 ghost use Rattle.paper.specs.Days.{real_day};
@@ -9,7 +9,6 @@ ghost use Rattle.paper.specs.Carried.{Place, item_carried};
 ghost use Rattle.paper.specs.Proper.{Verdict, check};
 ghost use Rattle.paper.specs.Words.{words};
 ghost use Rattle.calendar.specs.term.Allows.{allows};
-ghost use Rattle.rows.specs.declared.walk.Walk.TheVariants.{On};
 ghost use Rattle.rows.specs.read.After.{after};
 ghost use Rattle.rows.specs.read.Sized.{Sized};
 ghost use Rattle.rows.specs.read.Told.{item_of, told_item};
@@ -20,11 +19,12 @@ ghost use Rattle.survey.specs.state.Low.{Low};
 ghost use Rattle.survey.specs.state.Row.{Finds, Adds, Behind};
 ghost use Rattle.survey.specs.step.Steps.{Steps, StepsRead};
 
-use crate::state::{Found, State, Step};
+use crate::state::{State, Step};
 use calendar::term::Banks;
 use fileline::seen::Seen;
-use rows::read::{Check, ItemRow, RowRead};
-use rows::walk::{Before, Walk};
+use rows::field::{Field, Wrong};
+use rows::read::{ItemRow, RowRead};
+use rows::walk::Before;
 use sheet::Sheet;
 
 // ---- an account file
@@ -39,20 +39,17 @@ fn file_found(
     st: State,
     kind: u64,
     number: u64,
-) -> Found
-    requires k_nonzero { 0 < k }
+) -> Option<Wrong>
     requires number_bound { number < 1000000 }
     ensures { (today : ℕ) (h : Header) (p : Place) → h.from ≡ from → h.to ≡ to → Holds seen.words p.seen → Finds sh today h p k st (a_file kind number) result }
 {
-    let found = st.found;
-    if 0 < found.row {
-        return found;
+    match st.found {
+        Some(found) => Some(found),
+        None => crate::state::tested(
+            k,
+            rows::carried::file_carried(sh, from, to, seen, kind, number),
+        ),
     }
-    crate::state::tested(
-        found,
-        k,
-        rows::carried::file_carried(sh, from, to, seen, kind, number),
-    )
 }
 
 // The bytes with its line and CR LF, and with what it closes.
@@ -81,7 +78,7 @@ fn behind_file(
     number: u64,
 ) -> State
     requires low { Low k st }
-    requires walks { Walks st.before (a_file kind number) (On next) }
+    requires walks { Walks st.before (a_file kind number) (Ok next) }
     ensures low_2 { Low (k + 1) result }
     ensures by_index { (today : ℕ) (h : Header) (p : Place) → h.from ≡ from → h.to ≡ to → Holds seen.words p.seen → Behind sh today h p k st (a_file kind number) result }
 {
@@ -104,19 +101,17 @@ fn file_row(
     st: State,
     kind: u64,
     number: u64,
-) -> Step
+) -> Result<Step, Field>
     requires { Low k st }
     ensures { (today all before : ℕ) (banks : Banks) → Steps sh today from to all before banks seen.words k st (a_file kind number) result }
 {
     let before = st.before;
-    match rows::walk::file_proper(before, kind, number) {
-        Walk::Wrong(field) => Step::Wrong(field),
-        Walk::On(next) => Step::File(
-            behind_file(sh, from, to, seen, k, st, next, kind, number),
-            kind,
-            number / 1000,
-        ),
-    }
+    let next = rows::walk::file_proper(before, kind, number)?;
+    Ok(Step::File(
+        behind_file(sh, from, to, seen, k, st, next, kind, number),
+        kind,
+        number / 1000,
+    ))
 }
 
 // ---- a group
@@ -131,21 +126,15 @@ fn group_found(
     date: u64,
     prefix: u64,
     base: u64,
-) -> Found
-    requires k_nonzero { 0 < k }
+) -> Option<Wrong>
     requires today_value { real_day today ≡ true }
     requires date_value { real_day date ≡ true }
     ensures { (h : Header) (p : Place) → p.kind ≡ kind → Finds sh today h p k st (a_group date (account prefix base)) result }
 {
-    let found = st.found;
-    if 0 < found.row {
-        return found;
+    match st.found {
+        Some(found) => Some(found),
+        None => crate::state::tested(k, rows::carried::group_carried(sh, today, kind, date)),
     }
-    crate::state::tested(
-        found,
-        k,
-        rows::carried::group_carried(sh, today, kind, date),
-    )
 }
 
 // The bytes with its line but for the total, with CR LF, and with what it closes.
@@ -175,7 +164,7 @@ fn behind_group(
 ) -> State
     requires today_value { real_day today ≡ true }
     requires low { Low k st }
-    requires walks { Walks st.before (a_group date (account prefix base)) (On next) }
+    requires walks { Walks st.before (a_group date (account prefix base)) (Ok next) }
     ensures low_2 { Low (k + 1) result }
     ensures behind { (h : Header) (p : Place) → p.kind ≡ kind → Behind sh today h p k st (a_group date (account prefix base)) result }
 {
@@ -198,19 +187,17 @@ fn group_row(
     date: u64,
     prefix: u64,
     base: u64,
-) -> Step
+) -> Result<Step, Field>
     requires today_value { real_day today ≡ true }
     requires low { Low k st }
     ensures { (from to all : ℕ) (banks : Banks) (seen : List ℕ) → Steps sh today from to all kind banks seen k st (a_group date (account prefix base)) result }
 {
     let before = st.before;
-    match rows::walk::group_proper(before, date, prefix, base) {
-        Walk::Wrong(field) => Step::Wrong(field),
-        Walk::On(next) => Step::Group(
-            behind_group(sh, today, k, kind, st, next, date, prefix, base),
-            date,
-        ),
-    }
+    let next = rows::walk::group_proper(before, date, prefix, base)?;
+    Ok(Step::Group(
+        behind_group(sh, today, k, kind, st, next, date, prefix, base),
+        date,
+    ))
 }
 
 // ---- an item
@@ -227,18 +214,18 @@ fn bank_due(sh: Sheet, banks: Banks, bank: u64) -> bool
 }
 
 // What the sheet cannot carry of an item that has `all` items before it in the whole file, and may have one of these payee banks.
-fn item_fits(sh: Sheet, texts: &[u8], all: u64, banks: Banks, x: ItemRow) -> Check
+fn item_fits(sh: Sheet, texts: &[u8], all: u64, banks: Banks, x: ItemRow) -> Result<(), Field>
     requires { Sized texts.now x }
     ensures { (k : ℕ) (rest : Verdict) → after k result rest ≡ check k 0 (ltb all sh.fileitems)
         (check k 5 (allows banks sh.bank x.bank) (item_carried sh k (item_of texts.now x) rest)) }
 {
     let limits = sh.limits();
     if limits.items <= all {
-        return Check::Wrong(0);
+        return Err(Field::Row);
     }
     let due = bank_due(sh, banks, x.bank);
     if !due {
-        return Check::Wrong(5);
+        return Err(Field::ItemBank);
     }
     rows::carried::item_carried(sh, texts, x)
 }
@@ -252,16 +239,14 @@ fn item_found(
     banks: Banks,
     st: State,
     x: ItemRow,
-) -> Found
-    requires k_nonzero { 0 < k }
+) -> Option<Wrong>
     requires sized { Sized texts.now x }
     ensures { (today : ℕ) (h : Header) (p : Place) → p.items ≡ all → Due sh today banks p.kind p.date → Finds sh today h p k st (an_item (item_of texts.now x)) result }
 {
-    let found = st.found;
-    if 0 < found.row {
-        return found;
+    match st.found {
+        Some(found) => Some(found),
+        None => crate::state::tested(k, item_fits(sh, texts, all, banks, x)),
     }
-    crate::state::tested(found, k, item_fits(sh, texts, all, banks, x))
 }
 
 // The bytes with its line and CR LF.
@@ -287,7 +272,7 @@ fn behind_item(
     x: ItemRow,
 ) -> State
     requires low { Low k st }
-    requires walks { Walks st.before (an_item (item_of texts.now x)) (On next) }
+    requires walks { Walks st.before (an_item (item_of texts.now x)) (Ok next) }
     ensures low_2 { Low (k + 1) result }
     ensures by_index { (today : ℕ) (h : Header) (p : Place) → p.items ≡ all → Due sh today banks p.kind p.date → Behind sh today h p k st (an_item (item_of texts.now x)) result }
 {
@@ -301,15 +286,21 @@ fn behind_item(
 }
 
 // Row k is an item.
-fn item_row(sh: Sheet, texts: &[u8], k: u64, all: u64, banks: Banks, st: State, x: ItemRow) -> Step
+fn item_row(
+    sh: Sheet,
+    texts: &[u8],
+    k: u64,
+    all: u64,
+    banks: Banks,
+    st: State,
+    x: ItemRow,
+) -> Result<Step, Field>
     requires { Low k st }
     ensures { (today from to kind : ℕ) (seen : List ℕ) → Steps sh today from to all kind banks seen k st (told_item texts.now x) result }
 {
     let before = st.before;
-    match rows::walk::item_proper(texts, before, x) {
-        Walk::Wrong(field) => Step::Wrong(field),
-        Walk::On(next) => Step::Item(behind_item(sh, texts, k, all, banks, st, next, x)),
-    }
+    let next = rows::walk::item_proper(texts, before, x)?;
+    Ok(Step::Item(behind_item(sh, texts, k, all, banks, st, next, x)))
 }
 
 // ---- any row
@@ -328,7 +319,7 @@ pub fn step_of(
     kind: u64,
     banks: Banks,
     st: State,
-) -> Step
+) -> Result<Step, Field>
     requires today_value { real_day today ≡ true }
     requires low { Low k st }
     ensures { StepsRead sh today from to all kind banks seen.words k st texts.now row result }
@@ -337,6 +328,6 @@ pub fn step_of(
         RowRead::Item(x) => item_row(sh, texts, k, all, banks, st, x),
         RowRead::Group(date, prefix, base) => group_row(sh, today, k, kind, st, date, prefix, base),
         RowRead::File(other, number) => file_row(sh, from, to, seen, k, st, other, number),
-        RowRead::Strange => Step::Wrong(0),
+        RowRead::Strange => Err(Field::Row),
     }
 }

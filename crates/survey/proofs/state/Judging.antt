@@ -3,6 +3,7 @@ use mathlib.Core.Path.{◌≡◌, refl, ap, ◌∙◌}
 use mathlib.Core.List.{List, ◌∷◌}
 use Prim.Native.Nat.{ℕ, suc, ◌+◌}
 use native.Mathlib.Numerals.{add-one}
+use Rattle.std.proofs.Common.{Err}
 use Rattle.sheet.specs.declared.Sheet.{Sheet}
 use Rattle.paper.specs.Batch.{Header, Thing, strange}
 use Rattle.paper.specs.Proper.{Before, wrong, rows_proper}
@@ -10,7 +11,7 @@ use Rattle.paper.specs.Carried.{Place, rows_carried}
 use Rattle.roundtrip.specs.flat.Count.{count}
 use Rattle.rows.specs.walk.Walks.{before_of}
 use Rattle.survey.specs.declared.state.State.{State}
-use Rattle.survey.specs.declared.state.Step.TheVariants as step
+use Rattle.rows.specs.declared.field.Field.TheVariants.{Row}
 use Rattle.survey.specs.state.Stands.{kept, improper, survey_of, resume}
 use Rattle.survey.specs.state.Goes.{Goes}
 use Rattle.survey.specs.state.Row.{place_behind, Behind}
@@ -39,6 +40,6 @@ module _ (sh : Sheet) (today : ℕ) (h : Header) (p : Place) (k : ℕ) (st : Sta
       (b.found.same ts)
       (ap (λ (q : Before). next.bytes + count sh q.stage q.sum ts) b.walks.leads ∙ b.bytes.same ts)
 
-  pub goes-strange : Goes sh today h p k st strange (step.Wrong 0)
+  pub goes-strange : Goes sh today h p k st strange (Err Row)
   unfolding rows_proper
   goes-strange ts = resume-wrong (strange ∷ ts) 0 refl

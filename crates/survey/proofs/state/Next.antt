@@ -13,42 +13,36 @@ use Rattle.calendar.specs.declared.term.Banks.{Banks}
 use Rattle.roundtrip.proofs.flat.Few.{few-file, few-group, few-item}
 use Rattle.rows.specs.declared.read.ItemRow.{ItemRow}
 use Rattle.rows.specs.declared.walk.Before.{Before}
-use Rattle.rows.specs.declared.walk.Walk.TheVariants.{On}
+use Rattle.std.proofs.Common.{Option, Ok}
+use Rattle.rows.specs.declared.field.Wrong.{Wrong}
 use Rattle.rows.specs.read.Sized.{Sized}
 use Rattle.rows.specs.read.Told.{item_of}
 use Rattle.rows.specs.walk.Walks.{before_of, Walks}
 use Rattle.rows.proofs.walk.Passed.{file-passed, group-passed, item-passed, walk-sum}
 use Rattle.fileline.specs.seen.Bits.{Holds}
-use Rattle.survey.specs.declared.state.Found.{Found}
 use Rattle.survey.specs.declared.state.State.{State}
 use Rattle.survey.specs.state.Known.{Due}
 use Rattle.survey.specs.state.Low.{Low}
 use Rattle.survey.specs.state.Row.{Finds, Adds, Behind}
-use Rattle.survey.proofs.state.Bounds.{limits}
+use Rattle.survey.proofs.state.Bounds.{low-bytes}
 
 -- ---- what its stages ask of the row
 
 module _ (b next : Before) where
-  pub number_small : (kind number : ℕ) → Walks b (a_file kind number) (On next) → number < 1000000
+  pub number_small : (kind number : ℕ) → Walks b (a_file kind number) (Ok next) → number < 1000000
   number_small kind number w = (file-passed b next kind number w).small
 
-  pub date_real : (date : ℕ) (payer : Account) → Walks b (a_group date payer) (On next) → real_day date ≡ true
+  pub date_real : (date : ℕ) (payer : Account) → Walks b (a_group date payer) (Ok next) → real_day date ≡ true
   date_real date payer w = (group-passed b next date payer w).day
 
-  pub item-sized : (texts : List ℕ) (x : ItemRow) → Walks b (an_item (item_of texts x)) (On next) → Sized texts x
+  pub item-sized : (texts : List ℕ) (x : ItemRow) → Walks b (an_item (item_of texts x)) (Ok next) → Sized texts x
   item-sized texts x w = (item-passed b next texts x w).sized
 
 -- ---- its numbers stay small
 
 module _ (k : ℕ) (st : State) (low : Low k st) where
-  pub low-row : 0 < k
-  low-row = omega (arith, low.row)
-
-  pub low-bytes : st.bytes ≤ 100000000000
-  low-bytes = (limits k st low).bytes
-
-  module _ (next : Before) (f : Found) (n : ℕ) (more : n ≤ st.bytes + 500) where
-    pub low-file : (kind number : ℕ) → Walks st.before (a_file kind number) (On next) → Low (k + 1) (record { before = next; bytes = n; found = f })
+  module _ (next : Before) (f : Option Wrong) (n : ℕ) (more : n ≤ st.bytes + 500) where
+    pub low-file : (kind number : ℕ) → Walks st.before (a_file kind number) (Ok next) → Low (k + 1) (record { before = next; bytes = n; found = f })
     low-file kind number w =
         let p = file-passed st.before next kind number w in
         record {
@@ -59,7 +53,7 @@ module _ (k : ℕ) (st : State) (low : Low k st) where
           sum = walk-sum st.before next _ w;
         }
 
-    pub low-group : (date : ℕ) (payer : Account) → Walks st.before (a_group date payer) (On next) → Low (k + 1) (record { before = next; bytes = n; found = f })
+    pub low-group : (date : ℕ) (payer : Account) → Walks st.before (a_group date payer) (Ok next) → Low (k + 1) (record { before = next; bytes = n; found = f })
     low-group date payer w =
         record {
           n = suc low.n;
@@ -69,7 +63,7 @@ module _ (k : ℕ) (st : State) (low : Low k st) where
           sum = walk-sum st.before next _ w;
         }
 
-    pub low-item : (texts : List ℕ) (x : ItemRow) → Walks st.before (an_item (item_of texts x)) (On next) → Low (k + 1) (record { before = next; bytes = n; found = f })
+    pub low-item : (texts : List ℕ) (x : ItemRow) → Walks st.before (an_item (item_of texts x)) (Ok next) → Low (k + 1) (record { before = next; bytes = n; found = f })
     low-item texts x w =
         let p = item-passed st.before next texts x w in
         record {
@@ -82,8 +76,8 @@ module _ (k : ℕ) (st : State) (low : Low k st) where
 
 -- ---- it stands behind the row
 
-module _ (sh : Sheet) (k : ℕ) (st : State) (next : Before) (f : Found) (n : ℕ) where
-  pub behind-file : (from to : ℕ) (seen : List ℕ) (kind number : ℕ) → Walks st.before (a_file kind number) (On next)
+module _ (sh : Sheet) (k : ℕ) (st : State) (next : Before) (f : Option Wrong) (n : ℕ) where
+  pub behind-file : (from to : ℕ) (seen : List ℕ) (kind number : ℕ) → Walks st.before (a_file kind number) (Ok next)
       → ((today : ℕ) (h : Header) (p : Place) → h.from ≡ from → h.to ≡ to → Holds seen p.seen → Finds sh today h p k st (a_file kind number) f)
       → ((sh : Sheet) (kind number : ℕ) → Adds sh st (a_file kind number) n)
       → (today : ℕ) (h : Header) (p : Place) → h.from ≡ from → h.to ≡ to → Holds seen p.seen
@@ -91,19 +85,19 @@ module _ (sh : Sheet) (k : ℕ) (st : State) (next : Before) (f : Found) (n : �
   behind-file from to seen kind number w finds adds today h p a b holds =
       record { walks = w; found = finds today h p a b holds; bytes = adds sh kind number }
 
-  pub behind-group : (today kind date : ℕ) (payer : Account) → Walks st.before (a_group date payer) (On next)
+  pub behind-group : (today kind date : ℕ) (payer : Account) → Walks st.before (a_group date payer) (Ok next)
       → ((h : Header) (p : Place) → p.kind ≡ kind → Finds sh today h p k st (a_group date payer) f) → ((date : ℕ) → Adds sh st (a_group date payer) n)
       → (h : Header) (p : Place) → p.kind ≡ kind
       → Behind sh today h p k st (a_group date payer) (record { before = next; bytes = n; found = f })
   behind-group today kind date payer w finds adds h p e = record { walks = w; found = finds h p e; bytes = adds date }
 
-  pub behind-item : (all : ℕ) (banks : Banks) (x : Item) → Walks st.before (an_item x) (On next)
+  pub behind-item : (all : ℕ) (banks : Banks) (x : Item) → Walks st.before (an_item x) (Ok next)
       → ((today : ℕ) (h : Header) (p : Place) → p.items ≡ all → Due sh today banks p.kind p.date → Finds sh today h p k st (an_item x) f) → Adds sh st (an_item x) n
       → (today : ℕ) (h : Header) (p : Place) → p.items ≡ all → Due sh today banks p.kind p.date
       → Behind sh today h p k st (an_item x) (record { before = next; bytes = n; found = f })
   behind-item all banks x w finds adds today h p e due = record { walks = w; found = finds today h p e due; bytes = adds }
 
-pub ruleset asked = (number_small, date_real, item-sized, low-row, low-bytes)
+pub ruleset asked = (number_small, date_real, item-sized, low-bytes)
 
 pub ruleset lows = (low-file, low-group, low-item)
 

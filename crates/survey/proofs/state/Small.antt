@@ -1,19 +1,17 @@
 -- The answers of the small questions, with what the code knows at each. Assumes nothing.
 use mathlib.Core.Path.{◌≡◌}
-use Prim.Native.Nat.{ℕ, ◌+◌, ◌≤◌, ◌<◌}
-use native.Mathlib.Omega.{arith}
-use borrow.Author.Tests.{lt-ltb, le-ltb}
+use Prim.Native.Nat.{ℕ, ◌+◌}
+use Rattle.std.proofs.Common.{Option, Some, None, Result, Ok, Err, refl}
 use lib.ListN.{length}
-use Rattle.base.proofs.Cases.{pick_true, pick-false}
 use Rattle.paper.specs.Proper.{Verdict, wrong}
 use Rattle.paper.specs.Numerals.{decimal}
 use Rattle.roundtrip.specs.flat.Count.{group_closing, file_closing}
-use Rattle.rows.specs.declared.read.Check.{Check}
-use Rattle.rows.specs.declared.read.Check.TheVariants as check
+use Rattle.rows.specs.declared.field.Field.{Field}
+use Rattle.rows.specs.declared.field.Wrong.{Wrong}
+use Rattle.rows.specs.field.Numbers.{number_of}
 use Rattle.rows.specs.declared.walk.Stage.{Stage}
 use Rattle.rows.specs.declared.walk.Stage.TheVariants as stage
 use Rattle.rows.specs.walk.Walks.{stage_of}
-use Rattle.survey.specs.declared.state.Found.{Found}
 use Rattle.survey.specs.state.Stands.{kept, Tests}
 
 -- ---- bytes that close what is open
@@ -55,21 +53,23 @@ module _ (st : Stage) (sum : ℕ) where
 
 -- ---- what was found
 
-module _ (f : Found) (v : Verdict) where
-  pub kept-none : f.row ≤ 0 → kept f v ≡ v
+module _ (f : Option Wrong) (v : Verdict) where
+  pub kept-none : f ≡ None → kept f v ≡ v
   unfolding kept
-  kept-none e = pick-false (wrong f.row f.field) v (le-ltb 0 f.row e)
+  kept-none e = rw e
 
-  pub kept_at : 0 < f.row → kept f v ≡ wrong f.row f.field
+  pub kept_at : (w : Wrong) → f ≡ Some w → kept f v ≡ wrong w.row (number_of w.field)
   unfolding kept
-  kept_at e = pick_true (wrong f.row f.field) v (lt-ltb 0 f.row e)
+  kept_at w e = rw e
 
-module _ (k : ℕ) (c : Check) where
-  pub tests-fine : c ≡ check.Fine → (f : Found) → f.row ≡ 0 → Tests k c f
-  tests-fine e f none = record { same = λ v. rw e (kept-none f v (omega (arith, none))) }
+module _ (k : ℕ) (c : Result (Unit {0}) Field) where
+  pub tests-fine : c ≡ Ok tt → Tests k c None
+  unfolding kept
+  tests-fine e = record { same = λ v. rw e }
 
-  pub tests-wrong : (field : ℕ) → c ≡ check.Wrong field → 0 < k → Tests k c (record { row = k; field = field })
-  tests-wrong field e p = record { same = λ v. rw e (kept_at (record { row = k; field = field }) v p) }
+  pub tests-wrong : (field : Field) → c ≡ Err field → Tests k c (Some (record { row = k; field = field }))
+  unfolding kept
+  tests-wrong field e = record { same = λ v. rw e }
 
 pub ruleset closings =
     (file-closing-top, file-closing-empty, file-closing-bare, file-closing-open, group-closing-top, group-closing-empty, group-closing-bare, group-closing-open)

@@ -1,5 +1,5 @@
 -- What was found for 21 behind a row: the first fault stays, else the row's own is found. Assumes nothing.
-use mathlib.Core.Path.{◌≡◌, sym, ◌∙◌}
+use mathlib.Core.Path.{◌≡◌, refl, sym, ◌∙◌}
 use mathlib.Core.Bool.{true, false}
 use mathlib.Core.List.{List}
 use Prim.Native.Nat.{ℕ, ◌≤◌, ◌<◌}
@@ -18,11 +18,12 @@ use Rattle.paper.specs.Carried.{Place, item_carried, rows_carried}
 use Rattle.calendar.specs.declared.term.Banks.{Banks}
 use Rattle.calendar.specs.declared.term.Banks.TheVariants as which
 use Rattle.calendar.specs.term.Allows.{allows}
-use Rattle.rows.specs.declared.read.Check.{Check}
+use Rattle.std.proofs.Common.{Option, Some, None, Result}
+use Rattle.rows.specs.declared.field.Field.{Field}
+use Rattle.rows.specs.declared.field.Wrong.{Wrong}
 use Rattle.rows.specs.read.After.{after}
 use Rattle.rows.proofs.read.Fields.{passes, fails, below, beyond}
 use Rattle.fileline.specs.seen.Bits.{Holds}
-use Rattle.survey.specs.declared.state.Found.{Found}
 use Rattle.survey.specs.declared.state.State.{State}
 use Rattle.survey.specs.state.Stands.{Tests}
 use Rattle.survey.specs.state.Known.{Due}
@@ -54,11 +55,11 @@ pub ruleset allowing = (any-allowed, own-allowed, none_allowed)
 
 module _ (sh : Sheet) (k : ℕ) (st : State) where
   -- what was found before stays
-  pub stays : 0 < st.found.row → (today : ℕ) (h : Header) (p : Place) (t : Thing) → Finds sh today h p k st t st.found
-  stays e today h p t = record { same = λ ts. kept_at st.found _ e ∙ sym (kept_at st.found _ e) }
+  pub stays : (w : Wrong) → st.found ≡ Some w → (today : ℕ) (h : Header) (p : Place) (t : Thing) → Finds sh today h p k st t (Some w)
+  stays w e today h p t = record { same = λ ts. kept_at (Some w) _ w refl ∙ sym (kept_at st.found _ w e) }
 
   -- nothing was found before; row k is judged by the test d, which finds g
-  module _ (none : st.found.row ≤ 0) (d : Check) (g : Found) (tests : Tests k d g) where
+  module _ (none : st.found ≡ None) (d : Result (Unit {0}) Field) (g : Option Wrong) (tests : Tests k d g) where
     pub file-finds : (from to : ℕ) (seen : List ℕ) (kind number : ℕ)
         → ((h : Header) (l : List ℕ) → h.from ≡ from → h.to ≡ to → Holds seen l → (k : ℕ) (rest : Verdict)
         → after k d rest ≡ check k 1 (kind_allowed sh kind) (check k 2 (number_allowed sh.interval h l number) rest))

@@ -1,38 +1,29 @@
 -- `survey` meets its contract: the outcome of all rows is that of the rows that are left. Assumes nothing.
-use borrow.Author.Rules.{rules}
-use native.Mathlib.Omega.{arith}
-use Rattle.survey.proofs.Going.{goings}
+use Rattle.std.proofs.Common.{◌≡◌, ◌/◌, length, arith, rules}
+use Rattle.survey.proofs.Going.{goings, going-rest, going_end}
 use Rattle.survey.proofs.survey.Goals as goal
+use Rattle.survey.proofs.survey.Goals.{in-Item, in-Group, in-File}
 
-pub loop-at-init : goal.loop-at-init
-loop-at-init c = search goings
+pub loop-i-init : goal.loop-i-init
+loop-i-init c = search goings
 
-pub loop-at-smaller-in-Item : goal.loop-at-smaller-in-Item
-loop-at-smaller-in-Item c = omega arith
+pub returns-in-Err-clause-result_value : goal.returns-in-Err-clause-result_value
+returns-in-Err-clause-result_value c = search goings
 
-pub loop-at-preserved-in-Item : goal.loop-at-preserved-in-Item
-loop-at-preserved-in-Item c = search goings
+pub loop-i-preserved : goal.loop-i-preserved
+loop-i-preserved c =
+    elim c.match-step.branch [
+      | in-Item w ↦ rw (w.all-is, w.kind-is, w.due-is, w.seen-is, w.st-is) (search goings)
+      | in-Group w ↦ rw (w.all-is, w.kind-is, w.due-is, w.seen-is, w.st-is) (search goings)
+      | in-File w ↦ rw (w.all-is, w.kind-is, w.due-is, w.seen-is, w.st-is) (search goings)
+    ]
 
-pub loop-at-smaller-in-Group : goal.loop-at-smaller-in-Group
-loop-at-smaller-in-Group c = omega arith
+pub returns-then-count-rows-clause-result_value : goal.returns-then-count-rows-clause-result_value
+returns-then-count-rows-clause-result_value c =
+    let last : c.loop-i.i ≡ length c.args.rows.now / 192 = omega arith in
+    rw (← last) (going-rest c.loop-i.invariant last (omega arith))
 
-pub loop-at-preserved-in-Group : goal.loop-at-preserved-in-Group
-loop-at-preserved-in-Group c = search goings
-
-pub with-seen-requires : goal.with-seen-requires
-with-seen-requires c = search goings
-
-pub loop-at-smaller : goal.loop-at-smaller
-loop-at-smaller c = omega arith
-
-pub loop-at-preserved : goal.loop-at-preserved
-loop-at-preserved c = search goings
-
-pub returns-in-Wrong : goal.returns-in-Wrong
-returns-in-Wrong c = record { result_value = search goings; small = tt }
-
-pub returns-then-at-rows : goal.returns-then-at-rows
-returns-then-at-rows c = record { result_value = search goings; small = tt }
-
-pub returns : goal.returns
-returns c = record { result_value = search goings; small = search rules }
+pub returns-clause-result_value : goal.returns-clause-result_value
+returns-clause-result_value c =
+    let last : c.loop-i.i ≡ length c.args.rows.now / 192 = omega arith in
+    going_end c.loop-i.invariant last (omega arith) _ (rw last c.finish.ensures.result_value)

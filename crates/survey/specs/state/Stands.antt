@@ -1,30 +1,31 @@
 -- The answer from a state on. Document 01, "Numbers returned". Assumes nothing.
-use Rattle.std.specs.Prelude.{ℕ, ◌+◌, ◌≡◌, List, ltb}
-use Rattle.base.specs.Pick.{pick}
+use Rattle.std.specs.Prelude.{ℕ, ◌+◌, ◌≡◌, List, Option, Some, None, Result}
 use Rattle.sheet.specs.declared.Sheet.{Sheet}
 use Rattle.paper.specs.Batch.{Header, Thing}
 use Rattle.paper.specs.Proper as paper
 use Rattle.paper.specs.Carried.{Place, rows_carried}
 use Rattle.roundtrip.specs.flat.Count.{count}
-use Rattle.rows.specs.declared.read.Check.{Check}
+use Rattle.rows.specs.declared.field.Field.{Field}
+use Rattle.rows.specs.declared.field.Wrong.{Wrong}
+use Rattle.rows.specs.field.Numbers.{number_of}
 use Rattle.rows.specs.read.After.{after}
 use Rattle.rows.specs.walk.Walks.{before_of}
-use Rattle.survey.specs.declared.state.Found.{Found}
 use Rattle.survey.specs.declared.state.State.{State}
 
--- refusal 21: a fault that was found stays, whatever comes behind it. Rows count from 1, so row 0 is none.
-unfoldable pub kept : Found → paper.Verdict → paper.Verdict
-kept f v = pick (ltb 0 f.row) (paper.wrong f.row f.field) v
+-- refusal 21: a fault that was found stays, whatever comes behind it
+unfoldable pub kept : Option Wrong → paper.Verdict → paper.Verdict
+kept (Some w) v = paper.wrong w.row (number_of w.field)
+kept None v = v
 
 -- f is what the test c of row k finds
-pub record Tests (k : ℕ) (c : Check) (f : Found) : Type 0 where
+pub record Tests (k : ℕ) (c : Result (Unit {0}) Field) (f : Option Wrong) : Type 0 where
   pub same : (v : paper.Verdict) → kept f v ≡ after k c v
 
 -- before the first row
 pub record Starts (st : State) : Type 0 where
   pub before : before_of st.before ≡ paper.at_top
   pub bytes : st.bytes ≡ 0
-  pub found : st.found.row ≡ 0
+  pub found : st.found ≡ None
 
 -- what judging rows ends in: 20 or 21 at a row and a field, or the bytes that their lines take
 pub data Outcome : Type 0 where

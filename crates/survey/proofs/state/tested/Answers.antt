@@ -2,8 +2,8 @@
 use Rattle.survey.proofs.state.Small.{testing}
 use Rattle.survey.proofs.state.tested.Goals as goal
 
-pub returns-in-Fine : goal.returns-in-Fine
-returns-in-Fine c = search testing
+pub returns-in-Ok : goal.returns-in-Ok
+returns-in-Ok c = search testing
 
-pub returns-in-Wrong : goal.returns-in-Wrong
-returns-in-Wrong c = search testing
+pub returns-in-Err : goal.returns-in-Err
+returns-in-Err c = search testing

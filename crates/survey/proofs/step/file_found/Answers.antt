@@ -2,8 +2,8 @@
 use Rattle.survey.proofs.step.Finding.{stays, finding}
 use Rattle.survey.proofs.step.file_found.Goals as goal
 
-pub returns-then-found-gt0 : goal.returns-then-found-gt0
-returns-then-found-gt0 c = λ today h p f t holds. search stays
+pub returns-in-Some : goal.returns-in-Some
+returns-in-Some c = λ today h p f t holds. search stays
 
-pub returns : goal.returns
-returns c = search finding
+pub returns-in-None : goal.returns-in-None
+returns-in-None c = search finding

@@ -1,13 +1,16 @@
 -- `item_row`: by the answer of the row's tests. Assumes nothing.
 use borrow.Author.Rules.{rules}
+use Rattle.std.proofs.lemmas.Result.{err_from_is_err_and}
 use Rattle.survey.proofs.step.Rows.{stepping, item-walks}
 use Rattle.survey.proofs.step.item_row.Goals as goal
 
 pub behind_item-requires : goal.behind_item-requires
-behind_item-requires c = search (item-walks, rules)
+behind_item-requires c = search (item-walks, rules, c.in_ok-next.was)
 
-pub returns-in-Wrong : goal.returns-in-Wrong
-returns-in-Wrong c = search stepping
+pub returns-in_err-next : goal.returns-in_err-next
+returns-in_err-next c =
+    let p = err_from_is_err_and c.from_residual.result c.from_residual.ensures.1 in
+    rw (p.1, p.2) (search (stepping, c.in_err-next.was))
 
-pub returns-in-On : goal.returns-in-On
-returns-in-On c = search stepping
+pub returns : goal.returns
+returns c = search (stepping, c.in_ok-next.was)
