@@ -4,28 +4,23 @@
 #![tactic(auto)]
 
 use calendar::term::Banks;
-use numeral::field::{NumAt, Passed};
+use refusal::Refusal;
 use sheet::Sheet;
 
 const TODAY: u64 = 20180101;
 
-fn refused(n: u64) {
+fn refused(refusal: Refusal) {
     io::write_all(1, b"refused ");
-    io::print_decimal(1, n);
+    io::print_decimal(1, refusal.number());
 }
 
-fn show_account(sh: Sheet, f: &[u8]) {
-    match account::at::judge_account(f, 0, sh.joined, sh.basemin) {
-        Passed::Refused(n) => {
-            refused(n);
-        }
-        Passed::At(end) => {
-            if end < f.len() {
-                let a = account::at::take_account(f, 0, sh.joined, sh.basemin);
-                spell_account(a.prefix, a.base);
-            }
-        }
+fn show_account(sh: Sheet, f: &[u8]) -> Result<(), Refusal> {
+    let end = account::at::judge_account(f, 0, sh.joined, sh.basemin)?;
+    if end < f.len() {
+        let a = account::at::take_account(f, 0, sh.joined, sh.basemin);
+        spell_account(a.prefix, a.base);
     }
+    Ok(())
 }
 
 fn spell_account(prefix: u64, base: u64) {
@@ -36,75 +31,56 @@ fn spell_account(prefix: u64, base: u64) {
     }
 }
 
-fn show_amount(sh: Sheet, f: &[u8]) {
+fn show_amount(sh: Sheet, f: &[u8]) -> Result<(), Refusal> {
     let limits = sh.limits();
     let most = limits.digits;
-    if 19 < most {
-        return;
+    if most <= 19 {
+        let amount = amount::at::amount_at(f, 0, sh.comma, most, limits.amount)?;
+        io::print_decimal(1, amount.value);
     }
-    match amount::at::amount_at(f, 0, sh.comma, most, limits.amount) {
-        NumAt::Refused(n) => {
-            refused(n);
-        }
-        NumAt::Value(v, end) => {
-            io::print_decimal(1, v);
-        }
-    }
+    Ok(())
 }
 
-fn show_date(sh: Sheet, f: &[u8]) {
+fn show_date(sh: Sheet, f: &[u8]) -> Result<(), Refusal> {
     if calendar::real_day(TODAY) {
         let limits = sh.limits();
-        match calendar::at::due_at(f, 0, sh.longdate, true, sh.early, limits.ahead, TODAY) {
-            NumAt::Refused(n) => {
-                refused(n);
-            }
-            NumAt::Value(d, end) => {
-                let mut out = [0; 6];
-                calendar::put_day(&mut out, 0, d);
-                io::write_all(1, &out);
-            }
-        }
+        let day = calendar::at::due_at(f, 0, sh.longdate, true, sh.early, limits.ahead, TODAY)?;
+        let mut out = [0; 6];
+        calendar::put_day(&mut out, 0, day.value);
+        io::write_all(1, &out);
     }
+    Ok(())
 }
 
-fn show_bank(sh: Sheet, f: &[u8]) {
-    match bank::at::judge_bank(f, 0, sh.priority, sh.bank_code(), Banks::Any) {
-        NumAt::Refused(n) => {
-            refused(n);
-        }
-        NumAt::Value(warnings, end) => {
-            let x = bank::at::take_bank(f, 0, sh.priority);
-            spell_bank(x.bank, x.constant, x.priority);
-            if 0 < warnings {
-                io::write_all(1, b" (with a warning)");
-            }
-        }
+fn show_bank(sh: Sheet, f: &[u8]) -> Result<(), Refusal> {
+    let judged = bank::at::judge_bank(f, 0, sh.priority, sh.bank_code(), Banks::Any)?;
+    let x = bank::at::take_bank(f, 0, sh.priority);
+    spell_bank(x.bank, x.constant, x.priority);
+    if 0 < judged.warnings {
+        io::write_all(1, b" (with a warning)");
     }
+    Ok(())
 }
 
 fn spell_bank(bank: u64, constant: u64, priority: u64) {
     let mut out = [0; 64];
-    if bank::bank_len(priority) <= 64 {
-        if bank <= 9999 {
-            if constant <= 9999 {
-                if priority <= 9 {
-                    let end = bank::put_bank(&mut out, 0, bank, constant, priority);
-                    io::write_all(1, &out[0..end]);
-                }
-            }
-        }
+    if bank::bank_len(priority) <= 64 && bank <= 9999 && constant <= 9999 && priority <= 9 {
+        let end = bank::put_bank(&mut out, 0, bank, constant, priority);
+        io::write_all(1, &out[0..end]);
     }
 }
 
-fn show(sh: Sheet, what: u8, f: &[u8]) {
+// Shows a field by the letters of a sheet and of the field.
+fn show(letter: u8, what: u8, f: &[u8]) -> Result<(), Refusal> {
+    let sh = sheet::sheet_by(letter).ok_or(Refusal::BadSheet)?;
     match what {
-        65 => show_account(sh, f),
-        66 => show_bank(sh, f),
-        68 => show_date(sh, f),
-        77 => show_amount(sh, f),
+        b'A' => show_account(sh, f),
+        b'B' => show_bank(sh, f),
+        b'D' => show_date(sh, f),
+        b'M' => show_amount(sh, f),
         _ => {
             io::write_all(1, b"no such field");
+            Ok(())
         }
     }
 }
@@ -115,9 +91,8 @@ fn answer(line: &[u8]) {
         io::write_all(1, b"no such field\n");
         return;
     }
-    match sheet::sheet_by(line[end + 1]) {
-        None => refused(1),
-        Some(sh) => show(sh, line[end + 2], line),
+    if let Err(refusal) = show(line[end + 1], line[end + 2], line) {
+        refused(refusal);
     }
     io::write_all(1, b"\n");
 }

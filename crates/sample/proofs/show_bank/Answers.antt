@@ -4,4 +4,4 @@ use Rattle.bank.proofs.at.Steps.{bank-says}
 use Rattle.sample.proofs.show_bank.Goals as goal
 
 pub take_bank-x-requires : goal.take_bank-x-requires
-take_bank-x-requires c = search (bank-says, rules)
+take_bank-x-requires c = search (bank-says, rules, c.in_ok-judged.was)
