@@ -1,5 +1,7 @@
 -- How the functions of rewriting end, with what the code knows at each. Assumes nothing.
-use Rattle.std.proofs.Common.{Some}
+use Rattle.std.proofs.Common.{Some, Result, Ok, Err}
+use Rattle.refusal.specs.declared.Refusal.{Refusal}
+use Rattle.refusal.specs.Numbers.{number_of}
 use mathlib.Core.Path.{◌≡◌, sym, ap, ◌∙◌}
 use mathlib.Core.Bool.{true}
 use mathlib.Core.List.{List}
@@ -19,7 +21,6 @@ use Rattle.paper.specs.Rewriting.{rewritten, rewriting}
 use Rattle.read.specs.declared.AboAnswer.{AboAnswer}
 use Rattle.read.specs.Told.{told_header, told}
 use Rattle.rewriting.specs.declared.request.Request.{Request}
-use Rattle.rewriting.specs.declared.request.Request.TheVariants as request
 use Rattle.rewriting.specs.request.Asked.{answer, Sound}
 use Rattle.bounds.specs.Most.{most_input, most_rows, most_output}
 use Rattle.numeral.specs.counted.Counted.{Counted}
@@ -76,30 +77,33 @@ pub ruleset files = (line_wrote, rows_few, written_back, refused-line)
 
 -- ---- rewrite: q is the request
 
-module _ (f : List ℕ) (q : Request) (g : answer f q ≡ rewriting f) (sound : Sound f q) where
-  pub no-file : (n : ℕ) → q ≡ request.Refused n → (o o' : List ℕ) (r : ℕ) → Wrote o 0 (refused_line n 0 0) o' r → Wrote o 0 (rewriting f) o' r
-  no-file n e o o' r w = let h : answer f (request.Refused n) ≡ rewriting f = rw e at g in wrote-same o (refused_line n 0 0) (rewriting f) o' r h w
+module _ (f : List ℕ) (q : Result Request Refusal) (g : answer f q ≡ rewriting f) (sound : Sound f q) where
+  -- n is the number of the refusal
+  pub no-file : (x : Refusal) → q ≡ Err x → (n : ℕ) → n ≡ number_of x → (o o' : List ℕ) (r : ℕ) → Wrote o 0 (refused_line n 0 0) o' r → Wrote o 0 (rewriting f) o' r
+  no-file x e n i o o' r w =
+      let h : answer f (Err x) ≡ rewriting f = rw e at g in
+      wrote-same o (refused_line n 0 0) (rewriting f) o' r (ap (λ (m : ℕ). refused_line m 0 0) i ∙ h) w
 
-  module _ (sh : Sheet) (today at : ℕ) (e : q ≡ request.File sh today at) where
-    said : Sound f (request.File sh today at)
+  module _ (x : Request) (e : q ≡ Ok x) where
+    said : Sound f (Ok x)
     said = rw e at sound
 
-    pub file-place : at ≤ length f
+    pub file-place : x.at ≤ length f
     file-place = said.2
 
-    pub file-sheet : sheet_of sh.number ≡ Some sh
+    pub file-sheet : sheet_of x.sh.number ≡ Some x.sh
     file-sheet = said.0
 
-    pub file-day : real_day today ≡ true
+    pub file-day : real_day x.today ≡ true
     file-day = said.1
 
-    pub file-small : length (take (length f - at) (drop at f)) ≤ most_input
-    file-small = rw (rest-whole f at) (let l : length f ≤ 8192 = said.3 in omega (arith, l, length-drop at f))
+    pub file-small : length (take (length f - x.at) (drop x.at f)) ≤ most_input
+    file-small = rw (rest-whole f x.at) (let l : length f ≤ 8192 = said.3 in omega (arith, l, length-drop x.at f))
 
-    pub file-rewritten : (o o' : List ℕ) (r : ℕ) → Wrote o 0 (rewritten sh (judge sh today (take (length f - at) (drop at f)))) o' r → Wrote o 0 (rewriting f) o' r
+    pub file-rewritten : (o o' : List ℕ) (r : ℕ) → Wrote o 0 (rewritten x.sh (judge x.sh x.today (take (length f - x.at) (drop x.at f)))) o' r → Wrote o 0 (rewriting f) o' r
     file-rewritten o o' r w =
-        let h : answer f (request.File sh today at) ≡ rewriting f = rw e at g in
-        let v : Wrote o 0 (rewritten sh (judge sh today (drop at f))) o' r = rw (rest-whole f at) at w in
-        wrote-same o (rewritten sh (judge sh today (drop at f))) (rewriting f) o' r h v
+        let h : answer f (Ok x) ≡ rewriting f = rw e at g in
+        let v : Wrote o 0 (rewritten x.sh (judge x.sh x.today (drop x.at f))) o' r = rw (rest-whole f x.at) at w in
+        wrote-same o (rewritten x.sh (judge x.sh x.today (drop x.at f))) (rewriting f) o' r h v
 
 pub ruleset requests = (line_wrote, no-file, file-place, file-sheet, file-day, file-small, file-rewritten)

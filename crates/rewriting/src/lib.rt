@@ -13,7 +13,6 @@ ghost use Rattle.paper.specs.Rewriting.{rewritten, rewriting};
 ghost use Rattle.read.specs.Told.{told_header};
 ghost use Rattle.bounds.specs.Most.{most_input, most_rows, most_output};
 
-use crate::request::Request;
 use read::AboHeader;
 use sheet::Sheet;
 
@@ -55,7 +54,7 @@ pub fn rewrite(input: &[u8], rows: &mut [u8], out: &mut [u8]) -> usize
     ensures { Wrote out.old 0 (rewriting input.now) out.new result }
 {
     match crate::request::read_request(input) {
-        Request::Refused(n) => verdict::put_refused(out, 0, n, 0, 0),
-        Request::File { sh, today, at } => rewrite_file(&input[at..], sh, today, rows, out),
+        Ok(asked) => rewrite_file(&input[asked.at..], asked.sh, asked.today, rows, out),
+        Err(refusal) => verdict::put_refused(out, 0, refusal.number(), 0, 0),
     }
 }

@@ -1,5 +1,7 @@
 -- What the first line asks for, at each return of the functions that read it. Assumes nothing.
-use Rattle.std.proofs.Common.{Option, Some, None}
+use Rattle.std.proofs.Common.{Option, Some, None, Result, Ok, Err}
+use Rattle.refusal.specs.declared.Refusal.{Refusal}
+use Rattle.refusal.specs.Numbers.{number_of}
 use mathlib.Core.Path.{◌≡◌, refl, sym, ap, ◌∙◌}
 use mathlib.Core.Bool.{true, false}
 use mathlib.Core.List.{List, [], ◌∷◌}
@@ -19,8 +21,6 @@ use Rattle.paper.specs.Days.{real_day, read_day, short_day}
 use Rattle.paper.specs.Judge.{judge}
 use Rattle.paper.specs.Explaining.{refused_line}
 use Rattle.paper.specs.Rewriting.{first_line, behind_first, rewritten, on_day, day_field, on_sheet, on_letter, rewriting}
-use Rattle.numeral.specs.declared.Num.{Num}
-use Rattle.numeral.specs.declared.Num.TheVariants as num
 use Rattle.numeral.specs.Told.{told}
 use Rattle.calendar.proofs.Sound.{day-sound}
 use Rattle.scan.specs.declared.line.Cut.{Cut}
@@ -51,11 +51,11 @@ module _ (s : List ℕ) where
       other (x ∷ t) some n = sym (pick-false _ _ (ne_eqb x 32 n))
 
   -- n is what read_day answered for what stands behind the space
-  pub today-read : (length s ≡ 0 → ⊥) → get_or s 0 0 ≡ 32 → (n : Num) → told n ≡ read_day false (take (length s - 1) (drop 1 s)) → told n ≡ day_field s
+  pub today-read : (length s ≡ 0 → ⊥) → get_or s 0 0 ≡ 32 → (n : Result ℕ Refusal) → told n ≡ read_day false (take (length s - 1) (drop 1 s)) → told n ≡ day_field s
   unfolding day_field
   today-read = read s
     where
-      read : (t : List ℕ) → (length t ≡ 0 → ⊥) → get_or t 0 0 ≡ 32 → (n : Num) → told n ≡ read_day false (take (length t - 1) (drop 1 t)) → told n ≡ day_field t
+      read : (t : List ℕ) → (length t ≡ 0 → ⊥) → get_or t 0 0 ≡ 32 → (n : Result ℕ Refusal) → told n ≡ read_day false (take (length t - 1) (drop 1 t)) → told n ≡ day_field t
       read [] some e n g = absurd (some refl)
       read (x ∷ t) some e n g =
           let all : take (length (x ∷ t) - 1) t ≡ t = take_all (length (x ∷ t) - 1) t (omega arith) in
@@ -123,14 +123,14 @@ module _ (f : List ℕ) (sh : Sheet) (r : Cut) (some : 0 < length f) (named : sh
   ask-known = number_same (get_or f 0 0) sh named
 
   -- n is what read_today answered
-  module _ (n : Num) (g : told n ≡ day_field (take (r.stop - 1) (drop 1 f))) where
-    pub ask-no-day : (e : ℕ) → n ≡ num.Refused e → refused_line 2 0 0 ≡ rewriting f
+  module _ (n : Result ℕ Refusal) (g : told n ≡ day_field (take (r.stop - 1) (drop 1 f))) where
+    pub ask-no-day : (e : Refusal) → n ≡ Err e → refused_line 2 0 0 ≡ rewriting f
     unfolding on_day
     ask-no-day e q =
-        let d : day_field (take (r.stop - 1) (drop 1 f)) ≡ fault e = sym g ∙ ap told q in
+        let d : day_field (take (r.stop - 1) (drop 1 f)) ≡ fault (number_of e) = sym g ∙ ap told q in
         sym ((asked f sh r some named cut).by_day ∙ ap (on_day sh f) d)
 
-    module _ (today : ℕ) (q : n ≡ num.Value today) where
+    module _ (today : ℕ) (q : n ≡ Ok today) where
       day : day_field (take (r.stop - 1) (drop 1 f)) ≡ value today
       day = sym g ∙ ap told q
 

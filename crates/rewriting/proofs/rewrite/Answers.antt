@@ -15,8 +15,8 @@ slice_bounds-rewrite_file-start c = search (requests, rules)
 pub rewrite_file-requires : goal.rewrite_file-requires
 rewrite_file-requires c = search (requests, rules)
 
-pub returns-in-Refused : goal.returns-in-Refused
-returns-in-Refused c = search requests
+pub returns-in-Err : goal.returns-in-Err
+returns-in-Err c = search requests
 
-pub returns-in-File : goal.returns-in-File
-returns-in-File c = search requests
+pub returns-in-Ok : goal.returns-in-Ok
+returns-in-Ok c = search requests

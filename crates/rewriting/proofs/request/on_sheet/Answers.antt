@@ -12,8 +12,8 @@ slice_bounds-read_today-start c = search (exits, rules)
 pub returns-then-input-gt8192 : goal.returns-then-input-gt8192
 returns-then-input-gt8192 c = search exits depth 8
 
-pub returns-in-Refused : goal.returns-in-Refused
-returns-in-Refused c = search exits depth 8
+pub returns-in_default : goal.returns-in_default
+returns-in_default c = search exits depth 8
 
-pub returns-else-input-gt8192 : goal.returns-else-input-gt8192
-returns-else-input-gt8192 c = search exits depth 8
+pub returns : goal.returns
+returns c = search exits depth 8

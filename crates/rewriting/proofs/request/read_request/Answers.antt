@@ -9,5 +9,5 @@ returns-then-input-eq0 c = search exits depth 8
 pub on_sheet-requires : goal.on_sheet-requires
 on_sheet-requires c = search (exits, rules)
 
-pub returns-in-None : goal.returns-in-None
-returns-in-None c = search exits depth 8
+pub returns-in_default : goal.returns-in_default
+returns-in_default c = search exits depth 8
