@@ -1,13 +1,16 @@
--- Texts counted: of several parts one after another, and by a test. Assumes nothing.
-use mathlib.Core.Path.{◌≡◌, sym, ◌∙◌}
+-- Texts counted: of several parts one after another, digit after digit, and by a test. Assumes nothing.
+use mathlib.Core.Path.{◌≡◌, refl, sym, ◌∙◌}
 use mathlib.Core.Bool.{Bool, true, false}
-use mathlib.Core.List.{List, ◌++◌}
-use Prim.Native.Nat.{ℕ, ◌<◌, ◌≤◌}
+use mathlib.Core.List.{List, [], ◌∷◌, ◌++◌}
+use Prim.Native.Nat.{ℕ, zero, suc, ◌+◌, ◌-◌, ◌/◌, ◌%◌, ◌<◌, ◌≤◌}
+use native.Mathlib.Omega.{arith}
 use lib.Dec.{eqb, ltb}
 use borrow.Author.Tests.{eq-eqb, ne_eqb, lt-ltb, le-ltb}
 use Rattle.base.specs.Pick.{pick}
 use Rattle.base.proofs.Cases.{pick_true, pick-false}
+use Rattle.paper.specs.Numerals.{fixed, fixed_on}
 use Rattle.numeral.specs.counted.Counted.{Counted}
+use Rattle.numeral.proofs.Fixed.{fixed-append}
 use Rattle.numeral.proofs.counted.Laws.{counted-nothing, ◌counted-then◌}
 
 -- ---- parts: t is the whole, however its parts are bracketed
@@ -19,6 +22,21 @@ module _ {o o1 o2 t x y : List ℕ} {at d e : ℕ} (v : Counted o at x o1 d) (w 
   module _ {o3 z : List ℕ} {f : ℕ} (u : Counted o2 e z o3 f) where
     pub in_three : x ++ (y ++ z) ≡ t → Counted o at t o3 f
     in_three is = rw (← is) (v counted-then w counted-then u)
+
+-- ---- the last k digits of n
+
+module _ (n : ℕ) {o : List ℕ} {at : ℕ} where
+  pub no_digits : (k : ℕ) → k ≡ 0 → Counted o at (fixed k n) o at
+  unfolding fixed fixed_on
+  no_digits k e = rw e counted-nothing
+
+  pub last_digit : (k : ℕ) {o1 o2 : List ℕ} {e r : ℕ} → (k ≡ 0 → ⊥) → Counted o at (fixed (k - 1) (n / 10)) o1 e → Counted o1 e ((48 + n % 10) ∷ []) o2 r
+      → Counted o at (fixed k n) o2 r
+  unfolding fixed fixed_on
+  last_digit zero d v w = absurd (d refl)
+  last_digit (suc k) d v w = let e : suc k - 1 ≡ k = omega arith in in_two (rw e at v) w (fixed-append k (n / 10) [] ((48 + n % 10) ∷ []))
+
+pub ruleset digit_by_digit = (no_digits, last_digit)
 
 -- ---- tests
 

@@ -7,7 +7,7 @@ ghost use Rattle.sentences.specs.Phrases.{said, fields};
 ghost use Rattle.sentences.specs.Allowed.{dated, numbered, from_day, at_most, allowed_count, allowed_day, allowed_number, allowed};
 
 use crate::figures::{
-    put_and_date, put_and_number, put_at_most, put_four, put_from_day, put_numbered, put_ranged,
+    put_and_date, put_and_number, put_at_most, put_fixed, put_from_day, put_numbered, put_ranged,
 };
 use numeral::counted::put_bytes;
 use sheet::Sheet;
@@ -86,7 +86,7 @@ fn put_allowed_number(out: &mut [u8], at: usize, today: u64, cause: u64, a: u64,
         60 => put_ranged(out, at, a, b),
         61 => put_ranged(out, at, a, b),
         70 => put_ranged(out, at, a, b),
-        80 => put_four(out, at, a),
+        80 => put_fixed(out, at, 4, a),
         90 => put_numbered(out, at, a, b),
         91 => put_first_digits(out, at, a, b),
         100 => put_and_number(out, at, b"the sum of the items, ", a),

@@ -7,35 +7,15 @@ ghost use Rattle.sentences.specs.Allowed.{dated, ranged, some_digits, numbered, 
 
 use numeral::counted::{put_byte, put_bytes, put_number};
 
-// The last digit of n,
-fn put_digit(out: &mut [u8], at: usize, n: u64) -> usize
-    ensures { Counted out.old at (fixed 1 n) out.new result }
+// The last k digits of n, zeros in front.
+pub fn put_fixed(out: &mut [u8], at: usize, k: usize, n: u64) -> usize
+    ensures { Counted out.old at (fixed k n) out.new result }
 {
-    put_byte(out, at, 48 + (n % 10) as u8)
-}
-
-// .. its last two,
-fn put_two(out: &mut [u8], at: usize, n: u64) -> usize
-    ensures { Counted out.old at (fixed 2 n) out.new result }
-{
-    let e = put_digit(out, at, n / 10);
-    put_digit(out, e, n)
-}
-
-// .. three,
-fn put_three(out: &mut [u8], at: usize, n: u64) -> usize
-    ensures { Counted out.old at (fixed 3 n) out.new result }
-{
-    let e = put_two(out, at, n / 10);
-    put_digit(out, e, n)
-}
-
-// .. four.
-pub fn put_four(out: &mut [u8], at: usize, n: u64) -> usize
-    ensures { Counted out.old at (fixed 4 n) out.new result }
-{
-    let e = put_three(out, at, n / 10);
-    put_digit(out, e, n)
+    if k == 0 {
+        return at;
+    }
+    let e = put_fixed(out, at, k - 1, n / 10);
+    put_byte(out, e, 48 + (n % 10) as u8)
 }
 
 // A dash and the last two digits of n.
@@ -43,14 +23,14 @@ fn put_dashed(out: &mut [u8], at: usize, n: u64) -> usize
     ensures { Counted out.old at (dash ++ fixed 2 n) out.new result }
 {
     let e = put_byte(out, at, 45);
-    put_two(out, e, n)
+    put_fixed(out, e, 2, n)
 }
 
 // A day as YYYY-MM-DD.
 fn put_date(out: &mut [u8], at: usize, day: u64) -> usize
     ensures { Counted out.old at (dated day) out.new result }
 {
-    let d = put_four(out, at, day / 10000);
+    let d = put_fixed(out, at, 4, day / 10000);
     let e = put_dashed(out, d, day / 100 % 100);
     put_dashed(out, e, day % 100)
 }
@@ -87,9 +67,9 @@ pub fn put_some_digits(out: &mut [u8], at: usize, a: u64, b: u64) -> usize
 pub fn put_numbered(out: &mut [u8], at: usize, a: u64, b: u64) -> usize
     ensures { Counted out.old at (numbered a b) out.new result }
 {
-    let d = put_three(out, at, a);
+    let d = put_fixed(out, at, 3, a);
     let e = put_bytes(out, d, b" to ");
-    put_three(out, e, b)
+    put_fixed(out, e, 3, b)
 }
 
 // A text and a day behind it.

@@ -53,10 +53,8 @@ fn put_each(out: &mut [u8], at: usize, s: &[u8]) -> usize
     ensures { Counted out.old at (quoted_bytes s.now) out.new result }
 {
     let mut next = at;
-    let mut i = 0;
-    while i < s.len() {
-        next = put_quoted_byte(out, next, s[i]);
-        i += 1;
+    for &x in s {
+        next = put_quoted_byte(out, next, x);
     }
     next
 }

@@ -51,13 +51,10 @@ module _ (s : List ℕ) {o : List ℕ} {at : ℕ} where
         → Counted o at (quoted_bytes (take (i + 1) s)) o2 r
     each_more h v = rw (add-one, take-suc s i 0 h, each_append, each-one) (w counted-then v)
 
-    pub each_all : length s ≤ i → Counted o at (quoted_bytes s) o1 e
-    each_all h = rw (take_all i s h) at w
-
   pub first-all : {o1 : List ℕ} {r : ℕ} → length s ≤ 60 → Counted o at (quoted_bytes s) o1 r → Counted o at (quoted_bytes (take 60 s)) o1 r
   first-all h w = rw (take_all 60 s h) w
 
-pub ruleset each = (each_none, each_more, each_all, first-all, first_counted)
+pub ruleset each = (each_none, each_more, first-all, first_counted)
 
 -- ---- none
 
