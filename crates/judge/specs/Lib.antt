@@ -1,3 +1,4 @@
 pub mod group
 pub mod accountfile
 pub mod file
+pub mod refused

@@ -1,5 +1,5 @@
 // The account file's own lines: its first one, its last one, and the lines that begin a group, each with where reading stands behind it.
-ghost use Rattle.std.specs.Prelude.{◌≡◌, true, ℕ, ◌-◌, ◌≤◌, ◌<◌, length, take, drop};
+ghost use Rattle.std.specs.Prelude.{◌≡◌, true, ℕ, ◌-◌, ◌≤◌, ◌<◌, Ok, length, take, drop};
 ghost use Rattle.sheet.proofs.Laws.{Sane};
 ghost use Rattle.paper.specs.Days.{real_day};
 ghost use Rattle.paper.specs.Entries.{file_line, group_line, file_end, kind_of};
@@ -7,11 +7,10 @@ ghost use Rattle.scan.specs.line.Cutting.{Cuts};
 ghost use Rattle.judge.specs.group.Stands.{LowGroup, line_in, Begun};
 ghost use Rattle.judge.specs.accountfile.Resume.{file_more, new_shelf, NewHeld, Opens, Good, Grouped, Moved, Ends, Stepped};
 
-use crate::group::{Counts, GroupEnd, Held, Open, Shelf};
-use closing::CloseRead;
-use fileline::FileRead;
+use crate::group::{Counts, Held, Open, Shelf};
+use crate::refused::{Refused, byte_in, lined};
 use fileline::seen::Seen;
-use groupline::GroupRead;
+use refusal::Refusal;
 use scan::kind::LineKind;
 use scan::line::Cut;
 use sheet::Sheet;
@@ -22,21 +21,24 @@ use sheet::Sheet;
 pub enum Left {
     File(usize, u64, Counts),
     Group(usize, u64, Counts, Shelf),
-    Refused(u64, u64, u64),
     Accepted(u64, u64),
 }
 
 // ---- an account file
 
 // The file ends where an account file may begin.
-fn end_file(at: usize, line: u64, counts: Counts) -> Left
+fn end_file(at: usize, line: u64, counts: Counts) -> Result<Left, Refused>
     ensures { Ends at line counts result }
 {
     let files = counts.files;
     if files == 0 {
-        return Left::Refused(3, line, at as u64);
+        return Err(Refused {
+            refusal: Refusal::BadOrder,
+            line,
+            byte: at as u64,
+        });
     }
-    Left::Accepted(counts.rows, counts.warnings)
+    Ok(Left::Accepted(counts.rows, counts.warnings))
 }
 
 // An account file of this kind that has nothing yet.
@@ -63,7 +65,8 @@ pub fn file_more(counts: Counts) -> Counts
     }
 }
 
-// A line that begins an account file, which is known as one. 15 comes before its fields. Its number's first three digits are put to those seen.
+// A line that begins an account file, which is known as one. That there are too many comes before its fields. Its number's first three digits
+// are put to those seen.
 fn open_file(
     f: &[u8],
     sh: Sheet,
@@ -74,31 +77,36 @@ fn open_file(
     to: u64,
     counts: Counts,
     seen: &mut [u64; 16],
-) -> Left
+) -> Result<Left, Refused>
     requires sane { Sane sh }
-    requires good { Good f.now (Left.File at line counts) }
+    requires good { Good f.now (Ok (Left.File at line counts)) }
     requires cuts { Cuts f.now at cut }
     requires f_value { kind_of (take (cut.stop - at) (drop at f.now)) ≡ file_line }
-    ensures { Stepped sh from to f.now (Left.File at line counts) seen.old seen.new result }
+    ensures { Stepped sh from to f.now (Ok (Left.File at line counts)) seen.old seen.new result }
 {
     let files = counts.files;
     if 1000 <= files {
-        return Left::Refused(15, line, at as u64);
+        return Err(Refused {
+            refusal: Refusal::TooMany,
+            line,
+            byte: at as u64,
+        });
     }
     let stop = cut.stop;
-    let words = *seen;
-    let set = Seen { words: words };
-    match fileline::file_line(&f[at..stop], sh, from, to, set) {
-        FileRead::File { kind, number } => {
-            fileline::seen::mark(seen, set, number / 1000);
-            let following = line + 1;
-            Left::Group(cut.next, following, file_more(counts), new_shelf(kind))
-        }
-        FileRead::Refused(n, off) => {
-            let byte = crate::group::byte_in(at, off, stop);
-            Left::Refused(n, line, byte)
-        }
-    }
+    let set = Seen { words: *seen };
+    let opened = lined(
+        fileline::file_line(&f[at..stop], sh, from, to, set),
+        line,
+        at,
+        stop,
+    )?;
+    fileline::seen::mark(seen, set, opened.number / 1000);
+    Ok(Left::Group(
+        cut.next,
+        line + 1,
+        file_more(counts),
+        new_shelf(opened.kind),
+    ))
 }
 
 // The line of an account file, or the end of the file.
@@ -111,10 +119,10 @@ pub fn file_step(
     to: u64,
     counts: Counts,
     seen: &mut [u64; 16],
-) -> Left
+) -> Result<Left, Refused>
     requires sane { Sane sh }
-    requires good { Good f.now (Left.File at line counts) }
-    ensures { Stepped sh from to f.now (Left.File at line counts) seen.old seen.new result }
+    requires good { Good f.now (Ok (Left.File at line counts)) }
+    ensures { Stepped sh from to f.now (Ok (Left.File at line counts)) seen.old seen.new result }
 {
     if f.len() <= at {
         return end_file(at, line, counts);
@@ -123,22 +131,15 @@ pub fn file_step(
     let stop = cut.stop;
     match scan::kind::kind_of(&f[at..stop]) {
         LineKind::File => open_file(f, sh, at, line, cut, from, to, counts, seen),
-        LineKind::Head => Left::Refused(3, line, at as u64),
-        LineKind::Group => Left::Refused(3, line, at as u64),
-        LineKind::Item => Left::Refused(3, line, at as u64),
-        LineKind::GroupEnd => Left::Refused(3, line, at as u64),
-        LineKind::FileEnd => Left::Refused(3, line, at as u64),
+        _ => Err(Refused {
+            refusal: Refusal::BadOrder,
+            line,
+            byte: at as u64,
+        }),
     }
 }
 
 // ---- a group
-
-// What a group's line leads to: an open group, with what judging keeps in it; or a refusal's number and its byte.
-#[derive(Clone, Copy)]
-pub enum Opening {
-    Group(Held),
-    Refused(u64, u64),
-}
 
 // A group that has no item yet: the counts with it and its line's warnings, and its total with the line and byte where it stands.
 fn group_held(
@@ -176,7 +177,7 @@ fn group_held(
     }
 }
 
-// A line that begins a group, which is known as one: the bytes of the file from `at` to `stop`.
+// A line that begins a group, which is known as one: the bytes of the file from `at` to `stop`. It leads to an open group.
 pub fn group_opening(
     f: &[u8],
     sh: Sheet,
@@ -186,7 +187,7 @@ pub fn group_opening(
     line: u64,
     counts: Counts,
     shelf: Shelf,
-) -> Opening
+) -> Result<Held, Refused>
     requires f_value { kind_of (take (stop - at) (drop at f.now)) ≡ group_line }
     requires low_group { LowGroup counts shelf }
     requires today_value { real_day today ≡ true }
@@ -194,39 +195,40 @@ pub fn group_opening(
     ensures { Opens sh today (line_in f.now at stop) line counts shelf result }
 {
     let here = calendar::term::day_here(sh, shelf.kind);
-    match groupline::group_line(&f[at..stop], sh, today, here) {
-        GroupRead::Group {
-            single,
-            total,
-            date,
-            warnings,
-            spot,
-        } => {
-            let byte = crate::group::byte_in(at, spot, stop);
-            Opening::Group(group_held(counts, shelf, warnings, single, date, total, line, byte))
-        }
-        GroupRead::Refused(n, off) => {
-            let byte = crate::group::byte_in(at, off, stop);
-            Opening::Refused(n, byte)
-        }
-    }
+    let group = lined(
+        groupline::group_line(&f[at..stop], sh, today, here),
+        line,
+        at,
+        stop,
+    )?;
+    let byte = byte_in(at, group.spot, stop);
+    Ok(group_held(
+        counts,
+        shelf,
+        group.warnings,
+        group.single,
+        group.date,
+        group.total,
+        line,
+        byte,
+    ))
 }
 
 // The items of a group, and where reading stands behind it.
-fn whole_group(f: &[u8], sh: Sheet, today: u64, at: usize, line: u64, held: Held) -> Left
+fn whole_group(
+    f: &[u8],
+    sh: Sheet,
+    today: u64,
+    at: usize,
+    line: u64,
+    held: Held,
+) -> Result<Left, Refused>
     requires sane { Sane sh × (real_day today ≡ true) }
     requires begun { Begun f.now at line held }
     ensures { Grouped sh today f.now at line held result }
 {
-    match crate::group::group_items(f, sh, today, at, line, held) {
-        GroupEnd::Closed {
-            at,
-            line,
-            counts,
-            shelf,
-        } => Left::Group(at, line, counts, shelf),
-        GroupEnd::Stop(n, line, byte) => Left::Refused(n, line, byte),
-    }
+    let end = crate::group::group_items(f, sh, today, at, line, held)?;
+    Ok(Left::Group(end.at, end.line, end.counts, end.shelf))
 }
 
 // A line that begins a group, which is known as one, and the whole group.
@@ -239,20 +241,15 @@ fn open_group(
     cut: Cut,
     counts: Counts,
     shelf: Shelf,
-) -> Left
+) -> Result<Left, Refused>
     requires sane { Sane sh × (real_day today ≡ true) }
-    requires good { Good f.now (Left.Group at line counts shelf) }
+    requires good { Good f.now (Ok (Left.Group at line counts shelf)) }
     requires cuts { Cuts f.now at cut }
     requires f_value { kind_of (take (cut.stop - at) (drop at f.now)) ≡ group_line }
-    ensures { Moved sh today f.now (Left.Group at line counts shelf) result }
+    ensures { Moved sh today f.now (Ok (Left.Group at line counts shelf)) result }
 {
-    match group_opening(f, sh, today, at, cut.stop, line, counts, shelf) {
-        Opening::Group(held) => {
-            let following = line + 1;
-            whole_group(f, sh, today, cut.next, following, held)
-        }
-        Opening::Refused(n, byte) => Left::Refused(n, line, byte),
-    }
+    let held = group_opening(f, sh, today, at, cut.stop, line, counts, shelf)?;
+    whole_group(f, sh, today, cut.next, line + 1, held)
 }
 
 // A line that closes the account file, which is known as one.
@@ -264,28 +261,24 @@ fn close_file(
     cut: Cut,
     counts: Counts,
     shelf: Shelf,
-) -> Left
+) -> Result<Left, Refused>
     requires sane { Sane sh }
-    requires good { Good f.now (Left.Group at line counts shelf) }
+    requires good { Good f.now (Ok (Left.Group at line counts shelf)) }
     requires cuts { Cuts f.now at cut }
     requires f_value { kind_of (take (cut.stop - at) (drop at f.now)) ≡ file_end }
-    ensures { (today : ℕ) → Moved sh today f.now (Left.Group at line counts shelf) result }
+    ensures { (today : ℕ) → Moved sh today f.now (Ok (Left.Group at line counts shelf)) result }
 {
     let groups = shelf.groups;
     if groups == 0 {
-        return Left::Refused(3, line, at as u64);
+        return Err(Refused {
+            refusal: Refusal::BadOrder,
+            line,
+            byte: at as u64,
+        });
     }
     let stop = cut.stop;
-    match closing::close_line(&f[at..stop], sh.near) {
-        CloseRead::Closed => {
-            let following = line + 1;
-            Left::File(cut.next, following, counts)
-        }
-        CloseRead::Refused(n, off) => {
-            let byte = crate::group::byte_in(at, off, stop);
-            Left::Refused(n, line, byte)
-        }
-    }
+    lined(closing::close_line(&f[at..stop], sh.near), line, at, stop)?;
+    Ok(Left::File(cut.next, line + 1, counts))
 }
 
 // A whole group, or the line that closes the account file.
@@ -297,22 +290,27 @@ pub fn group_step(
     line: u64,
     counts: Counts,
     shelf: Shelf,
-) -> Left
+) -> Result<Left, Refused>
     requires sane { Sane sh × (real_day today ≡ true) }
-    requires good { Good f.now (Left.Group at line counts shelf) }
-    ensures { Moved sh today f.now (Left.Group at line counts shelf) result }
+    requires good { Good f.now (Ok (Left.Group at line counts shelf)) }
+    ensures { Moved sh today f.now (Ok (Left.Group at line counts shelf)) result }
 {
     if f.len() <= at {
-        return Left::Refused(3, line, at as u64);
+        return Err(Refused {
+            refusal: Refusal::BadOrder,
+            line,
+            byte: at as u64,
+        });
     }
     let cut = scan::line::next_line(f, at);
     let stop = cut.stop;
     match scan::kind::kind_of(&f[at..stop]) {
         LineKind::Group => open_group(f, sh, today, at, line, cut, counts, shelf),
         LineKind::FileEnd => close_file(f, sh, at, line, cut, counts, shelf),
-        LineKind::Head => Left::Refused(3, line, at as u64),
-        LineKind::File => Left::Refused(3, line, at as u64),
-        LineKind::Item => Left::Refused(3, line, at as u64),
-        LineKind::GroupEnd => Left::Refused(3, line, at as u64),
+        _ => Err(Refused {
+            refusal: Refusal::BadOrder,
+            line,
+            byte: at as u64,
+        }),
     }
 }

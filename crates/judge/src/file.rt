@@ -1,5 +1,5 @@
 // One pass over a whole file, which only judges: the first broken rule, or the header and the counts of rows and warnings.
-ghost use Rattle.std.specs.Prelude.{◌≡◌, true, List, ℕ, ◌-◌, ◌≤◌, length, take, drop};
+ghost use Rattle.std.specs.Prelude.{◌≡◌, true, List, ℕ, ◌-◌, ◌≤◌, Ok, length, take, drop};
 ghost use Rattle.sheet.proofs.Laws.{Sane};
 ghost use Rattle.paper.specs.Days.{real_day};
 ghost use Rattle.paper.specs.Entries.{head_line, kind_of};
@@ -8,41 +8,30 @@ ghost use Rattle.fileline.specs.seen.Bits.{Holds};
 ghost use Rattle.tally.specs.Tally.{seeded};
 ghost use Rattle.tally.specs.Short.{tally};
 ghost use Rattle.judge.specs.accountfile.Resume.{Good};
-ghost use Rattle.judge.specs.file.Answer.{Went, from_seen, told, Concluded, Kept};
+ghost use Rattle.judge.specs.file.Answer.{Went, from_seen, NameIn, told, terms_of, Concluded, Kept, KeptEnd};
 
 use crate::accountfile::Left;
 use crate::group::{Counts, Shelf};
+use crate::refused::{Refused, lined};
 use fileline::seen::Seen;
-use firstline::FirstRead;
+use firstline::Header;
+use refusal::Refusal;
 use scan::kind::LineKind;
 use scan::line::Cut;
 use sheet::Sheet;
 
-// The header. A name, if it has one, is the file's bytes 10 to 29.
+// An accepted file: its header, if the sheet reads one, and the counts of rows and warnings. The header's name is the file's bytes 10 to 29.
 #[derive(Clone, Copy)]
-pub struct Head {
-    pub date: u64,
-    pub client: u64,
-    pub from: u64,
-    pub to: u64,
-    pub named: bool,
+pub struct Accepted {
+    pub head: Option<Header>,
+    pub rows: u64,
+    pub warnings: u64,
 }
 
-// What a file comes to: a refusal's number, line and byte; or the header and the counts of rows and warnings.
-#[derive(Clone, Copy)]
-pub enum FileJudged {
-    Refused(u64, u64, u64),
-    Accepted {
-        head: Head,
-        rows: u64,
-        warnings: u64,
-    },
-}
-
-// What a file comes to, and the numbers seen by then.
+// An accepted file, and the numbers seen by its end.
 #[derive(Clone, Copy)]
 pub struct Ended {
-    pub judged: FileJudged,
+    pub accepted: Accepted,
     pub seen: Seen,
 }
 
@@ -54,15 +43,6 @@ struct Terms {
     from: u64,
     to: u64,
 }
-
-// The header where the sheet reads none.
-const PLAIN: Head = Head {
-    date: 0,
-    client: 0,
-    from: 0,
-    to: 0,
-    named: false,
-};
 
 // No account file yet.
 const NOTHING: Counts = Counts {
@@ -84,13 +64,13 @@ fn account_files(
     counts: Counts,
     seen: &mut [u64; 16],
     budget: u64,
-) -> Left
+) -> Result<Left, Refused>
     requires sane { Sane terms.sheet × (real_day terms.today ≡ true) }
-    requires good { Good f.now (Left.File at line counts) }
-    ensures { Went terms.sheet terms.today terms.from terms.to f.now (Left.File at line counts) budget seen.old seen.new result }
+    requires good { Good f.now (Ok (Left.File at line counts)) }
+    ensures { Went terms.sheet terms.today terms.from terms.to f.now (Ok (Left.File at line counts)) budget seen.old seen.new result }
 {
     if budget == 0 {
-        return Left::File(at, line, counts);
+        return Ok(Left::File(at, line, counts));
     }
     match crate::accountfile::file_step(
         f,
@@ -101,7 +81,7 @@ fn account_files(
         terms.to,
         counts,
         seen,
-    ) {
+    )? {
         Left::Group(next, number, opened, shelf) => groups(
             f,
             terms,
@@ -112,9 +92,7 @@ fn account_files(
             seen,
             budget - 1,
         ),
-        Left::File(next, number, more) => Left::File(next, number, more),
-        Left::Refused(n, number, byte) => Left::Refused(n, number, byte),
-        Left::Accepted(rows, warnings) => Left::Accepted(rows, warnings),
+        left => Ok(left),
     }
 }
 
@@ -129,20 +107,28 @@ fn groups(
     shelf: Shelf,
     seen: &mut [u64; 16],
     budget: u64,
-) -> Left
+) -> Result<Left, Refused>
     requires sane { Sane terms.sheet × (real_day terms.today ≡ true) }
-    requires good { Good f.now (Left.Group at line counts shelf) }
-    ensures { Went terms.sheet terms.today terms.from terms.to f.now (Left.Group at line counts shelf) budget seen.old seen.new result }
+    requires good { Good f.now (Ok (Left.Group at line counts shelf)) }
+    ensures { Went terms.sheet terms.today terms.from terms.to f.now (Ok (Left.Group at line counts shelf)) budget seen.old seen.new result }
 {
     if budget == 0 {
-        return Left::Group(at, line, counts, shelf);
+        return Ok(Left::Group(at, line, counts, shelf));
     }
     let mut at = at;
     let mut line = line;
     let mut counts = counts;
     let mut shelf = shelf;
     loop {
-        match crate::accountfile::group_step(f, terms.sheet, terms.today, at, line, counts, shelf) {
+        match crate::accountfile::group_step(
+            f,
+            terms.sheet,
+            terms.today,
+            at,
+            line,
+            counts,
+            shelf,
+        )? {
             Left::Group(next, number, more, held) => {
                 at = next;
                 line = number;
@@ -152,11 +138,8 @@ fn groups(
             Left::File(next, number, more) => {
                 return account_files(f, terms, next, number, more, seen, budget - 1);
             }
-            Left::Refused(n, number, byte) => {
-                return Left::Refused(n, number, byte);
-            }
             Left::Accepted(rows, warnings) => {
-                return Left::Accepted(rows, warnings);
+                return Ok(Left::Accepted(rows, warnings));
             }
         }
     }
@@ -164,107 +147,103 @@ fn groups(
 
 // ---- the file
 
+// What holds for the whole file behind a header. Where the sheet reads none, the interval is not asked for.
+fn terms_of(sheet: Sheet, today: u64, head: Option<Header>) -> Terms
+    ensures { result ≡ terms_of sheet today head }
+{
+    match head {
+        Some(header) => Terms {
+            sheet,
+            today,
+            from: header.from,
+            to: header.to,
+        },
+        None => Terms {
+            sheet,
+            today,
+            from: 0,
+            to: 0,
+        },
+    }
+}
+
 // Everything behind the first line, from `at` on, where the numbers of a set count as seen before.
-fn behind_first(f: &[u8], sh: Sheet, today: u64, at: usize, head: Head, set: Seen) -> Ended
+fn behind_first(
+    f: &[u8],
+    sh: Sheet,
+    today: u64,
+    at: usize,
+    head: Option<Header>,
+    set: Seen,
+) -> Result<Ended, Refused>
     requires sane { Sane sh × (real_day today ≡ true) }
     requires le_at { (2 ≤ at) × (at ≤ length f.now) }
-    requires in_bounds { head.named ≡ true → 30 ≤ length f.now }
-    ensures by_index { (u : List ℕ) → Holds set.words u → Concluded f.now (from_seen u sh today f.now at head) result.judged result.seen.words }
-    ensures kept { Kept f.now result.judged }
+    requires in_bounds { NameIn f.now head }
+    ensures by_index { (u : List ℕ) → Holds set.words u → Concluded f.now (from_seen u sh today f.now at head) result }
+    ensures kept { KeptEnd f.now result }
 {
-    let terms = Terms {
-        sheet: sh,
-        today,
-        from: head.from,
-        to: head.to,
-    };
+    let terms = terms_of(sh, today, head);
     let mut seen = set.words;
     let mut left = Left::File(at, 2, NOTHING);
     loop {
         match left {
             Left::File(at, line, counts) => {
-                left = account_files(f, terms, at, line, counts, &mut seen, 16);
+                left = account_files(f, terms, at, line, counts, &mut seen, 16)?;
             }
             Left::Group(at, line, counts, shelf) => {
-                left = groups(f, terms, at, line, counts, shelf, &mut seen, 16);
-            }
-            Left::Refused(n, line, byte) => {
-                return Ended {
-                    judged: FileJudged::Refused(n, line, byte),
-                    seen: Seen { words: seen },
-                };
+                left = groups(f, terms, at, line, counts, shelf, &mut seen, 16)?;
             }
             Left::Accepted(rows, warnings) => {
-                return Ended {
-                    judged: FileJudged::Accepted {
+                return Ok(Ended {
+                    accepted: Accepted {
                         head,
                         rows,
                         warnings,
                     },
                     seen: Seen { words: seen },
-                };
+                });
             }
         }
     }
 }
 
 // The first line, which is known as one, and everything behind it, where the numbers of a set count as seen before.
-pub fn from_first(f: &[u8], sh: Sheet, today: u64, cut: Cut, set: Seen) -> Ended
+pub fn from_first(f: &[u8], sh: Sheet, today: u64, cut: Cut, set: Seen) -> Result<Ended, Refused>
     requires sane { Sane sh × (real_day today ≡ true) }
     requires cuts { Cuts f.now 0 cut }
     requires f_value { kind_of (take (cut.stop - 0) (drop 0 f.now)) ≡ head_line }
-    ensures by_index { (u : List ℕ) → Holds set.words u → Concluded f.now (seeded u sh today f.now) result.judged result.seen.words }
-    ensures kept { Kept f.now result.judged }
+    ensures by_index { (u : List ℕ) → Holds set.words u → Concluded f.now (seeded u sh today f.now) result }
+    ensures kept { KeptEnd f.now result }
 {
     let stop = cut.stop;
-    match firstline::first_line(&f[0..stop], sh) {
-        FirstRead::Header {
-            date,
-            client,
-            from,
-            to,
-        } => behind_first(
-            f,
-            sh,
-            today,
-            cut.next,
-            Head {
-                date,
-                client,
-                from,
-                to,
-                named: true,
-            },
-            set,
-        ),
-        FirstRead::Plain => behind_first(f, sh, today, cut.next, PLAIN, set),
-        FirstRead::Refused(n, off) => Ended {
-            judged: FileJudged::Refused(n, 1, off as u64),
-            seen: set,
-        },
-    }
+    let head = lined(firstline::first_line(&f[0..stop], sh), 1, 0, stop)?;
+    behind_first(f, sh, today, cut.next, head, set)
 }
 
 // The answer of a whole file on the sheet sh.
-pub fn judge_file(f: &[u8], sh: Sheet, today: u64) -> FileJudged
+pub fn judge_file(f: &[u8], sh: Sheet, today: u64) -> Result<Accepted, Refused>
     requires { Sane sh × (real_day today ≡ true) }
     ensures result_value { told f.now result ≡ tally sh today f.now }
     ensures kept { Kept f.now result }
 {
     if f.len() == 0 {
-        return FileJudged::Refused(3, 1, 0);
+        return Err(Refused {
+            refusal: Refusal::BadOrder,
+            line: 1,
+            byte: 0,
+        });
     }
     let cut = scan::line::next_line(f, 0);
     let stop = cut.stop;
     match scan::kind::kind_of(&f[0..stop]) {
         LineKind::Head => {
-            let ended = from_first(f, sh, today, cut, Seen::none());
-            ended.judged
+            let ended = from_first(f, sh, today, cut, Seen::none())?;
+            Ok(ended.accepted)
         }
-        LineKind::File => FileJudged::Refused(3, 1, 0),
-        LineKind::Group => FileJudged::Refused(3, 1, 0),
-        LineKind::Item => FileJudged::Refused(3, 1, 0),
-        LineKind::GroupEnd => FileJudged::Refused(3, 1, 0),
-        LineKind::FileEnd => FileJudged::Refused(3, 1, 0),
+        _ => Err(Refused {
+            refusal: Refusal::BadOrder,
+            line: 1,
+            byte: 0,
+        }),
     }
 }

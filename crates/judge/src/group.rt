@@ -7,9 +7,10 @@ ghost use Rattle.paper.specs.Judge.{total_broken};
 ghost use Rattle.paper.specs.Spells.{differs};
 ghost use Rattle.judge.specs.group.Stands.{line_in, held_more, Banked, Turns, closed_as, LowItem, Begun, Ended};
 
+use crate::refused::{Refused, lined};
 use calendar::term::Banks;
-use closing::CloseRead;
 use itemline::judge::Judged;
+use refusal::Refusal;
 use scan::kind::LineKind;
 use sheet::Sheet;
 
@@ -50,24 +51,20 @@ pub struct Held {
     pub opened: Open,
 }
 
-// What one line of a group says: an item's amount and warnings; that the group ends; or a refusal's number and its byte.
+// What one line of a group says: an item, or that the group ends.
 #[derive(Clone, Copy)]
 pub enum Turn {
-    Item { amount: u64, warnings: u64 },
+    Item(Judged),
     Close,
-    Stop(u64, u64),
 }
 
-// How a group ends: closed, with what stands behind it; or refused, by number, line and byte.
+// What stands behind a closed group: the place of the next line, its number, and the counts.
 #[derive(Clone, Copy)]
-pub enum GroupEnd {
-    Closed {
-        at: usize,
-        line: u64,
-        counts: Counts,
-        shelf: Shelf,
-    },
-    Stop(u64, u64, u64),
+pub struct GroupEnd {
+    pub at: usize,
+    pub line: u64,
+    pub counts: Counts,
+    pub shelf: Shelf,
 }
 
 // Is a group refused whose items sum up to this?
@@ -78,10 +75,7 @@ pub fn total_broken(strict: bool, total: u64, sum: u64) -> bool
         return true;
     }
     if strict {
-        if total == sum {
-            return false;
-        }
-        return true;
+        return total != sum;
     }
     false
 }
@@ -96,72 +90,95 @@ pub fn total_differs(total: u64, sum: u64) -> u64
     1
 }
 
-// The byte of the file at this offset of the line from `at` to `stop`.
-pub fn byte_in(at: usize, off: usize, stop: usize) -> u64
-    requires { at + off ≤ stop }
-    ensures { result ≡ at + off }
-{
-    (at + off) as u64
-}
-
-// An item's line, which is known as one. 15 comes before its fields.
-fn item_turn(f: &[u8], sh: Sheet, banks: Banks, at: usize, stop: usize, held: Held) -> Turn
+// An item's line, which is known as one. That there are too many comes before its fields.
+fn item_turn(
+    f: &[u8],
+    sh: Sheet,
+    banks: Banks,
+    at: usize,
+    stop: usize,
+    line: u64,
+    held: Held,
+) -> Result<Turn, Refused>
     requires sane { Sane sh }
     requires at_le_stop { (at ≤ stop) × (stop ≤ length f.now) }
     requires f_value { kind_of (take (stop - at) (drop at f.now)) ≡ item_line }
-    ensures { (today : ℕ) → Banked sh today banks held → Turns sh today (line_in f.now at stop) held result }
+    ensures { (today : ℕ) → Banked sh today banks held → Turns sh today line (line_in f.now at stop) held result }
 {
     let inside = held.shelf.items;
     if 99999 <= inside {
-        return Turn::Stop(15, at as u64);
+        return Err(Refused {
+            refusal: Refusal::TooMany,
+            line,
+            byte: at as u64,
+        });
     }
     let limits = sh.limits();
     let items = held.counts.items;
     if limits.items <= items {
-        return Turn::Stop(15, at as u64);
+        return Err(Refused {
+            refusal: Refusal::TooMany,
+            line,
+            byte: at as u64,
+        });
     }
-    match itemline::judge::judge_item(&f[at..stop], sh, banks, held.opened.single) {
-        Judged::Item { amount, warnings } => Turn::Item { amount, warnings },
-        Judged::Refused(n, off) => {
-            let byte = byte_in(at, off, stop);
-            Turn::Stop(n, byte)
-        }
-    }
+    let item = lined(
+        itemline::judge::judge_item(&f[at..stop], sh, banks, held.opened.single),
+        line,
+        at,
+        stop,
+    )?;
+    Ok(Turn::Item(item))
 }
 
 // A line that closes the group, which is known as one.
-fn close_turn(f: &[u8], sh: Sheet, at: usize, stop: usize, held: Held) -> Turn
+fn close_turn(
+    f: &[u8],
+    sh: Sheet,
+    at: usize,
+    stop: usize,
+    line: u64,
+    held: Held,
+) -> Result<Turn, Refused>
     requires sane { Sane sh }
     requires at_le_stop { (at ≤ stop) × (stop ≤ length f.now) }
     requires f_value { kind_of (take (stop - at) (drop at f.now)) ≡ group_end }
-    ensures { (today : ℕ) → Turns sh today (line_in f.now at stop) held result }
+    ensures { (today : ℕ) → Turns sh today line (line_in f.now at stop) held result }
 {
     let count = held.opened.count;
     if count == 0 {
-        return Turn::Stop(3, at as u64);
+        return Err(Refused {
+            refusal: Refusal::BadOrder,
+            line,
+            byte: at as u64,
+        });
     }
-    match closing::close_line(&f[at..stop], sh.near) {
-        CloseRead::Closed => Turn::Close,
-        CloseRead::Refused(n, off) => {
-            let byte = byte_in(at, off, stop);
-            Turn::Stop(n, byte)
-        }
-    }
+    lined(closing::close_line(&f[at..stop], sh.near), line, at, stop)?;
+    Ok(Turn::Close)
 }
 
 // One line of an open group: the bytes of the file from `at` to `stop`.
-pub fn item_step(f: &[u8], sh: Sheet, banks: Banks, at: usize, stop: usize, held: Held) -> Turn
+pub fn item_step(
+    f: &[u8],
+    sh: Sheet,
+    banks: Banks,
+    at: usize,
+    stop: usize,
+    line: u64,
+    held: Held,
+) -> Result<Turn, Refused>
     requires sane { Sane sh }
     requires at_le_stop { (at ≤ stop) × (stop ≤ length f.now) }
-    ensures { (today : ℕ) → Banked sh today banks held → Turns sh today (line_in f.now at stop) held result }
+    ensures { (today : ℕ) → Banked sh today banks held → Turns sh today line (line_in f.now at stop) held result }
 {
     match scan::kind::kind_of(&f[at..stop]) {
-        LineKind::Item => item_turn(f, sh, banks, at, stop, held),
-        LineKind::GroupEnd => close_turn(f, sh, at, stop, held),
-        LineKind::Head => Turn::Stop(3, at as u64),
-        LineKind::File => Turn::Stop(3, at as u64),
-        LineKind::Group => Turn::Stop(3, at as u64),
-        LineKind::FileEnd => Turn::Stop(3, at as u64),
+        LineKind::Item => item_turn(f, sh, banks, at, stop, line, held),
+        LineKind::GroupEnd => close_turn(f, sh, at, stop, line, held),
+        _ => Err(Refused {
+            refusal: Refusal::BadOrder,
+            line,
+            byte: at as u64,
+        }),
     }
 }
 
@@ -200,19 +217,23 @@ pub fn held_more(x: Held, amount: u64, warnings: u64) -> Held
     }
 }
 
-// The group's end: 10 at its total, or what stands behind it.
-pub fn close_group(strict: bool, at: usize, line: u64, held: Held) -> GroupEnd
+// The group's end: refused at its total, or what stands behind it.
+pub fn close_group(strict: bool, at: usize, line: u64, held: Held) -> Result<GroupEnd, Refused>
     requires { LowItem held }
     ensures { result ≡ closed_as strict at line held }
 {
     let total = held.opened.total;
     let sum = held.opened.sum;
     if total_broken(strict, total, sum) {
-        return GroupEnd::Stop(10, held.opened.line, held.opened.byte);
+        return Err(Refused {
+            refusal: Refusal::BadTotal,
+            line: held.opened.line,
+            byte: held.opened.byte,
+        });
     }
     let warnings = held.counts.warnings + total_differs(total, sum);
     let groups = held.shelf.groups + 1;
-    GroupEnd::Closed {
+    Ok(GroupEnd {
         at,
         line,
         counts: Counts {
@@ -226,11 +247,18 @@ pub fn close_group(strict: bool, at: usize, line: u64, held: Held) -> GroupEnd
             items: held.shelf.items,
             groups,
         },
-    }
+    })
 }
 
 // The lines of an open group, from `at` on, up to the one that closes it or is refused.
-pub fn group_items(f: &[u8], sh: Sheet, today: u64, at: usize, line: u64, held: Held) -> GroupEnd
+pub fn group_items(
+    f: &[u8],
+    sh: Sheet,
+    today: u64,
+    at: usize,
+    line: u64,
+    held: Held,
+) -> Result<GroupEnd, Refused>
     requires sane { Sane sh × (real_day today ≡ true) }
     requires begun { Begun f.now at line held }
     ensures { Ended sh today f.now at line held result }
@@ -242,19 +270,20 @@ pub fn group_items(f: &[u8], sh: Sheet, today: u64, at: usize, line: u64, held: 
     while at < f.len() {
         let cut = scan::line::next_line(f, at);
         let stop = cut.stop;
-        match item_step(f, sh, banks, at, stop, held) {
-            Turn::Item { amount, warnings } => {
-                held = held_more(held, amount, warnings);
+        match item_step(f, sh, banks, at, stop, line, held)? {
+            Turn::Item(item) => {
+                held = held_more(held, item.amount, item.warnings);
                 at = cut.next;
-                line = line + 1;
+                line += 1;
             }
             Turn::Close => {
                 return close_group(sh.strict, cut.next, line + 1, held);
             }
-            Turn::Stop(n, byte) => {
-                return GroupEnd::Stop(n, line, byte);
-            }
         }
     }
-    GroupEnd::Stop(3, line, at as u64)
+    Err(Refused {
+        refusal: Refusal::BadOrder,
+        line,
+        byte: at as u64,
+    })
 }

@@ -4,3 +4,4 @@
 pub mod accountfile;
 pub mod file;
 pub mod group;
+pub mod refused;

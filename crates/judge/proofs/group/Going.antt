@@ -8,7 +8,10 @@ use lib.ListN.{length}
 use mir.Syntax.{w64}
 use mir.Val.{Fits}
 use mir.Facts.{Fits-le}
+use Rattle.std.proofs.Common.{Result, Ok, Err}
 use Rattle.base.specs.Pick.{pick}
+use Rattle.refusal.specs.declared.Refusal.TheVariants.{BadOrder}
+use Rattle.refusal.specs.Numbers.{number_of}
 use Rattle.base.proofs.Cases.{by-test}
 use Rattle.sheet.specs.declared.Sheet.{Sheet}
 use Rattle.sheet.proofs.Laws.{Sane}
@@ -29,7 +32,9 @@ use Rattle.judge.specs.declared.group.Held.{Held}
 use Rattle.judge.specs.declared.group.Turn.{Turn}
 use Rattle.judge.specs.declared.group.Turn.TheVariants as turn
 use Rattle.judge.specs.declared.group.GroupEnd.{GroupEnd}
-use Rattle.judge.specs.declared.group.GroupEnd.TheVariants as end
+use Rattle.judge.specs.declared.refused.Refused.{Refused}
+use Rattle.judge.specs.refused.Lined.{refused}
+use Rattle.itemline.specs.declared.judge.Judged.{Judged}
 use Rattle.judge.specs.group.Stands.{book_of, shelf_of, in_group, LowItem, LowGroup, line_in, held_more, turned, Banked, Turns, closed_as, resume_group, Begun, Behind, Ended}
 
 -- ---- lines
@@ -60,7 +65,7 @@ module _ (sh : Sheet) (sane : Sane sh) (today k : ℕ) (t : Line) where
 
 -- as the machine closes it
 closed_same : (sh : Sheet) (today : ℕ) (f : List ℕ) (h : Header) (l : List ℕ) (at k : ℕ) (x : Held)
-    → resume_group sh today f h l (closed_as sh.strict at k x) ≡ run sh today (length f) k (lines_from f at) (turned sh k h l x turn.Close)
+    → resume_group sh today f h l (closed_as sh.strict at k x) ≡ run sh today (length f) k (lines_from f at) (turned sh k h l x (Ok turn.Close))
 unfolding closed_as closed resume_group pick
 closed_same sh today f h l at k x =
     let o = x.opened in
@@ -73,7 +78,7 @@ closed-low : (c : Counts) (s : Shelf) (d : ℕ) → SmallGroup (warned (book_of 
 closed-low c s d y =
     record { files = y.files; items = y.items; rows = y.rows; warnings = omega (arith, y.warnings); shelf = y.shelf; groups = y.groups }
 
-closed-behind : (sh : Sheet) (f : List ℕ) (from at k : ℕ) (x : Held) → Small (turned sh k no_header [] x turn.Close)
+closed-behind : (sh : Sheet) (f : List ℕ) (from at k : ℕ) (x : Held) → Small (turned sh k no_header [] x (Ok turn.Close))
     → from < at → at ≤ length f → k ≤ at → Behind f from (closed_as sh.strict at k x)
 unfolding closed_as closed Small pick
 closed-behind sh f from at k x small p q r =
@@ -95,7 +100,7 @@ going_start sh today banks f at k x b d = record { begun = b; banked = d; on = o
 
 module _ (sh : Sheet) (today : ℕ) (banks : Banks) (f : List ℕ) (from j : ℕ) (x₀ : Held) (at k : ℕ) (x : Held) (going : Going sh today banks f from j x₀ at k x) where
   -- the file ends in the group
-  pub going_end : length f ≤ at → Ended sh today f from j x₀ (end.Stop 3 k at)
+  pub going_end : length f ≤ at → Ended sh today f from j x₀ (refused BadOrder k at)
   unfolding run end_of resume_group
   going_end e =
       let z : at ≡ length f = omega (arith, going.begun.inside) in
@@ -113,27 +118,30 @@ module _ (sh : Sheet) (today : ℕ) (banks : Banks) (f : List ℕ) (from j : ℕ
     pub line-fits : Fits w64 cut.next → Fits w64 (k + 1)
     line-fits fits = Fits-le next-line fits
 
-    module _ (r : Turn) (turns : (day : ℕ) → Banked sh day banks x → Turns sh day (line_in f at cut.stop) x r) where
-      says : (v : Turn) → r ≡ v → Turns sh today (line_in f at cut.stop) x v
+    module _ (r : Result Turn Refused) (turns : (day : ℕ) → Banked sh day banks x → Turns sh day k (line_in f at cut.stop) x r) where
+      says : (v : Result Turn Refused) → r ≡ v → Turns sh today k (line_in f at cut.stop) x v
       says v e = rw e at (turns today going.banked)
 
-      leads : (v : Turn) → r ≡ v → (h : Header) (l : List ℕ)
+      leads : (v : Result Turn Refused) → r ≡ v → (h : Header) (l : List ℕ)
           → run sh today (length f) (k + 1) (lines_from f cut.next) (turned sh k h l x v) ≡ run sh today (length f) j (lines_from f from) (in_group h l x₀)
       leads v e h l =
-          run-on sh today (length f) k f at cut cuts (in_group h l x) (turned sh k h l x v) ((says v e).same k h l) ∙ going.same h l
+          run-on sh today (length f) k f at cut cuts (in_group h l x) (turned sh k h l x v) ((says v e).same h l) ∙ going.same h l
 
-      stays-small : Sane sh → (v : Turn) → r ≡ v → Small (turned sh 0 no_header [] x v)
+      stays-small : Sane sh → (v : Result Turn Refused) → r ≡ v → Small (turned sh k no_header [] x v)
       unfolding Small
       stays-small sane v e =
-          small-on sh sane today 0 (line_in f at cut.stop) (in_group no_header [] x) (turned sh 0 no_header [] x v) ((says v e).same 0 no_header []) going.begun.low
+          small-on sh sane today k (line_in f at cut.stop) (in_group no_header [] x) (turned sh k no_header [] x v) ((says v e).same no_header []) going.begun.low
 
       -- .. an item
-      module _ (sane : Sane sh) (amount warnings : ℕ) (e : r ≡ turn.Item amount warnings) where
-        pub going-low : LowItem (held_more x amount warnings)
-        unfolding Small
-        going-low = stays-small sane (turn.Item amount warnings) e
+      module _ (sane : Sane sh) (v : Turn) (a : r ≡ Ok v) (i : Judged) (b : v ≡ turn.Item i) where
+        item : r ≡ Ok (turn.Item i)
+        item = rw b at a
 
-        pub going-item : (y : Held) → y ≡ held_more x amount warnings → Going sh today banks f from j x₀ cut.next (k + 1) y
+        pub going-low : LowItem (held_more x i.amount i.warnings)
+        unfolding Small
+        going-low = stays-small sane (Ok (turn.Item i)) item
+
+        pub going-item : (y : Held) → y ≡ held_more x i.amount i.warnings → Going sh today banks f from j x₀ cut.next (k + 1) y
         unfolding held_more
         going-item y q =
             rw q
@@ -141,25 +149,26 @@ module _ (sh : Sheet) (today : ℕ) (banks : Banks) (f : List ℕ) (from j : ℕ
               begun = record { inside = cuts.inside; lines = next-line; low = going-low };
               banked = going.banked;
               on = omega (arith, going.on, cuts.ahead);
-              same = leads (turn.Item amount warnings) e;
+              same = leads (Ok (turn.Item i)) item;
             })
 
       -- .. refused
-      pub going-stop : (n byte : ℕ) → r ≡ turn.Stop n byte → Ended sh today f from j x₀ (end.Stop n k byte)
+      pub going-stop : (y : Refused) → r ≡ Err y → Ended sh today f from j x₀ (Err y)
       unfolding resume_group
-      going-stop n byte e =
+      going-stop y e =
           record {
-            same = λ h l. sym (run-stop sh today (length f) (k + 1) (lines_from f cut.next) (No n k byte)) ∙ leads (turn.Stop n byte) e h l;
+            same = λ h l. sym (run-stop sh today (length f) (k + 1) (lines_from f cut.next) (No (number_of y.refusal) y.line y.byte)) ∙ leads (Err y) e h l;
             behind = tt;
           }
 
       -- .. closed
-      pub going-close : Sane sh → r ≡ turn.Close → (g : GroupEnd) → g ≡ closed_as sh.strict cut.next (k + 1) x → Ended sh today f from j x₀ g
-      going-close sane e g q =
+      pub going-close : Sane sh → (v : Turn) → r ≡ Ok v → v ≡ turn.Close → (g : Result GroupEnd Refused) → g ≡ closed_as sh.strict cut.next (k + 1) x → Ended sh today f from j x₀ g
+      going-close sane v a b g q =
+          let e : r ≡ Ok turn.Close = rw b at a in
           rw q
           (record {
-            same = λ h l. closed_same sh today f h l cut.next (k + 1) x ∙ leads turn.Close e h l;
-            behind = closed-behind sh f from cut.next (k + 1) x (stays-small sane turn.Close e) (omega (arith, going.on, cuts.ahead)) cuts.inside next-line;
+            same = λ h l. closed_same sh today f h l cut.next (k + 1) x ∙ leads (Ok turn.Close) e h l;
+            behind = closed-behind sh f from cut.next (k + 1) x (stays-small sane (Ok turn.Close) e) (omega (arith, going.on, cuts.ahead)) cuts.inside next-line;
           })
 
 -- a line is behind the one before it

@@ -8,7 +8,11 @@ use borrow.Author.Tests.{le-leb, lt-leb, eq-eqb, ne_eqb}
 use lib.ListN.{length, take, drop, length-take, length-drop}
 use mir.Syntax.{w64}
 use mir.Val.{Fits}
+use Rattle.std.proofs.Common.{Result, Ok, Err}
 use Rattle.base.specs.Pick.{pick}
+use Rattle.refusal.specs.declared.Refusal.TheVariants.{BadOrder, TooMany, BadTotal}
+use Rattle.refusal.specs.declared.Flaw.{Flaw}
+use Rattle.refusal.specs.Numbers.{number_of}
 use Rattle.sheet.specs.declared.Sheet.{Sheet}
 use Rattle.sheet.specs.declared.Limits.{Limits}
 use Rattle.sheet.specs.Sheets.{LimitsOf}
@@ -27,21 +31,21 @@ use Rattle.paper.proofs.Starts.{least, kind-long}
 use Rattle.tally.specs.Tally.{context_of, is_due, is_full, meet, on_said, step}
 use Rattle.tally.proofs.Small.{item-limits, differs-one}
 use Rattle.scan.specs.declared.kind.LineKind.{LineKind}
+use Rattle.scan.specs.declared.kind.LineKind.TheVariants as line
 use Rattle.scan.specs.kind.Told as kinds
 use Rattle.calendar.specs.declared.term.Banks.{Banks}
 use Rattle.calendar.specs.term.Allows.{allows}
-use Rattle.closing.specs.declared.CloseRead.{CloseRead}
-use Rattle.closing.specs.declared.CloseRead.TheVariants as closing
 use Rattle.closing.specs.Told as closes
 use Rattle.itemline.specs.declared.judge.Judged.{Judged}
-use Rattle.itemline.specs.declared.judge.Judged.TheVariants as judged
 use Rattle.itemline.specs.judge.Brief.{brief}
 use Rattle.itemline.specs.judge.Told as items
 use Rattle.itemline.proofs.judge.Brief.{brief-no}
 use Rattle.judge.specs.declared.group.Held.{Held}
 use Rattle.judge.specs.declared.group.Turn.{Turn}
 use Rattle.judge.specs.declared.group.Turn.TheVariants as turn
-use Rattle.judge.specs.declared.group.GroupEnd.TheVariants as end
+use Rattle.judge.specs.declared.refused.Refused.{Refused}
+use Rattle.judge.specs.refused.Lined.{refused, Within, lined}
+use Rattle.judge.proofs.refused.Places.{was-ok, was-err}
 use Rattle.judge.specs.group.Stands.{in_group, LowItem, line_in, held_more, Banked, Turns, closed_as}
 use Rattle.judge.proofs.group.Steps.{not-due, no_room, by-fields}
 
@@ -66,17 +70,18 @@ within f at stop off p q h = omega (arith, length-take (stop - at) (drop at f), 
 -- a refused line's offset stays in the file
 module _ (f : List ℕ) (at stop : ℕ) (p : at ≤ stop) (q : stop ≤ length f) where
   -- of a line that closes anything
-  pub close-within : (sh : Sheet) → Sane sh → (kind : Kind) → kind_of (cut f at stop) ≡ kind → 2 ≤ least kind → (r : CloseRead)
-      → ((x : Entry) → closes.told x r ≡ read_close sh.near x (cut f at stop)) → (n off : ℕ) → r ≡ closing.Refused n off → at + off ≤ stop
-  close-within sh sane kind e two r t n off x =
-      let u : no n off ≡ read_close sh.near close_group (cut f at stop) = rw x at (t close_group) in
-      within f at stop off p q (refusal-in (rw (← u) at (group-end-says sh 0 (asking_number (λ _. 0)) (cut f at stop))) (known-long (cut f at stop) kind e two))
+  pub close-within : (sh : Sheet) → Sane sh → (kind : Kind) → kind_of (cut f at stop) ≡ kind → 2 ≤ least kind → (r : Result (Unit {0}) Flaw)
+      → ((x : Entry) → closes.told x r ≡ read_close sh.near x (cut f at stop)) → Within r at stop
+  close-within sh sane kind e two (Ok done) t = tt
+  close-within sh sane kind e two (Err x) t =
+      let u : no (number_of x.0) x.1 ≡ read_close sh.near close_group (cut f at stop) = t close_group in
+      within f at stop x.1 p q (refusal-in (rw (← u) at (group-end-says sh 0 (asking_number (λ _. 0)) (cut f at stop))) (known-long (cut f at stop) kind e two))
 
-  pub item-within : (sh : Sheet) (due : ℕ → Bool) (single : Bool) (r : Judged) → items.told r ≡ brief (counted (read_item sh due single (cut f at stop)))
-      → (n off : ℕ) → r ≡ judged.Refused n off → at + off ≤ stop
-  item-within sh due single r t n off x =
-      let u = counted-no (read_item sh due single (cut f at stop)) n off (brief-no (counted (read_item sh due single (cut f at stop))) n off (rw x at t)) in
-      within f at stop off p q (refusal-in (rw (← u) at (item-says sh 0 (λ _. 0) false due single (cut f at stop))) (omega arith))
+  pub item-within : (sh : Sheet) (due : ℕ → Bool) (single : Bool) (r : Result Judged Flaw) → items.told r ≡ brief (counted (read_item sh due single (cut f at stop))) → Within r at stop
+  item-within sh due single (Ok i) t = tt
+  item-within sh due single (Err x) t =
+      let u = counted-no (read_item sh due single (cut f at stop)) (number_of x.0) x.1 (brief-no (counted (read_item sh due single (cut f at stop))) (number_of x.0) x.1 t) in
+      within f at stop x.1 p q (refusal-in (rw (← u) at (item-says sh 0 (λ _. 0) false due single (cut f at stop))) (omega arith))
 
 -- ---- what a line says in a group
 
@@ -96,32 +101,41 @@ unfolding brief
 by-brief sh k start (got t) h l x = brief-entry sh k start t.entry t.warnings t.places h l x
 by-brief sh k start (no n off) h l x = refl
 
-module _ (sh : Sheet) (today : ℕ) (f : List ℕ) (at stop : ℕ) (x : Held) where
-  -- 3: r is the kind that was found, v its name
-  pub turn-other : (r : LineKind) → kinds.told r ≡ kind_of (cut f at stop) → (v : LineKind) → r ≡ v → ((h : Header) (l : List ℕ) → is_due (in_group h l x) (kinds.told v) ≡ false)
-      → Turns sh today (line_in f at stop) x (turn.Stop 3 at)
+module _ (sh : Sheet) (today k : ℕ) (f : List ℕ) (at stop : ℕ) (x : Held) where
+  undue : (h : Header) (l : List ℕ) (r : LineKind) → (r ≡ line.Item → ⊥) → (r ≡ line.GroupEnd → ⊥) → is_due (in_group h l x) (kinds.told r) ≡ false
+  unfolding is_due pick
+  undue h l line.Head i g = refl
+  undue h l line.File i g = refl
+  undue h l line.Group i g = refl
+  undue h l line.Item i g = absurd (i refl)
+  undue h l line.GroupEnd i g = absurd (g refl)
+  undue h l line.FileEnd i g = refl
+
+  -- out of turn: r is the kind that was found
+  pub turn-other : (r : LineKind) → kinds.told r ≡ kind_of (cut f at stop) → (r ≡ line.Item → ⊥) → (r ≡ line.GroupEnd → ⊥)
+      → Turns sh today k (line_in f at stop) x (refused BadOrder k at)
   unfolding step
-  turn-other r t v e d =
-      record { same = λ k h l. not-due sh today k (line_in f at stop) (in_group h l x) refl (kinds.told v) (is-kind (cut f at stop) r t v e _ refl) (d h l) }
+  turn-other r t i g =
+      record { same = λ h l. not-due sh today k (line_in f at stop) (in_group h l x) refl (kinds.told r) (sym t) (undue h l r i g) }
 
   -- an item
   module _ (e : kind_of (cut f at stop) ≡ item_line) where
-    -- 15: one too many of the account file
-    pub turn-full-file : 99999 ≤ x.shelf.items → Turns sh today (line_in f at stop) x (turn.Stop 15 at)
+    -- one too many of the account file
+    pub turn-full-file : 99999 ≤ x.shelf.items → Turns sh today k (line_in f at stop) x (refused TooMany k at)
     unfolding step is_due is_full pick
     turn-full-file i =
-        record { same = λ k h l. no_room sh today k (line_in f at stop) (in_group h l x) refl item_line e refl (simp (le-leb _ _ i)) }
+        record { same = λ h l. no_room sh today k (line_in f at stop) (in_group h l x) refl item_line e refl (simp (le-leb _ _ i)) }
 
     -- m are the limits that the sheet gave
     module _ (i : x.shelf.items < 99999) (m : Limits) (of : LimitsOf sh m) where
       -- .. or of the file
-      pub turn-full : m.items ≤ x.counts.items → Turns sh today (line_in f at stop) x (turn.Stop 15 at)
+      pub turn-full : m.items ≤ x.counts.items → Turns sh today k (line_in f at stop) x (refused TooMany k at)
       unfolding step is_due is_full pick
       turn-full j =
           let g : sh.fileitems ≤ x.counts.items = omega (arith, of.items) in
-          record { same = λ k h l. no_room sh today k (line_in f at stop) (in_group h l x) refl item_line e refl (simp (lt-leb _ _ i, le-leb _ _ g)) }
+          record { same = λ h l. no_room sh today k (line_in f at stop) (in_group h l x) refl item_line e refl (simp (lt-leb _ _ i, le-leb _ _ g)) }
 
-      module _ (j : x.counts.items < m.items) (banks : Banks) (r : Judged) (t : items.told r ≡ brief (counted (read_item sh (allows banks sh.bank) x.opened.single (cut f at stop))))
+      module _ (j : x.counts.items < m.items) (banks : Banks) (r : Result Judged Flaw) (t : items.told r ≡ brief (counted (read_item sh (allows banks sh.bank) x.opened.single (cut f at stop))))
           (banked : Banked sh today banks x) where
         abbrev due : ℕ → Bool
         due = bank_due sh today x.shelf.kind x.opened.date
@@ -129,58 +143,67 @@ module _ (sh : Sheet) (today : ℕ) (f : List ℕ) (at stop : ℕ) (x : Held) wh
         told-due : items.told r ≡ brief (counted (read_item sh due x.opened.single (cut f at stop)))
         told-due = t ∙ ap (λ (d : ℕ → Bool). brief (counted (read_item sh d x.opened.single (cut f at stop)))) (fun_ext banked)
 
-        judged-as : (v : Judged) → r ≡ v → (k : ℕ) (h : Header) (l : List ℕ) → on_said sh k at (items.told v) (in_group h l x) ≡ step sh today k (line_in f at stop) (in_group h l x)
+        judged-as : (v : Result Judged Flaw) → r ≡ v → (h : Header) (l : List ℕ) → on_said sh k at (items.told v) (in_group h l x) ≡ step sh today k (line_in f at stop) (in_group h l x)
         unfolding step is_due is_full context_of read_as pick
-        judged-as v q k h l =
+        judged-as v q h l =
             let g : x.counts.items < sh.fileitems = omega (arith, of.items) in
             ap (λ said. on_said sh k at said (in_group h l x)) (rw q at told-due)
             ∙ (by-brief sh k at (counted (read_item sh due x.opened.single (cut f at stop))) h l x
             ∙ by-fields sh today k (line_in f at stop) (in_group h l x) refl item_line e refl (simp (lt-leb _ _ i, lt-leb _ _ g)) _ refl)
 
-        pub turn-item : (amount warnings : ℕ) → r ≡ judged.Item amount warnings → Turns sh today (line_in f at stop) x (turn.Item amount warnings)
-        unfolding on_said meet on_entry on_item held_more
-        turn-item amount warnings q = record { same = judged-as (judged.Item amount warnings) q }
+        -- the same with the line's number and the byte in the file
+        module _ (a : Result Judged Refused) (n : a ≡ lined r k at) where
+          pub turn-item : (i : Judged) → a ≡ Ok i → Turns sh today k (line_in f at stop) x (Ok (turn.Item i))
+          unfolding on_said meet on_entry on_item held_more
+          turn-item i q = record { same = judged-as (Ok i) (was-ok k at r i (sym n ∙ q)) }
 
-        pub turn-refused : (n off : ℕ) → r ≡ judged.Refused n off → (byte : ℕ) → byte ≡ at + off → Turns sh today (line_in f at stop) x (turn.Stop n byte)
-        unfolding on_said
-        turn-refused n off q byte y = rw y (record { same = judged-as (judged.Refused n off) q })
+          pub turn-refused : (y : Refused) → a ≡ Err y → Turns sh today k (line_in f at stop) x (Err y)
+          unfolding on_said
+          turn-refused y q = let w = was-err k at r y (sym n ∙ q) in rw w.2 (record { same = judged-as (Err w.0) w.1 })
 
   -- a group's end
   module _ (e : kind_of (cut f at stop) ≡ group_end) where
-    -- 3: there is no item yet
-    pub close-empty : x.opened.count ≡ 0 → Turns sh today (line_in f at stop) x (turn.Stop 3 at)
+    -- there is no item yet
+    pub close-empty : x.opened.count ≡ 0 → Turns sh today k (line_in f at stop) x (refused BadOrder k at)
     unfolding step is_due pick
     close-empty z =
-        record { same = λ k h l. not-due sh today k (line_in f at stop) (in_group h l x) refl group_end e (simp (eq-eqb _ _ z)) }
+        record { same = λ h l. not-due sh today k (line_in f at stop) (in_group h l x) refl group_end e (simp (eq-eqb _ _ z)) }
 
-    module _ (z : x.opened.count ≡ 0 → ⊥) (r : CloseRead) (t : (y : Entry) → closes.told y r ≡ read_close sh.near y (cut f at stop)) where
-      closed-as : (v : CloseRead) → r ≡ v → (k : ℕ) (h : Header) (l : List ℕ) → on_said sh k at (counted (closes.told close_group v)) (in_group h l x) ≡ step sh today k (line_in f at stop) (in_group h l x)
+    module _ (z : x.opened.count ≡ 0 → ⊥) (r : Result (Unit {0}) Flaw) (t : (y : Entry) → closes.told y r ≡ read_close sh.near y (cut f at stop)) where
+      closed-as : (v : Result (Unit {0}) Flaw) → r ≡ v → (h : Header) (l : List ℕ) → on_said sh k at (counted (closes.told close_group v)) (in_group h l x) ≡ step sh today k (line_in f at stop) (in_group h l x)
       unfolding step is_due is_full read_as pick
-      closed-as v q k h l =
+      closed-as v q h l =
           by-fields sh today k (line_in f at stop) (in_group h l x) refl group_end e (simp (ne_eqb _ _ z)) refl _ (ap counted (rw q at (t close_group)))
 
-      pub close-closed : r ≡ closing.Closed → Turns sh today (line_in f at stop) x turn.Close
-      unfolding on_said meet on_entry on_item counted
-      close-closed q = record { same = closed-as closing.Closed q }
+      module _ (m : Result (Unit {0}) Refused) (n : m ≡ lined r k at) where
+        pub close-closed : (u : Unit {0}) → m ≡ Ok u → Turns sh today k (line_in f at stop) x (Ok turn.Close)
+        unfolding on_said meet on_entry on_item counted
+        close-closed u q = record { same = closed-as (Ok u) (was-ok k at r u (sym n ∙ q)) }
 
-      pub close-refused : (n off : ℕ) → r ≡ closing.Refused n off → (byte : ℕ) → byte ≡ at + off → Turns sh today (line_in f at stop) x (turn.Stop n byte)
-      unfolding on_said counted
-      close-refused n off q byte y = rw y (record { same = closed-as (closing.Refused n off) q })
+        pub close-refused : (y : Refused) → m ≡ Err y → Turns sh today k (line_in f at stop) x (Err y)
+        unfolding on_said counted
+        close-refused y q = let w = was-err k at r y (sym n ∙ q) in rw w.2 (record { same = closed-as (Err w.0) w.1 })
 
 -- where the banks do not count
-pub any-banks : (sh : Sheet) (t : Line) (x : Held) (r : Turn) (banks : Banks) → ((today : ℕ) → Turns sh today t x r) → (today : ℕ) → Banked sh today banks x → Turns sh today t x r
-any-banks sh t x r banks h today b = h today
+pub any-banks : (sh : Sheet) (k : ℕ) (t : Line) (x : Held) (r : Result Turn Refused) (banks : Banks) → ((today : ℕ) → Turns sh today k t x r)
+    → (today : ℕ) → Banked sh today banks x → Turns sh today k t x r
+any-banks sh k t x r banks h today b = h today
 
 -- ---- the group's end: t is whether its total is refused, d how many warnings it gives
 
 module _ (strict : Bool) (at k : ℕ) (x : Held) (t : Bool) (e : t ≡ total_broken strict x.opened.total x.opened.sum) where
-  pub end-broken : t ≡ true → end.Stop 10 x.opened.line x.opened.byte ≡ closed_as strict at k x
+  pub end-broken : t ≡ true → refused BadTotal x.opened.line x.opened.byte ≡ closed_as strict at k x
   unfolding closed_as pick
   end-broken q = rw (← e, q)
 
   pub end_more : t ≡ false → (d : ℕ) → d ≡ differs x.opened.total x.opened.sum
-      → end.Closed at k (record { files = x.counts.files; items = x.counts.items; rows = x.counts.rows; warnings = x.counts.warnings + d })
-      (record { kind = x.shelf.kind; items = x.shelf.items; groups = x.shelf.groups + 1 })
+      → Ok
+      (record {
+        at = at;
+        line = k;
+        counts = record { files = x.counts.files; items = x.counts.items; rows = x.counts.rows; warnings = x.counts.warnings + d };
+        shelf = record { kind = x.shelf.kind; items = x.shelf.items; groups = x.shelf.groups + 1 };
+      })
       ≡ closed_as strict at k x
   unfolding closed_as pick
   end_more q d w = rw (← e, q, w)

@@ -1,22 +1,25 @@
 -- `group_opening` meets its contract: the line refused, or a group with what the line says. Assumes nothing.
 use borrow.Author.Rules.{rules}
+use Rattle.std.proofs.lemmas.Result.{err_from_is_err_and}
 use Rattle.judge.proofs.accountfile.Groups.{group-places, openings}
 use Rattle.judge.proofs.accountfile.group_opening.Goals as goal
 
-pub group_line-requires : goal.group_line-requires
-group_line-requires c = search (group-places, rules)
+pub group_line-requires-clause-in_bounds : goal.group_line-requires-clause-in_bounds
+group_line-requires-clause-in_bounds c = search (group-places, rules)
+
+pub lined-requires : goal.lined-requires
+lined-requires c = search (group-places, rules)
+
+pub returns-in_err-group : goal.returns-in_err-group
+returns-in_err-group c =
+    let p = err_from_is_err_and c.from_residual.result c.from_residual.ensures.1 in
+    rw (p.1, p.2) (search (openings, c.in_err-group.was))
 
 pub byte_in-byte-requires : goal.byte_in-byte-requires
-byte_in-byte-requires c = search (group-places, rules)
+byte_in-byte-requires c = search (group-places, rules, c.in_ok-group.was)
 
 pub group_held-requires : goal.group_held-requires
-group_held-requires c = search (group-places, rules)
+group_held-requires c = search (group-places, rules, c.in_ok-group.was)
 
-pub byte_in-byte-requires-in-Refused : goal.byte_in-byte-requires-in-Refused
-byte_in-byte-requires-in-Refused c = search (group-places, rules)
-
-pub returns-in-Group : goal.returns-in-Group
-returns-in-Group c = search openings
-
-pub returns-in-Refused : goal.returns-in-Refused
-returns-in-Refused c = search openings
+pub returns : goal.returns
+returns c = search (openings, c.in_ok-group.was)

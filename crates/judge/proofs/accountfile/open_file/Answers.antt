@@ -1,5 +1,6 @@
--- `open_file` meets its contract: 15, the line refused, or its number put to those seen; offsets stay in the file. Assumes nothing.
+-- `open_file` meets its contract: too many, the line refused, or its number put to those seen; offsets stay in the file. Assumes nothing.
 use borrow.Author.Rules.{rules}
+use Rattle.std.proofs.lemmas.Result.{err_from_is_err_and}
 use Rattle.judge.proofs.accountfile.Files.{file-places, file-lines}
 use Rattle.judge.proofs.accountfile.open_file.Goals as goal
 
@@ -9,14 +10,16 @@ returns-then-files-ge1000 c = search file-lines
 pub file_line-requires : goal.file_line-requires
 file_line-requires c = search (file-places, rules)
 
-pub mark-requires : goal.mark-requires
-mark-requires c = search (file-places, rules)
+pub lined-requires : goal.lined-requires
+lined-requires c = search (file-places, rules)
 
-pub byte_in-byte-requires : goal.byte_in-byte-requires
-byte_in-byte-requires c = search (file-places, rules)
+pub returns-in_err-opened : goal.returns-in_err-opened
+returns-in_err-opened c =
+    let p = err_from_is_err_and c.from_residual.result c.from_residual.ensures.1 in
+    rw (p.1, p.2) (search (file-lines, c.in_err-opened.was))
 
-pub returns-in-File : goal.returns-in-File
-returns-in-File c = search file-lines
+pub mark-requires-clause-n_bound : goal.mark-requires-clause-n_bound
+mark-requires-clause-n_bound c = search (file-places, rules, c.in_ok-opened.was)
 
-pub returns-in-Refused : goal.returns-in-Refused
-returns-in-Refused c = search file-lines
+pub returns : goal.returns
+returns c = search (file-lines, c.in_ok-opened.was)

@@ -1,17 +1,12 @@
 -- `open_group` meets its contract: the line refused, or the group read whole. Assumes nothing.
-use borrow.Author.Rules.{rules}
-use Rattle.judge.proofs.accountfile.Files.{cut_inside}
+use Rattle.std.proofs.lemmas.Result.{err_from_is_err_and}
 use Rattle.judge.proofs.accountfile.Groups.{group_lines}
 use Rattle.judge.proofs.accountfile.open_group.Goals as goal
 
-pub group_opening-requires-clause-at_le_stop : goal.group_opening-requires-clause-at_le_stop
-group_opening-requires-clause-at_le_stop c = search (cut_inside, rules)
+pub returns-in_err-held : goal.returns-in_err-held
+returns-in_err-held c =
+    let p = err_from_is_err_and c.from_residual.result c.from_residual.ensures.1 in
+    rw (p.1, p.2) (search (group_lines, c.in_err-held.was))
 
-pub whole_group-requires : goal.whole_group-requires
-whole_group-requires c = search (group_lines, rules)
-
-pub returns-in-Group : goal.returns-in-Group
-returns-in-Group c = search group_lines
-
-pub returns-in-Refused : goal.returns-in-Refused
-returns-in-Refused c = search group_lines
+pub returns : goal.returns
+returns c = search (group_lines, c.in_ok-held.was)

@@ -1,5 +1,6 @@
--- `item_turn`: 15 before the fields, then the item as it is judged. Assumes nothing.
+-- `item_turn`: too many before the fields, then the item as it is judged. Assumes nothing.
 use borrow.Author.Rules.{rules}
+use Rattle.std.proofs.lemmas.Result.{err_from_is_err_and}
 use Rattle.judge.proofs.group.Turns.{places, turns}
 use Rattle.judge.proofs.group.item_turn.Goals as goal
 
@@ -9,11 +10,13 @@ returns-then-inside-ge99999 c = search turns
 pub returns-then-limits-items : goal.returns-then-limits-items
 returns-then-limits-items c = search turns
 
-pub byte_in-byte-requires : goal.byte_in-byte-requires
-byte_in-byte-requires c = search (places, rules)
+pub lined-requires : goal.lined-requires
+lined-requires c = search (places, rules)
 
-pub returns-in-Item : goal.returns-in-Item
-returns-in-Item c = search turns
+pub returns-in_err-item : goal.returns-in_err-item
+returns-in_err-item c =
+    let p = err_from_is_err_and c.from_residual.result c.from_residual.ensures.1 in
+    rw (p.1, p.2) (search (turns, c.in_err-item.was))
 
-pub returns-in-Refused : goal.returns-in-Refused
-returns-in-Refused c = search turns
+pub returns : goal.returns
+returns c = search (turns, c.in_ok-item.was)
