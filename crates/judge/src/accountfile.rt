@@ -94,12 +94,8 @@ fn open_file(
     }
     let stop = cut.stop;
     let set = Seen { words: *seen };
-    let opened = lined(
-        fileline::file_line(&f[at..stop], sh, from, to, set),
-        line,
-        at,
-        stop,
-    )?;
+    let read = fileline::file_line(&f[at..stop], sh, from, to, set);
+    let opened = lined(read, line, at, stop)?;
     fileline::seen::mark(seen, set, opened.number / 1000);
     Ok(Left::Group(
         cut.next,

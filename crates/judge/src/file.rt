@@ -10,7 +10,7 @@ ghost use Rattle.tally.specs.Short.{tally};
 ghost use Rattle.judge.specs.accountfile.Resume.{Good};
 ghost use Rattle.judge.specs.file.Answer.{Went, from_seen, NameIn, told, terms_of, Concluded, Kept, KeptEnd};
 
-use crate::accountfile::Left;
+use crate::accountfile::{Left, file_step, group_step};
 use crate::group::{Counts, Shelf};
 use crate::refused::{Refused, lined};
 use fileline::seen::Seen;
@@ -72,16 +72,7 @@ fn account_files(
     if budget == 0 {
         return Ok(Left::File(at, line, counts));
     }
-    match crate::accountfile::file_step(
-        f,
-        terms.sheet,
-        at,
-        line,
-        terms.from,
-        terms.to,
-        counts,
-        seen,
-    )? {
+    match file_step(f, terms.sheet, at, line, terms.from, terms.to, counts, seen)? {
         Left::Group(next, number, opened, shelf) => groups(
             f,
             terms,
@@ -120,15 +111,7 @@ fn groups(
     let mut counts = counts;
     let mut shelf = shelf;
     loop {
-        match crate::accountfile::group_step(
-            f,
-            terms.sheet,
-            terms.today,
-            at,
-            line,
-            counts,
-            shelf,
-        )? {
+        match group_step(f, terms.sheet, terms.today, at, line, counts, shelf)? {
             Left::Group(next, number, more, held) => {
                 at = next;
                 line = number;
@@ -138,8 +121,8 @@ fn groups(
             Left::File(next, number, more) => {
                 return account_files(f, terms, next, number, more, seen, budget - 1);
             }
-            Left::Accepted(rows, warnings) => {
-                return Ok(Left::Accepted(rows, warnings));
+            next => {
+                return Ok(next);
             }
         }
     }

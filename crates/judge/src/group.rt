@@ -122,12 +122,8 @@ fn item_turn(
             byte: at as u64,
         });
     }
-    let item = lined(
-        itemline::judge::judge_item(&f[at..stop], sh, banks, held.opened.single),
-        line,
-        at,
-        stop,
-    )?;
+    let judged = itemline::judge::judge_item(&f[at..stop], sh, banks, held.opened.single);
+    let item = lined(judged, line, at, stop)?;
     Ok(Turn::Item(item))
 }
 

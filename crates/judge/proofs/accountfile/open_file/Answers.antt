@@ -7,8 +7,8 @@ use Rattle.judge.proofs.accountfile.open_file.Goals as goal
 pub returns-then-files-ge1000 : goal.returns-then-files-ge1000
 returns-then-files-ge1000 c = search file-lines
 
-pub file_line-requires : goal.file_line-requires
-file_line-requires c = search (file-places, rules)
+pub file_line-read-requires : goal.file_line-read-requires
+file_line-read-requires c = search (file-places, rules)
 
 pub lined-requires : goal.lined-requires
 lined-requires c = search (file-places, rules)

@@ -23,5 +23,5 @@ groups-returns-in_err-next t c =
 pub groups-returns-in-File : goal.groups-returns-in-File
 groups-returns-in-File t c = search (alongs, rules, c.in_ok-next.was)
 
-pub groups-returns-in-Accepted : goal.groups-returns-in-Accepted
-groups-returns-in-Accepted t c = search (alongs, rules, c.in_ok-next.was)
+pub groups-returns-in_default : goal.groups-returns-in_default
+groups-returns-in_default t c = search (alongs, rules, c.in_ok-next.was)
