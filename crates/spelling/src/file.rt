@@ -45,7 +45,7 @@ fn end_group(out: &mut [u8], at: usize, due: bool) -> usize
     ensures { Wrote out.old at (group_ends (stage_when due)) out.new result }
 {
     if due {
-        return crate::putlines::put_close(out, at, 51);
+        return crate::putlines::put_close(out, at, b'3');
     }
     at
 }
@@ -56,8 +56,8 @@ fn end_file(out: &mut [u8], at: usize, due: bool) -> usize
     ensures { Wrote out.old at (file_ends (stage_when due)) out.new result }
 {
     if due {
-        let e = crate::putlines::put_close(out, at, 51);
-        return crate::putlines::put_close(out, e, 53);
+        let e = crate::putlines::put_close(out, at, b'3');
+        return crate::putlines::put_close(out, e, b'5');
     }
     at
 }

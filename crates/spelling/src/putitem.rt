@@ -42,7 +42,7 @@ fn put_symbol(out: &mut [u8], at: usize, hidden: bool, n: u64) -> usize
     if hidden {
         return out::put::put_bytes(out, at, b"  ");
     }
-    let e = out::put::put_byte(out, at, 32);
+    let e = out::put::put_byte(out, at, b' ');
     crate::putlines::number_space(out, e, n)
 }
 
@@ -54,7 +54,7 @@ fn put_lone(out: &mut [u8], at: usize, n: u64) -> usize
     if n == 0 {
         return at;
     }
-    let e = out::put::put_byte(out, at, 32);
+    let e = out::put::put_byte(out, at, b' ');
     numeral::put_number(out, e, n)
 }
 

@@ -18,7 +18,7 @@ pub fn number_space(out: &mut [u8], at: usize, n: u64) -> usize
     ensures { Wrote out.old at (decimal n ++ (32 ∷ [])) out.new result }
 {
     let e = numeral::put_number(out, at, n);
-    out::put::put_byte(out, e, 32)
+    out::put::put_byte(out, e, b' ')
 }
 
 // Writes n in k digits, and a space.
@@ -27,7 +27,7 @@ fn fixed_space(out: &mut [u8], at: usize, k: usize, n: u64) -> usize
     ensures { Wrote out.old at (fixed k n ++ (32 ∷ [])) out.new result }
 {
     let e = numeral::put_fixed(out, at, k, n);
-    out::put::put_byte(out, e, 32)
+    out::put::put_byte(out, e, b' ')
 }
 
 // Writes an account and a space.
@@ -36,7 +36,7 @@ pub fn account_space(out: &mut [u8], at: usize, prefix: u64, base: u64) -> usize
     ensures { Wrote out.old at (spell_account (account prefix base) ++ (32 ∷ [])) out.new result }
 {
     let e = account::put_account(out, at, prefix, base);
-    out::put::put_byte(out, e, 32)
+    out::put::put_byte(out, e, b' ')
 }
 
 // Writes a payer and a space. Nobody has the space alone, or where his field does not stand `always`, nothing.
@@ -46,7 +46,7 @@ pub fn put_payer(out: &mut [u8], at: usize, always: bool, prefix: u64, base: u64
 {
     if account::is_nobody(prefix, base) {
         if always {
-            return out::put::put_byte(out, at, 32);
+            return out::put::put_byte(out, at, b' ');
         }
         return at;
     }
