@@ -88,11 +88,7 @@ fn name_of(file: &[u8]) -> [u8; 20]
     ensures { result ≡ take 20 (drop 10 file.now) }
 {
     let mut name = [32u8; 20];
-    let mut i: usize = 0;
-    while i < 20 {
-        name[i] = file[10 + i];
-        i = i + 1;
-    }
+    name.copy_from_slice(&file[10..30]);
     name
 }
 
