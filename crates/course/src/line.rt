@@ -8,11 +8,7 @@ ghost use Rattle.judge.specs.accountfile.Resume.{LowFile};
 ghost use Rattle.course.specs.Stands.{LowMove, Leads, at_first, at_file, at_group};
 
 use crate::{Course, Stage};
-use closing::CloseRead;
-use fileline::FileRead;
 use fileline::seen::Seen;
-use firstline::FirstRead;
-use judge::accountfile::Opening;
 use judge::group::{Counts, Shelf};
 use scan::kind::LineKind;
 use scan::line::Cut;
@@ -35,23 +31,21 @@ fn begin(f: &[u8], sh: Sheet, at: usize, stop: usize) -> Option<Course>
     ensures low_move { LowMove result }
     ensures leads { (today k from to : ℕ) (words : List ℕ) → Leads sh today k (line_in f.now at stop) (at_first from to) words words result }
 {
-    match firstline::first_line(&f[at..stop], sh) {
-        FirstRead::Header {
-            date: _,
-            client: _,
-            from,
-            to,
-        } => Some(Course {
-            from,
-            to,
-            stage: Stage::File(NOTHING),
+    let Ok(header) = firstline::first_line(&f[at..stop], sh) else {
+        return None;
+    };
+    let stage = Stage::File(NOTHING);
+    match header {
+        Some(h) => Some(Course {
+            from: h.from,
+            to: h.to,
+            stage,
         }),
-        FirstRead::Plain => Some(Course {
+        None => Some(Course {
             from: 0,
             to: 0,
-            stage: Stage::File(NOTHING),
+            stage,
         }),
-        FirstRead::Refused(_, _) => None,
     }
 }
 
@@ -63,11 +57,7 @@ pub fn from_first(f: &[u8], sh: Sheet, at: usize, stop: usize) -> Option<Course>
 {
     match scan::kind::kind_of(&f[at..stop]) {
         LineKind::Head => begin(f, sh, at, stop),
-        LineKind::File => None,
-        LineKind::Group => None,
-        LineKind::Item => None,
-        LineKind::GroupEnd => None,
-        LineKind::FileEnd => None,
+        _ => None,
     }
 }
 
@@ -97,19 +87,17 @@ fn open_file(
     let stop = cut.stop;
     let words = *seen;
     let set = Seen { words: words };
-    match fileline::file_line(&f[at..stop], sh, from, to, set) {
-        FileRead::File { kind, number } => {
-            fileline::seen::mark(seen, set, number / 1000);
-            let more = judge::accountfile::file_more(counts);
-            let shelf = judge::accountfile::new_shelf(kind);
-            Some(Course {
-                from,
-                to,
-                stage: Stage::Group(more, shelf),
-            })
-        }
-        FileRead::Refused(_, _) => None,
-    }
+    let Ok(file) = fileline::file_line(&f[at..stop], sh, from, to, set) else {
+        return None;
+    };
+    fileline::seen::mark(seen, set, file.number / 1000);
+    let more = judge::accountfile::file_more(counts);
+    let shelf = judge::accountfile::new_shelf(file.kind);
+    Some(Course {
+        from,
+        to,
+        stage: Stage::Group(more, shelf),
+    })
 }
 
 // Between account files.
@@ -131,11 +119,7 @@ pub fn from_file(
     let stop = cut.stop;
     match scan::kind::kind_of(&f[at..stop]) {
         LineKind::File => open_file(f, sh, at, cut, from, to, counts, seen),
-        LineKind::Head => None,
-        LineKind::Group => None,
-        LineKind::Item => None,
-        LineKind::GroupEnd => None,
-        LineKind::FileEnd => None,
+        _ => None,
     }
 }
 
@@ -162,12 +146,12 @@ fn open_group(
     ensures by_index { (words : List ℕ) → Leads sh today line (line_in f.now at stop) (at_group from to counts shelf) words words result }
 {
     match judge::accountfile::group_opening(f, sh, today, at, stop, line, counts, shelf) {
-        Opening::Group(held) => Some(Course {
+        Ok(held) => Some(Course {
             from,
             to,
             stage: Stage::Item(held),
         }),
-        Opening::Refused(_, _) => None,
+        Err(_) => None,
     }
 }
 
@@ -194,12 +178,12 @@ fn close_file(
     }
     let stop = cut.stop;
     match closing::close_line(&f[at..stop], sh.near) {
-        CloseRead::Closed => Some(Course {
+        Ok(()) => Some(Course {
             from,
             to,
             stage: Stage::File(counts),
         }),
-        CloseRead::Refused(_, _) => None,
+        Err(_) => None,
     }
 }
 
@@ -226,9 +210,6 @@ pub fn from_group(
     match scan::kind::kind_of(&f[at..stop]) {
         LineKind::Group => open_group(f, sh, today, at, stop, line, from, to, counts, shelf),
         LineKind::FileEnd => close_file(f, sh, at, cut, from, to, counts, shelf),
-        LineKind::Head => None,
-        LineKind::File => None,
-        LineKind::Item => None,
-        LineKind::GroupEnd => None,
+        _ => None,
     }
 }

@@ -6,11 +6,11 @@ use Rattle.course.proofs.line.begin.Goals as goal
 pub first_line-requires : goal.first_line-requires
 first_line-requires c = search (firsts-lead, rules)
 
-pub returns-in-Header : goal.returns-in-Header
-returns-in-Header c = search (firsts-lead, rules)
+pub returns-in-Some : goal.returns-in-Some
+returns-in-Some c = search (firsts-lead, rules)
 
-pub returns-in-Plain : goal.returns-in-Plain
-returns-in-Plain c = search (firsts-lead, rules)
+pub returns-in-None : goal.returns-in-None
+returns-in-None c = search (firsts-lead, rules)
 
-pub returns-in-Refused : goal.returns-in-Refused
-returns-in-Refused c = search (firsts-lead, rules)
+pub returns-in_default : goal.returns-in_default
+returns-in_default c = search (firsts-lead, rules)

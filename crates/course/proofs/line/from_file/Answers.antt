@@ -14,22 +14,5 @@ pub returns-in-File : goal.returns-in-File
 unfolding is_due
 returns-in-File c = search (others-halt, rules)
 
-pub returns-in-Head : goal.returns-in-Head
-unfolding is_due
-returns-in-Head c = search (others-halt, rules)
-
-pub returns-in-Group : goal.returns-in-Group
-unfolding is_due
-returns-in-Group c = search (others-halt, rules)
-
-pub returns-in-Item : goal.returns-in-Item
-unfolding is_due
-returns-in-Item c = search (others-halt, rules)
-
-pub returns-in-GroupEnd : goal.returns-in-GroupEnd
-unfolding is_due
-returns-in-GroupEnd c = search (others-halt, rules)
-
-pub returns-in-FileEnd : goal.returns-in-FileEnd
-unfolding is_due
-returns-in-FileEnd c = search (others-halt, rules)
+pub returns-in_default : goal.returns-in_default
+returns-in_default c = search (others-halt, rules)

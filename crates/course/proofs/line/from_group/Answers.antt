@@ -9,7 +9,7 @@ pub kind_of-requires : goal.kind_of-requires
 kind_of-requires c = search (others-halt, rules)
 
 pub open_group-requires : goal.open_group-requires
-open_group-requires c = record { today_value = search rules; low_group = search rules; at_le_stop = (search (others-halt, rules), search (others-halt, rules)); f_value = search others-halt }
+open_group-requires c = record { today_value = search rules; low_group = search rules; at_le_stop = (search (others-halt, rules), search (others-halt, rules)); f_value = search (others-halt, rules) }
 
 pub close_file-requires : goal.close_file-requires
 close_file-requires c = search (others-halt, rules)
@@ -22,18 +22,5 @@ pub returns-in-FileEnd : goal.returns-in-FileEnd
 unfolding is_due pick
 returns-in-FileEnd c = search (others-halt, rules)
 
-pub returns-in-Head : goal.returns-in-Head
-unfolding is_due pick
-returns-in-Head c = search (others-halt, rules)
-
-pub returns-in-File : goal.returns-in-File
-unfolding is_due pick
-returns-in-File c = search (others-halt, rules)
-
-pub returns-in-Item : goal.returns-in-Item
-unfolding is_due pick
-returns-in-Item c = search (others-halt, rules)
-
-pub returns-in-GroupEnd : goal.returns-in-GroupEnd
-unfolding is_due pick
-returns-in-GroupEnd c = search (others-halt, rules)
+pub returns-in_default : goal.returns-in_default
+returns-in_default c = search (others-halt, rules)

@@ -19,8 +19,8 @@ file_more-more-requires c = search (files-lead, file-places, rules)
 pub new_shelf-shelf-requires : goal.new_shelf-shelf-requires
 new_shelf-shelf-requires c = search (files-lead, file-places, rules)
 
-pub returns-in-File : goal.returns-in-File
-returns-in-File c = search (files-lead, file-places, rules)
+pub returns : goal.returns
+returns c = search (files-lead, file-places, rules)
 
-pub returns-in-Refused : goal.returns-in-Refused
-returns-in-Refused c = search (files-lead, file-places, rules)
+pub returns-in_default : goal.returns-in_default
+returns-in_default c = search (files-lead, file-places, rules)

@@ -6,8 +6,8 @@ use Rattle.course.proofs.line.open_group.Goals as goal
 pub group_opening-requires : goal.group_opening-requires
 group_opening-requires c = search (groups-lead, rules)
 
-pub returns-in-Group : goal.returns-in-Group
-returns-in-Group c = search (groups-lead, rules)
+pub returns-in-Ok : goal.returns-in-Ok
+returns-in-Ok c = search (groups-lead, rules)
 
-pub returns-in-Refused : goal.returns-in-Refused
-returns-in-Refused c = search (groups-lead, rules)
+pub returns-in-Err : goal.returns-in-Err
+returns-in-Err c = search (groups-lead, rules)
