@@ -19,14 +19,19 @@ use Rattle.paper.specs.Rows.{rows_in, things_in}
 use Rattle.paper.specs.Canonical.{canon}
 use Rattle.paper.specs.Writing.{Draft, on_verdict, draft_of, draft_with, draft, WriteAnswer, written_in, output_after}
 use Rattle.roundtrip.specs.flat.Flat.{line_of, flat}
-use Rattle.rows.specs.declared.read.Check.{Check}
-use Rattle.rows.specs.declared.read.Check.TheVariants.{Fine, Wrong}
+use Rattle.std.proofs.Common.{Result, Ok, Err}
+use Rattle.refusal.specs.declared.Refusal.{Refusal}
+use Rattle.refusal.specs.declared.Refusal.TheVariants as why
+use Rattle.refusal.specs.Numbers.{number_of}
+use Rattle.rows.specs.declared.field.Field.{Field}
+use Rattle.rows.specs.declared.field.Field.TheVariants as field
+use Rattle.rows.specs.declared.field.Wrong.{Wrong}
+use Rattle.rows.specs.field.Numbers.{number_of as field_number}
 use Rattle.rows.specs.read.After.{after}
-use Rattle.survey.specs.declared.Surveyed.{Surveyed}
-use Rattle.survey.specs.declared.Surveyed.TheVariants.{Improper, Unfit, Fits}
-use Rattle.survey.specs.Told.{told as surveyed_as, judged as surveyed, Small}
-use Rattle.write.specs.declared.BatchJudged.{BatchJudged}
-use Rattle.write.specs.declared.BatchJudged.TheVariants.{Refused, Bytes}
+use Rattle.survey.specs.declared.Unwritable.{Unwritable}
+use Rattle.survey.specs.declared.Unwritable.TheVariants.{NotABatch, NotCarried}
+use Rattle.survey.specs.Told.{told as surveyed_as, judged as surveyed}
+use Rattle.write.specs.declared.Refused.{Refused}
 use Rattle.write.specs.Told.{refused_at, counted_as, Named, before, Tells, rows_draft}
 use Rattle.write.proofs.Laws as laws
 
@@ -54,26 +59,26 @@ module _ (sh : Sheet) (from to : ℕ) where
 pub ruleset interval = (no-header, no_interval, interval-wrong, interval-fine)
 
 -- c is what the header's test answered
-module _ (c : Check) (v : Verdict) (g : after 0 c fine ≡ v) where
-  pub found : (n field : ℕ) (d : Draft) → c ≡ Wrong field → Tells (Refused n 0 field) (on_verdict n v d)
+module _ (c : Result (Unit {0}) Field) (v : Verdict) (g : after 0 c fine ≡ v) where
+  pub found : (r : Refusal) (f : Field) (d : Draft) → c ≡ Err f → Tells (Err (record { refusal = r; at = record { row = 0; field = f } })) (on_verdict (number_of r) v d)
   unfolding Tells on_verdict
-  found n field d e =
-      let w : v ≡ wrong 0 field = sym g ∙ ap (λ (x : Check). after 0 x fine) e in
+  found r f d e =
+      let w : v ≡ wrong 0 (field_number f) = sym g ∙ ap (λ (x : Result (Unit {0}) Field). after 0 x fine) e in
       rw w
 
-  passed : c ≡ Fine → fine ≡ v
-  passed e = sym (ap (λ (x : Check). after 0 x fine) e) ∙ g
+  passed : c ≡ Ok tt → fine ≡ v
+  passed e = sym (ap (λ (x : Result (Unit {0}) Field). after 0 x fine) e) ∙ g
 
-  pub next-is : (n : ℕ) (d : Draft) (next : BatchJudged) → c ≡ Fine → Tells next d → Tells next (on_verdict n v d)
+  pub next-is : (n : ℕ) (d : Draft) (next : Result ℕ Refused) → c ≡ Ok tt → Tells next d → Tells next (on_verdict n v d)
   unfolding on_verdict
   next-is n d next e h = rw (← passed e) h
 
-module _ (sh : Sheet) (from to : ℕ) (next : BatchJudged) (c : Check) (g : (h : Header) → h.from ≡ from → h.to ≡ to → after 0 c fine ≡ pick sh.header (header_carried sh.interval h) fine) where
-  pub carry-found : (field : ℕ) → c ≡ Wrong field → (h : Header) (d : Draft) → h.from ≡ from → h.to ≡ to → Tells next d
-      → Tells (Refused 21 0 field) (on_verdict 21 (pick sh.header (header_carried sh.interval h) fine) d)
-  carry-found field e h d f t n = found c _ (g h f t) 21 field d e
+module _ (sh : Sheet) (from to : ℕ) (next : Result ℕ Refused) (c : Result (Unit {0}) Field) (g : (h : Header) → h.from ≡ from → h.to ≡ to → after 0 c fine ≡ pick sh.header (header_carried sh.interval h) fine) where
+  pub carry-found : (f : Field) → c ≡ Err f → (h : Header) (d : Draft) → h.from ≡ from → h.to ≡ to → Tells next d
+      → Tells (Err (record { refusal = why.NotCarried; at = record { row = 0; field = f } })) (on_verdict 21 (pick sh.header (header_carried sh.interval h) fine) d)
+  carry-found f e h d from to n = found c _ (g h from to) why.NotCarried f d e
 
-  pub carry-next : c ≡ Fine → (h : Header) (d : Draft) → h.from ≡ from → h.to ≡ to → Tells next d
+  pub carry-next : c ≡ Ok tt → (h : Header) (d : Draft) → h.from ≡ from → h.to ≡ to → Tells next d
       → Tells next (on_verdict 21 (pick sh.header (header_carried sh.interval h) fine) d)
   carry-next e h d f t n = next-is c _ (g h f t) 21 d next e n
 
@@ -81,23 +86,24 @@ pub ruleset carrying = (carry-found, carry-next)
 
 -- ---- the rows
 
-module _ (sh : Sheet) (today from to : ℕ) (ts : List Thing) (s : Surveyed) (g : (h : Header) → h.from ≡ from → h.to ≡ to → surveyed_as s ≡ surveyed sh today h ts) where
+module _ (sh : Sheet) (today from to : ℕ) (ts : List Thing) (s : Result ℕ Unwritable) (g : (h : Header) → h.from ≡ from → h.to ≡ to → surveyed_as s ≡ surveyed sh today h ts) where
   -- what all headers with this interval are judged to be
-  abbrev pub Judges : BatchJudged → Type 0
+  abbrev pub Judges : Result ℕ Refused → Type 0
   Judges r = (h : Header) → h.from ≡ from → h.to ≡ to → Named sh h → Tells r (rows_draft sh today h ts)
 
   -- and what is said of them where 21 of the header may come before
-  abbrev pub Before : BatchJudged → BatchJudged → Type 0
+  abbrev pub Before : Result ℕ Refused → Result ℕ Refused → Type 0
   Before next r =
       (h : Header) (d : Draft) → h.from ≡ from → h.to ≡ to → Tells next d → Tells r (on_verdict 21 (pick sh.header (header_carried sh.interval h) fine) d)
 
-  pub row-improper : (row field : ℕ) → s ≡ Improper row field → Judges (Refused 20 row field)
-  row-improper row field e h f t _ = laws.rows-improper sh today h ts row field (sym (ap surveyed_as e) ∙ g h f t)
+  pub row-improper : (u : Unwritable) → s ≡ Err u → (w : Wrong) → u ≡ NotABatch w → Judges (Err (record { refusal = why.NotABatch; at = w }))
+  row-improper u e w i h f t _ = laws.rows-improper sh today h ts w (sym (ap surveyed_as (e ∙ ap Err i)) ∙ g h f t)
 
-  pub row-unfit : (row field : ℕ) → s ≡ Unfit row field → (r : BatchJudged) → Before (Refused 21 row field) r → Judges r
-  row-unfit row field e r k h f t _ = laws.rows-unfit sh today h ts row field (sym (ap surveyed_as e) ∙ g h f t) r (λ d. k h d f t)
+  pub row-unfit : (u : Unwritable) → s ≡ Err u → (w : Wrong) → u ≡ NotCarried w → (r : Result ℕ Refused)
+      → Before (Err (record { refusal = why.NotCarried; at = w })) r → Judges r
+  row-unfit u e w i r k h f t _ = laws.rows-unfit sh today h ts w (sym (ap surveyed_as (e ∙ ap Err i)) ∙ g h f t) r (λ d. k h d f t)
 
-  pub rows_fit : (c : ℕ) → s ≡ Fits c → (n : ℕ) → ((h : Header) → Named sh h → n ≡ length (spell_first sh h) + 2 + c) → (r : BatchJudged) → Before (Bytes n) r → Judges r
+  pub rows_fit : (c : ℕ) → s ≡ Ok c → (n : ℕ) → ((h : Header) → Named sh h → n ≡ length (spell_first sh h) + 2 + c) → (r : Result ℕ Refused) → Before (Ok n) r → Judges r
   rows_fit c e n l r k h f t named = laws.rows_fit sh today h ts n c (l h named) (sym (ap surveyed_as e) ∙ g h f t) r (λ d. k h d f t)
 
 -- the first line, and what stands behind it
@@ -105,20 +111,16 @@ pub whole_length : (sh : Sheet) (n rest : ℕ) → ((h : Header) → length h.na
     → (h : Header) → Named sh h → n + 2 + rest ≡ length (spell_first sh h) + 2 + rest
 whole_length sh n rest f h named = rw (laws.first-length sh n f h named)
 
--- the rows' bytes are few
-pub counted : (s : Surveyed) → Small s → (c : ℕ) → s ≡ Fits c → c ≤ 200000000000
-counted s k c e = rw e at k
-
-pub ruleset judging = (row-improper, row-unfit, rows_fit, counted)
+pub ruleset judging = (row-improper, row-unfit, rows_fit)
 
 -- ---- the batch
 
-module _ (sh : Sheet) (today : ℕ) (h : Header) (ts : List Thing) (c : Check) (g : after 0 c fine ≡ pick sh.header (header_proper h) fine) where
-  pub head-wrong : (field : ℕ) → c ≡ Wrong field → Tells (Refused 20 0 field) (draft_of sh today h ts)
+module _ (sh : Sheet) (today : ℕ) (h : Header) (ts : List Thing) (c : Result (Unit {0}) Field) (g : after 0 c fine ≡ pick sh.header (header_proper h) fine) where
+  pub head-wrong : (f : Field) → c ≡ Err f → Tells (Err (record { refusal = why.NotABatch; at = record { row = 0; field = f } })) (draft_of sh today h ts)
   unfolding draft_of
-  head-wrong field e = found c _ g 20 field _ e
+  head-wrong f e = found c _ g why.NotABatch f _ e
 
-  pub head-fine : c ≡ Fine → (r : BatchJudged)
+  pub head-fine : c ≡ Ok tt → (r : Result ℕ Refused)
       → ((k : Header) → k.from ≡ h.from → k.to ≡ h.to → Named sh k → Tells r (rows_draft sh today k ts)) → Tells r (draft_of sh today h ts)
   unfolding draft_of rows_draft
   head-fine e r f = next-is c _ g 20 _ r e (f h refl refl (laws.named sh h (passed c _ g e)))
@@ -140,7 +142,7 @@ module _ (sh : Sheet) (h : Header) (ts : List Thing) (p : batch_proper ts ≡ fi
 
 pub ruleset putting = (first-room, rest-room, file-put)
 
-module _ (sh : Sheet) (today : ℕ) (h : Header) (ts : List Thing) (n : ℕ) (e : Tells (Bytes n) (draft_of sh today h ts)) where
+module _ (sh : Sheet) (today : ℕ) (h : Header) (ts : List Thing) (n : ℕ) (e : Tells (Ok n) (draft_of sh today h ts)) where
   pub short : (a : WriteAnswer) (room : ℕ) → room < n → a ≡ counted_as 16 n → a ≡ written_in room (draft_of sh today h ts)
   short a room l g = g ∙ laws.short-answer sh today h ts n e room l
 
@@ -153,10 +155,6 @@ module _ (sh : Sheet) (today : ℕ) (h : Header) (ts : List Thing) (n : ℕ) (e 
 pub ruleset accepting = (laws.proper-rows, short, laws.short-output, laws.full-room, full, full-output)
 
 -- ---- the day and the sheet
-
--- t says whether today is a day
-pub real-known : (t : Bool) (today : ℕ) → t ≡ real_day today → t ≡ true → real_day today ≡ true
-real-known t today g e = sym g ∙ e
 
 module _ (sh : Sheet) (today : ℕ) (h : Header) (ts : List Thing) (a : WriteAnswer) (room : ℕ) (o p : List ℕ) where
   module _ (t : Bool) (g : t ≡ real_day today) where
@@ -179,18 +177,15 @@ module _ (sh : Sheet) (today : ℕ) (h : Header) (ts : List Thing) (a : WriteAns
     no-day-output e = rw (← g, e)
 
   -- j is what the batch was judged to be
-  module _ (j : BatchJudged) (g : Tells j (draft_of sh today h ts)) where
-    pub refused : (n row field : ℕ) → j ≡ Refused n row field → a ≡ refused_at n row field → a ≡ written_in room (draft_of sh today h ts)
-    refused n row field e k = k ∙ laws.refused-answer n row field _ (rw e at g) room
+  module _ (j : Result ℕ Refused) (g : Tells j (draft_of sh today h ts)) where
+    pub refused : (r : Refused) → j ≡ Err r → (field : ℕ) → field ≡ field_number r.at.field → a ≡ refused_at (number_of r.refusal) r.at.row field
+        → a ≡ written_in room (draft_of sh today h ts)
+    refused r e field f k = k ∙ (rw f (laws.refused-answer r _ (rw e at g) room))
 
-    pub refused-output : (n row field : ℕ) → j ≡ Refused n row field → o ≡ output_after o (draft_of sh today h ts)
-    refused-output n row field e = laws.refused-output n row field _ (rw e at g) o
+    pub refused-output : (r : Refused) → j ≡ Err r → o ≡ output_after o (draft_of sh today h ts)
+    refused-output r e = laws.refused-output r _ (rw e at g) o
 
--- a draft of n bytes
-pub sized : (d : Draft) (j : BatchJudged) → Tells j d → (n : ℕ) → j ≡ Bytes n → Tells (Bytes n) d
-sized d j g n e = rw e at g
-
-pub ruleset days = (real-known, day-answer, day-output, no_day, no-day-output, sized, refused, refused-output)
+pub ruleset days = (day-answer, day-output, no_day, no-day-output, refused, refused-output)
 
 -- r is the sheet that the number names
 module _ (r : Option Sheet) (n : ℕ) (g : r ≡ sheet_of n) where

@@ -24,8 +24,12 @@ use Rattle.roundtrip.proofs.flat.Canon.{canon-flat}
 use Rattle.roundtrip.proofs.flat.Lengths.{canon-length}
 use Rattle.survey.specs.state.Stands.{improper, unfit, fits, survey_of}
 use Rattle.survey.specs.Told.{judged as surveyed}
-use Rattle.write.specs.declared.BatchJudged.{BatchJudged}
-use Rattle.write.specs.declared.BatchJudged.TheVariants as judged
+use Rattle.std.proofs.Common.{Result, Ok, Err}
+use Rattle.refusal.specs.declared.Refusal.TheVariants.{NotABatch, NotCarried}
+use Rattle.refusal.specs.Numbers.{number_of}
+use Rattle.rows.specs.declared.field.Wrong.{Wrong}
+use Rattle.rows.specs.field.Numbers.{number_of as field_number}
+use Rattle.write.specs.declared.Refused.{Refused}
 use Rattle.write.specs.Told.{refused_at, counted_as, Named, before, Tells, rows_draft}
 
 -- ---- what the rows are judged to be, turned round
@@ -78,23 +82,24 @@ first-length sh r f h n = first_by sh sh.header refl r f h n
 
 module _ (sh : Sheet) (today : ℕ) (h : Header) (ts : List Thing) where
   -- 20 of a row comes before 21, of the header too
-  pub rows-improper : (row field : ℕ) → improper row field ≡ surveyed sh today h ts → Tells (judged.Refused 20 row field) (rows_draft sh today h ts)
+  pub rows-improper : (w : Wrong) → improper w.row (field_number w.field) ≡ surveyed sh today h ts → Tells (Err (record { refusal = NotABatch; at = w })) (rows_draft sh today h ts)
   unfolding surveyed rows_draft on_verdict Tells
-  rows-improper row field e = rw (improper-rows (batch_proper ts) (batch_carried sh today h ts) _ row field e)
+  rows-improper w e = rw (improper-rows (batch_proper ts) (batch_carried sh today h ts) _ w.row (field_number w.field) e)
 
   -- what judging says of the header's 21, whatever comes behind it
-  abbrev pub Carries : BatchJudged → BatchJudged → Type 0
+  abbrev pub Carries : Result ℕ Refused → Result ℕ Refused → Type 0
   Carries next r = (d : Draft) → Tells next d → Tells r (on_verdict 21 (pick sh.header (header_carried sh.interval h) fine) d)
 
   -- behind 21 of the header comes that of a row
-  pub rows-unfit : (row field : ℕ) → unfit row field ≡ surveyed sh today h ts → (r : BatchJudged) → Carries (judged.Refused 21 row field) r → Tells r (rows_draft sh today h ts)
+  pub rows-unfit : (w : Wrong) → unfit w.row (field_number w.field) ≡ surveyed sh today h ts → (r : Result ℕ Refused)
+      → Carries (Err (record { refusal = NotCarried; at = w })) r → Tells r (rows_draft sh today h ts)
   unfolding surveyed rows_draft on_verdict Tells
-  rows-unfit row field e r f =
-      let (p, q) = unfit-rows (batch_proper ts) (batch_carried sh today h ts) _ row field e in
+  rows-unfit w e r f =
+      let (p, q) = unfit-rows (batch_proper ts) (batch_carried sh today h ts) _ w.row (field_number w.field) e in
       rw p (f (on_verdict 21 (batch_carried sh today h ts) (drafted (canon sh h (batch_of ts)))) (rw q))
 
   -- or nothing, and the file has the first line's bytes, CR LF, and those of the rows
-  pub rows_fit : (n c : ℕ) → n ≡ length (spell_first sh h) + 2 + c → fits c ≡ surveyed sh today h ts → (r : BatchJudged) → Carries (judged.Bytes n) r → Tells r (rows_draft sh today h ts)
+  pub rows_fit : (n c : ℕ) → n ≡ length (spell_first sh h) + 2 + c → fits c ≡ surveyed sh today h ts → (r : Result ℕ Refused) → Carries (Ok n) r → Tells r (rows_draft sh today h ts)
   unfolding surveyed rows_draft on_verdict Tells
   rows_fit n c g e r f =
       let (p, q, k) = fit-rows (batch_proper ts) (batch_carried sh today h ts) _ c e in
@@ -104,14 +109,14 @@ module _ (sh : Sheet) (today : ℕ) (h : Header) (ts : List Thing) where
 -- ---- the draft by its length
 
 -- a draft with a length: nothing is wrong
-bytes-verdict : (n k : ℕ) (v : Verdict) (d : Draft) → Tells (judged.Bytes n) (on_verdict k v d) → (v ≡ fine) × Tells (judged.Bytes n) d
+bytes-verdict : (n k : ℕ) (v : Verdict) (d : Draft) → Tells (Ok n) (on_verdict k v d) → (v ≡ fine) × Tells (Ok n) d
 unfolding Tells on_verdict
 bytes-verdict n k fine d e = (refl, e)
 bytes-verdict n k (wrong row field) d (s, e, l) = absurd (let z : ◌≡◌ {A = ℕ} 0 1 = cc in omega arith)
 
 -- a refusal: its number, row and field, and the output as it was
-module _ (n row field : ℕ) (d : Draft) (e : Tells (judged.Refused n row field) d) where
-  pub refused-answer : (room : ℕ) → refused_at n row field ≡ written_in room d
+module _ (r : Refused) (d : Draft) (e : Tells (Err r) d) where
+  pub refused-answer : (room : ℕ) → refused_at (number_of r.refusal) r.at.row (field_number r.at.field) ≡ written_in room d
   unfolding Tells written_in
   refused-answer room = rw e
 
@@ -121,7 +126,7 @@ module _ (n row field : ℕ) (d : Draft) (e : Tells (judged.Refused n row field)
 
 module _ (sh : Sheet) (today : ℕ) (h : Header) (ts : List Thing) where
   -- the file has n bytes
-  module _ (n : ℕ) (e : Tells (judged.Bytes n) (draft_of sh today h ts)) where
+  module _ (n : ℕ) (e : Tells (Ok n) (draft_of sh today h ts)) where
     nothing-wrong : (draft_of sh today h ts ≡ drafted (canon sh h (batch_of ts))) × (batch_proper ts ≡ fine) × (n ≡ length (canon sh h (batch_of ts)))
     unfolding Tells draft_of on_verdict
     nothing-wrong =

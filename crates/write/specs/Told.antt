@@ -1,5 +1,5 @@
 -- What the answer that a caller is given stands for, and what judging tells before it. Document 01, "Numbers returned". Assumes nothing.
-use Rattle.std.specs.Prelude.{ℕ, ◌≡◌, true, List, ◌++◌, length, drop}
+use Rattle.std.specs.Prelude.{ℕ, ◌≡◌, true, List, ◌++◌, length, drop, Result, Ok, Err}
 use Rattle.base.specs.Pick.{pick}
 use Rattle.sheet.specs.declared.Sheet.{Sheet}
 use Rattle.paper.specs.Batch.{Header, Thing, batch_of}
@@ -8,8 +8,9 @@ use Rattle.paper.specs.Carried.{header_carried, batch_carried}
 use Rattle.paper.specs.Canonical.{canon}
 use Rattle.paper.specs.Writing.{Draft, drafted, refusal, on_verdict, WriteAnswer}
 use Rattle.write.specs.declared.AboWritten.{AboWritten}
-use Rattle.write.specs.declared.BatchJudged.{BatchJudged}
-use Rattle.write.specs.declared.BatchJudged.TheVariants as judged
+use Rattle.refusal.specs.Numbers.{number_of}
+use Rattle.rows.specs.field.Numbers.{number_of as field_number}
+use Rattle.write.specs.declared.Refused.{Refused}
 
 -- "The batch": the header of these numbers and this name
 abbrev pub header_of : ℕ → List ℕ → ℕ → ℕ → ℕ → Header
@@ -36,9 +37,9 @@ abbrev pub before : List ℕ → List ℕ → List ℕ
 before s old = s ++ drop (length s) old
 
 -- what judging a batch tells of its draft: the number, row and field that it is refused with; or how many bytes its file has
-unfoldable pub Tells : BatchJudged → Draft → Type 0
-Tells (judged.Refused number row field) d = d ≡ refusal number row field
-Tells (judged.Bytes n) d = (s : List ℕ) × (d ≡ drafted s) × (n ≡ length s)
+unfoldable pub Tells : Result ℕ Refused → Draft → Type 0
+Tells (Err r) d = d ≡ refusal (number_of r.refusal) r.at.row (field_number r.at.field)
+Tells (Ok n) d = (s : List ℕ) × (d ≡ drafted s) × (n ≡ length s)
 
 -- behind the header's 20: the rows' 20, the header's 21, the rows' 21
 unfoldable pub rows_draft : Sheet → ℕ → Header → List Thing → Draft

@@ -2,8 +2,9 @@
 // written only if nothing is wrong and it has room for the whole file.
 #![tactic(auto)]
 
-ghost use Rattle.std.specs.Prelude.{◌≡◌, true, ◌+◌, ◌≤◌, length, Some};
+ghost use Rattle.std.specs.Prelude.{◌≡◌, true, ◌+◌, ◌≤◌, length, Some, Ok};
 ghost use Rattle.base.specs.Pick.{pick};
+ghost use Rattle.refusal.specs.Numbers.{number_of, answered};
 ghost use Rattle.paper.specs.Days.{real_day};
 ghost use Rattle.paper.specs.Batch.{Header, batch_of};
 ghost use Rattle.paper.specs.Proper.{fine, header_proper, batch_proper};
@@ -14,11 +15,11 @@ ghost use Rattle.paper.specs.Canonical.{canon};
 ghost use Rattle.paper.specs.Writing.{Draft, on_verdict, draft_of, draft_with, draft, written_in, output_after};
 ghost use Rattle.rows.specs.read.After.{after};
 ghost use Rattle.write.specs.Told.{header_of, told, refused_at, counted_as, Tells, rows_draft, Named, before};
-ghost use Rattle.write.specs.declared.BatchJudged.TheVariants.{Bytes};
 
-use rows::read::Check;
+use refusal::Refusal;
+use rows::field::{Field, Wrong};
 use sheet::Sheet;
-use survey::Surveyed;
+use survey::Unwritable;
 
 // The whole answer of writing: the number, its row and field; the bytes written or, where there is no room, needed.
 #[repr(C)]
@@ -30,29 +31,33 @@ pub struct AboWritten {
     pub bytes: u64,
 }
 
-// What judging a batch ends in: a refusal with its row and field, or the bytes of the whole file.
+// Why a batch is not written, and what is wrong first.
 #[derive(Clone, Copy)]
-pub enum BatchJudged {
-    Refused(u64, u64, u64),
-    Bytes(u64),
+pub struct Refused {
+    pub refusal: Refusal,
+    pub at: Wrong,
 }
 
 // A refusal writes nothing and names no bytes.
-pub fn refusal(number: u64, row: u64, field: u64) -> AboWritten
-    ensures { told result ≡ refused_at number row field }
+pub fn refusal(refusal: Refusal, row: u64, field: u64) -> AboWritten
+    ensures { told result ≡ refused_at (number_of refusal) row field }
 {
     AboWritten {
-        number,
+        number: refusal.number(),
         row,
         field,
         bytes: 0,
     }
 }
 
-// The file's bytes: written with 0, needed with 16.
-pub fn counted(number: u64, bytes: u64) -> AboWritten
-    ensures { told result ≡ counted_as number bytes }
+// The file's bytes: written where there is no refusal, needed with 16.
+pub fn counted(refusal: Option<Refusal>, bytes: u64) -> AboWritten
+    ensures { told result ≡ counted_as (answered refusal) bytes }
 {
+    let number = match refusal {
+        None => 0,
+        Some(refusal) => refusal.number(),
+    };
     AboWritten {
         number,
         row: 0,
@@ -62,37 +67,47 @@ pub fn counted(number: u64, bytes: u64) -> AboWritten
 }
 
 // 20 of the header, where the sheet has one.
-fn header_proper(sh: Sheet, date: u64, name: &[u8], client: u64, from: u64, to: u64) -> Check
+fn header_proper(
+    sh: Sheet,
+    date: u64,
+    name: &[u8],
+    client: u64,
+    from: u64,
+    to: u64,
+) -> Result<(), Field>
     ensures { after 0 result fine ≡ pick sh.header (header_proper (header_of date name.now client from to)) fine }
 {
     if sh.header {
         return rows::proper::header_check(date, name, client, from, to);
     }
-    Check::Fine
+    Ok(())
 }
 
 // 21 of the header, where the sheet has one: the interval's start is not above its end.
-fn header_carried(sh: Sheet, from: u64, to: u64) -> Check
+fn header_carried(sh: Sheet, from: u64, to: u64) -> Result<(), Field>
     ensures { (h : Header) → h.from ≡ from → h.to ≡ to → after 0 result fine ≡ pick sh.header (header_carried sh.interval h) fine }
 {
     if !sh.header {
-        return Check::Fine;
+        return Ok(());
     }
     if sh.interval {
         if to < from {
-            return Check::Wrong(5);
+            return Err(Field::HeaderTo);
         }
     }
-    Check::Fine
+    Ok(())
 }
 
 // What the sheet cannot carry of the header comes before `next`, which is what the rows are judged to be.
-fn carry(sh: Sheet, from: u64, to: u64, next: BatchJudged) -> BatchJudged
+fn carry(sh: Sheet, from: u64, to: u64, next: Result<u64, Refused>) -> Result<u64, Refused>
     ensures { (h : Header) (d : Draft) → h.from ≡ from → h.to ≡ to → Tells next d → Tells result (on_verdict 21 (pick sh.header (header_carried sh.interval h) fine) d) }
 {
     match header_carried(sh, from, to) {
-        Check::Wrong(field) => BatchJudged::Refused(21, 0, field),
-        Check::Fine => next,
+        Err(field) => Err(Refused {
+            refusal: Refusal::NotCarried,
+            at: Wrong { row: 0, field },
+        }),
+        Ok(()) => next,
     }
 }
 
@@ -105,14 +120,27 @@ fn file_len(sh: Sheet, rest: u64) -> u64
 }
 
 // The rows, behind a header that is as "The batch" says; 20 of the rows comes before 21 of the header.
-fn judge_rows(rows: &[u8], texts: &[u8], sh: Sheet, today: u64, from: u64, to: u64) -> BatchJudged
+fn judge_rows(
+    rows: &[u8],
+    texts: &[u8],
+    sh: Sheet,
+    today: u64,
+    from: u64,
+    to: u64,
+) -> Result<u64, Refused>
     requires { real_day today ≡ true }
     ensures { (h : Header) → h.from ≡ from → h.to ≡ to → Named sh h → Tells result (rows_draft sh today h (things_in texts.now (rows_in rows.now))) }
 {
     match survey::survey(rows, texts, sh, today, from, to) {
-        Surveyed::Improper(row, field) => BatchJudged::Refused(20, row, field),
-        Surveyed::Unfit(row, field) => carry(sh, from, to, BatchJudged::Refused(21, row, field)),
-        Surveyed::Fits(rest) => carry(sh, from, to, BatchJudged::Bytes(file_len(sh, rest))),
+        Err(Unwritable::NotABatch(at)) => {
+            let refusal = Refusal::NotABatch;
+            Err(Refused { refusal, at })
+        }
+        Err(Unwritable::NotCarried(at)) => {
+            let refusal = Refusal::NotCarried;
+            carry(sh, from, to, Err(Refused { refusal, at }))
+        }
+        Ok(rest) => carry(sh, from, to, Ok(file_len(sh, rest))),
     }
 }
 
@@ -127,13 +155,16 @@ fn judge(
     to: u64,
     sh: Sheet,
     today: u64,
-) -> BatchJudged
+) -> Result<u64, Refused>
     requires { real_day today ≡ true }
     ensures { Tells result (draft_of sh today (header_of date name.now client from to) (things_in texts.now (rows_in rows.now))) }
 {
     match header_proper(sh, date, name, client, from, to) {
-        Check::Wrong(field) => BatchJudged::Refused(20, 0, field),
-        Check::Fine => judge_rows(rows, texts, sh, today, from, to),
+        Err(field) => Err(Refused {
+            refusal: Refusal::NotABatch,
+            at: Wrong { row: 0, field },
+        }),
+        Ok(()) => judge_rows(rows, texts, sh, today, from, to),
     }
 }
 
@@ -171,15 +202,15 @@ fn accept(
     bytes: u64,
     out: &mut [u8],
 ) -> AboWritten
-    requires { Tells (Bytes bytes) (draft_of sh today (header_of date name.now client from to) (things_in texts.now (rows_in rows.now))) }
+    requires { Tells (Ok bytes) (draft_of sh today (header_of date name.now client from to) (things_in texts.now (rows_in rows.now))) }
     ensures result_value { told result ≡ written_in (length out.old) (draft_of sh today (header_of date name.now client from to) (things_in texts.now (rows_in rows.now))) }
     ensures out_after { out.new ≡ output_after out.old (draft_of sh today (header_of date name.now client from to) (things_in texts.now (rows_in rows.now))) }
 {
     if (out.len() as u64) < bytes {
-        return counted(16, bytes);
+        return counted(Some(Refusal::NoRoom), bytes);
     }
     fill(rows, texts, date, name, client, from, to, sh, out);
-    counted(0, bytes)
+    counted(None, bytes)
 }
 
 // The answer on the sheet sh: 2, or what the batch is judged to be.
@@ -200,13 +231,13 @@ fn write_on(
 {
     if calendar::real_day(today) {
         match judge(rows, texts, date, name, client, from, to, sh, today) {
-            BatchJudged::Refused(number, row, field) => refusal(number, row, field),
-            BatchJudged::Bytes(bytes) => accept(
+            Err(refused) => refusal(refused.refusal, refused.at.row, refused.at.field.number()),
+            Ok(bytes) => accept(
                 rows, texts, date, name, client, from, to, sh, today, bytes, out,
             ),
         }
     } else {
-        refusal(2, 0, 0)
+        refusal(Refusal::BadToday, 0, 0)
     }
 }
 
@@ -228,6 +259,6 @@ pub fn write_file(
 {
     match sheet::sheet_of(sheet) {
         Some(sh) => write_on(rows, texts, date, name, client, from, to, sh, today, out),
-        None => refusal(1, 0, 0),
+        None => refusal(Refusal::BadSheet, 0, 0),
     }
 }

@@ -2,8 +2,8 @@
 use Rattle.write.proofs.Exits.{heading}
 use Rattle.write.proofs.judge.Goals as goal
 
-pub returns-in-Wrong : goal.returns-in-Wrong
-returns-in-Wrong c = search heading
+pub returns-in-Err : goal.returns-in-Err
+returns-in-Err c = search heading
 
-pub returns-in-Fine : goal.returns-in-Fine
-returns-in-Fine c = search heading
+pub returns-in-Ok : goal.returns-in-Ok
+returns-in-Ok c = search heading
