@@ -29,6 +29,9 @@ pub enum Unwritable {
     NotCarried(Wrong),
 }
 
+// What judging ends in: the bytes of all lines behind the first.
+pub type Surveyed = Result<u64, Unwritable>;
+
 // The bytes of all lines behind the first, once the lines that close are added.
 fn all_bytes(st: State) -> u64
     requires { st.bytes ≤ 100000000000 }
@@ -40,18 +43,16 @@ fn all_bytes(st: State) -> u64
     st.bytes + closing
 }
 
-// Behind the last row, where row k would stand: the bytes of all lines behind the first.
-fn finish(k: u64, st: State) -> Result<u64, Unwritable>
+// Behind the last row, where row k would stand.
+fn finish(k: u64, st: State) -> Surveyed
     requires { Low k st }
     ensures result_value { (sh : sheets.Sheet) (today : ℕ) (h : Header) (p : Place) → told result ≡ resume sh today h k p st [] }
     ensures small { Small result }
 {
     let before = st.before;
     if !rows::walk::may_stop(before.stage) {
-        return Err(Unwritable::NotABatch(Wrong {
-            row: k,
-            field: Field::Row,
-        }));
+        let field = Field::Row;
+        return Err(Unwritable::NotABatch(Wrong { row: k, field }));
     }
     match st.found {
         Some(found) => Err(Unwritable::NotCarried(found)),
@@ -59,15 +60,8 @@ fn finish(k: u64, st: State) -> Result<u64, Unwritable>
     }
 }
 
-// The lent rows, on a sheet and a day; the header's interval goes from `from` to `to`. They take so many bytes, with their CR LF.
-pub fn survey(
-    rows: &[u8],
-    texts: &[u8],
-    sh: Sheet,
-    today: u64,
-    from: u64,
-    to: u64,
-) -> Result<u64, Unwritable>
+// The lent rows, on a sheet and a day; the header's interval goes from `from` to `to`.
+pub fn survey(rows: &[u8], texts: &[u8], sh: Sheet, today: u64, from: u64, to: u64) -> Surveyed
     requires { real_day today ≡ true }
     ensures result_value { (h : Header) → h.from ≡ from → h.to ≡ to → told result ≡ judged sh today h (things_in texts.now (rows_in rows.now)) }
     ensures small { Small result }
@@ -104,12 +98,10 @@ pub fn survey(
             }
         }
     }
-    let end = count as u64 + 1;
+    let row = count as u64 + 1;
     if count * 192 < rows.len() {
-        return Err(Unwritable::NotABatch(Wrong {
-            row: end,
-            field: Field::Row,
-        }));
+        let field = Field::Row;
+        return Err(Unwritable::NotABatch(Wrong { row, field }));
     }
-    finish(end, st)
+    finish(row, st)
 }
