@@ -1,11 +1,12 @@
 -- How the functions of reading end: from what a function is told to the whole answer and the lent rows. Assumes nothing.
-use Rattle.std.proofs.Common.{Option, Some, None}
+use Rattle.std.proofs.Common.{Option, Some, None, Result, Ok, Err}
 use mathlib.Core.Path.{◌≡◌, sym, ap, subst, ◌∙◌}
 use mathlib.Core.Bool.{Bool, true, false}
 use mathlib.Core.List.{List, ◌++◌}
 use Prim.Native.Nat.{ℕ, ◌/◌, ◌≤◌, ◌<◌}
 use native.Mathlib.Omega.{arith}
 use lib.ListN.{length, drop}
+use Rattle.refusal.specs.Numbers.{number_of}
 use Rattle.sheet.specs.declared.Sheet.{Sheet}
 use Rattle.sheet.specs.Sheets.{sheet_of}
 use Rattle.sheet.proofs.Laws.{Sane, sheet-sane}
@@ -16,9 +17,8 @@ use Rattle.paper.specs.Words.{rows_bytes}
 use Rattle.paper.specs.Rows.{row_size, lines_rows}
 use Rattle.paper.specs.Reading.{ReadAnswer, refused_at, needs, accepted_as, read_with, rows_with, read_answer, rows_after}
 use Rattle.tally.specs.Short.{Yes, tally}
-use Rattle.judge.specs.declared.file.Head.{Head}
-use Rattle.judge.specs.declared.file.FileJudged.{FileJudged}
-use Rattle.judge.specs.declared.file.FileJudged.TheVariants as judged
+use Rattle.judge.specs.declared.file.Accepted.{Accepted}
+use Rattle.judge.specs.declared.refused.Refused.{Refused}
 use Rattle.judge.specs.file.Answer.{head_of, told, Sound, Kept}
 use Rattle.read.proofs.Laws as laws
 
@@ -61,18 +61,18 @@ module _ (sh : Sheet) (today : ℕ) (f lent : List ℕ) (a : ReadAnswer) (room :
     no-day-rows e = laws.no-day-rows sh today f lent (sym g ∙ e)
 
   -- j is what the file was judged to be
-  module _ (j : FileJudged) (g : told f j ≡ tally sh today f) where
-    pub refused : (n l p : ℕ) → j ≡ judged.Refused n l p → real_day today ≡ true → a ≡ refused_at n l p → a ≡ read_with (Some sh) today f room
-    refused n l p e real h = h ∙ laws.refused-answer sh today f lent real n l p (sym g ∙ ap (told f) e) room
+  module _ (j : Result Accepted Refused) (g : told f j ≡ tally sh today f) where
+    pub refused : (r : Refused) → j ≡ Err r → real_day today ≡ true → a ≡ refused_at (number_of r.refusal) r.line r.byte → a ≡ read_with (Some sh) today f room
+    refused r e real h = h ∙ laws.refused-answer sh today f lent real (number_of r.refusal) r.line r.byte (sym g ∙ ap (told f) e) room
 
-    pub refused-rows : (n l p : ℕ) → j ≡ judged.Refused n l p → real_day today ≡ true → lent ≡ rows_with (Some sh) today f lent
-    refused-rows n l p e real = laws.refused-rows sh today f lent real n l p (sym g ∙ ap (told f) e)
+    pub refused-rows : (r : Refused) → j ≡ Err r → real_day today ≡ true → lent ≡ rows_with (Some sh) today f lent
+    refused-rows r e real = laws.refused-rows sh today f lent real (number_of r.refusal) r.line r.byte (sym g ∙ ap (told f) e)
 
-    pub accepted : (h : Head) (n w : ℕ) → j ≡ judged.Accepted h n w → tally sh today f ≡ Yes (head_of f h) n w
-    accepted h n w e = sym g ∙ ap (told f) e
+    pub accepted : (x : Accepted) → j ≡ Ok x → tally sh today f ≡ Yes (head_of f x.head) x.rows x.warnings
+    accepted x e = sym g ∙ ap (told f) e
 
-pub accepted-sound : (f : List ℕ) (j : FileJudged) → Kept f j → (h : Head) (n w : ℕ) → j ≡ judged.Accepted h n w → Sound f h n w
-accepted-sound f j k h n w e = subst (Kept f) e k
+pub accepted-sound : (f : List ℕ) (j : Result Accepted Refused) → Kept f j → (x : Accepted) → j ≡ Ok x → Sound f x.head x.rows x.warnings
+accepted-sound f j k x e = subst (Kept f) e k
 
 pub ruleset judging = (real-known, no_day, no-day-rows, refused, refused-rows, accepted, accepted-sound)
 

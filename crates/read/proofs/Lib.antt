@@ -2,5 +2,4 @@
 pub mod Laws
 pub mod Determined
 pub mod Said
-mod Copy
 mod Exits

@@ -3,17 +3,19 @@
 #![tactic(auto)]
 
 ghost use Rattle.std.specs.Prelude.{◌≡◌, true, ◌/◌, ◌≤◌, length, take, drop, Some};
-ghost use Rattle.base.specs.Pick.{pick};
+ghost use Rattle.refusal.specs.Numbers.{number_of};
 ghost use Rattle.sheet.proofs.Laws.{Sane};
 ghost use Rattle.paper.specs.Days.{real_day};
-ghost use Rattle.paper.specs.Batch.{spaces20};
 ghost use Rattle.paper.specs.Rows.{row_size};
 ghost use Rattle.paper.specs.Reading.{refused_at, needs, read_with, rows_with, read_answer, rows_after};
 ghost use Rattle.tally.specs.Short.{Yes, tally};
-ghost use Rattle.judge.specs.file.Answer.{head_of, Sound};
+ghost use Rattle.judge.specs.file.Answer.{head_of, NameIn, Sound};
 ghost use Rattle.read.specs.Told.{told_header, told};
 
-use judge::file::{FileJudged, Head};
+use firstline::Header;
+use judge::file::Accepted;
+use judge::refused::Refused;
+use refusal::Refusal;
 use sheet::Sheet;
 
 // The header of a file. The name is 20 bytes.
@@ -40,45 +42,42 @@ pub struct AboAnswer {
     pub header: AboHeader,
 }
 
-// A refusal. Numbers that are not named are 0, and a header that is not read is C's.
-pub fn refusal(number: u64, line: u64, byte: u64) -> AboAnswer
-    ensures { told result ≡ refused_at number line byte }
+// The header where none is read: C's.
+const NO_HEADER: AboHeader = AboHeader {
+    date: 0,
+    client: 0,
+    from: 0,
+    to: 0,
+    name: [32; 20],
+};
+
+// A refusal. Numbers that are not named are 0, and no header is read.
+pub fn refusal(refused: Refused) -> AboAnswer
+    ensures { told result ≡ refused_at (number_of refused.refusal) refused.line refused.byte }
 {
     AboAnswer {
-        number,
-        line,
-        byte,
+        number: refused.refusal.number(),
+        line: refused.line,
+        byte: refused.byte,
         rows: 0,
         warnings: 0,
         needed: 0,
-        header: AboHeader {
-            date: 0,
-            client: 0,
-            from: 0,
-            to: 0,
-            name: [32; 20],
-        },
+        header: NO_HEADER,
     }
 }
 
-// There is no room: 16, and the rows needed.
+// There is no room: the rows needed.
 fn no_room(count: u64) -> AboAnswer
     ensures { told result ≡ needs count }
 {
     AboAnswer {
-        number: 16,
+        number: Refusal::NoRoom.number(),
         line: 0,
         byte: 0,
         rows: 0,
         warnings: 0,
         needed: count,
-        header: AboHeader {
-            date: 0,
-            client: 0,
-            from: 0,
-            to: 0,
-            name: [32; 20],
-        },
+        header: NO_HEADER,
     }
 }
 
@@ -92,47 +91,32 @@ fn name_of(file: &[u8]) -> [u8; 20]
     name
 }
 
-// The name as it was read; 20 spaces where the file has none.
-fn name_or_spaces(file: &[u8], named: bool) -> [u8; 20]
-    requires { named ≡ true → 30 ≤ length file.now }
-    ensures { result ≡ pick named (take 20 (drop 10 file.now)) spaces20 }
-{
-    if named {
-        return name_of(file);
-    }
-    [32; 20]
-}
-
-// The header as it was read.
-fn header_of(file: &[u8], head: Head) -> AboHeader
-    requires { head.named ≡ true → 30 ≤ length file.now }
+// The header as it was read, if there is one.
+fn header_of(file: &[u8], head: Option<Header>) -> AboHeader
+    requires { NameIn file.now head }
     ensures { told_header result ≡ head_of file.now head }
 {
-    AboHeader {
-        date: head.date,
-        client: head.client,
-        from: head.from,
-        to: head.to,
-        name: name_or_spaces(file, head.named),
+    match head {
+        Some(header) => AboHeader {
+            date: header.date,
+            client: header.client,
+            from: header.from,
+            to: header.to,
+            name: name_of(file),
+        },
+        None => NO_HEADER,
     }
 }
 
-// The file was judged and accepted, with so many rows and warnings. Rows are put if there is room for all of them.
-pub fn accept(
-    file: &[u8],
-    sh: Sheet,
-    today: u64,
-    head: Head,
-    count: u64,
-    warnings: u64,
-    rows: &mut [u8],
-) -> AboAnswer
+// The file was judged and accepted. Rows are put if there is room for all of them.
+pub fn accept(file: &[u8], sh: Sheet, today: u64, accepted: Accepted, rows: &mut [u8]) -> AboAnswer
     requires sane { Sane sh × (real_day today ≡ true) }
-    requires file_value { tally sh today file.now ≡ Yes (head_of file.now head) count warnings }
-    requires sound { Sound file.now head count warnings }
+    requires file_value { tally sh today file.now ≡ Yes (head_of file.now accepted.head) accepted.rows accepted.warnings }
+    requires sound { Sound file.now accepted.head accepted.rows accepted.warnings }
     ensures result_value { told result ≡ read_with (Some sh) today file.now (length rows.old / row_size) }
     ensures rows_after { rows.new ≡ rows_with (Some sh) today file.now rows.old }
 {
+    let count = accepted.rows;
     let room = rows.len() / 192;
     if (room as u64) < count {
         return no_room(count);
@@ -143,13 +127,13 @@ pub fn accept(
         line: 0,
         byte: 0,
         rows: count,
-        warnings,
+        warnings: accepted.warnings,
         needed: 0,
-        header: header_of(file, head),
+        header: header_of(file, accepted.head),
     }
 }
 
-// The answer on the sheet sh: 2, or what the file is judged to be.
+// The answer on the sheet sh: a day that is not real is refused, else it is what the file is judged to be.
 pub fn read_on(file: &[u8], sh: Sheet, today: u64, rows: &mut [u8]) -> AboAnswer
     requires { Sane sh }
     ensures result_value { told result ≡ read_with (Some sh) today file.now (length rows.old / row_size) }
@@ -157,15 +141,15 @@ pub fn read_on(file: &[u8], sh: Sheet, today: u64, rows: &mut [u8]) -> AboAnswer
 {
     if calendar::real_day(today) {
         match judge::file::judge_file(file, sh, today) {
-            FileJudged::Refused(n, line, byte) => refusal(n, line, byte),
-            FileJudged::Accepted {
-                head,
-                rows: found,
-                warnings: warned,
-            } => accept(file, sh, today, head, found, warned, rows),
+            Ok(accepted) => accept(file, sh, today, accepted, rows),
+            Err(refused) => refusal(refused),
         }
     } else {
-        refusal(2, 0, 0)
+        refusal(Refused {
+            refusal: Refusal::BadToday,
+            line: 0,
+            byte: 0,
+        })
     }
 }
 
@@ -176,6 +160,10 @@ pub fn read_file(file: &[u8], sheet: u64, today: u64, rows: &mut [u8]) -> AboAns
 {
     match sheet::sheet_of(sheet) {
         Some(sh) => read_on(file, sh, today, rows),
-        None => refusal(1, 0, 0),
+        None => refusal(Refused {
+            refusal: Refusal::BadSheet,
+            line: 0,
+            byte: 0,
+        }),
     }
 }

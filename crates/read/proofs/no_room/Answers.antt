@@ -1,8 +1,7 @@
 -- `no_room` names the rows needed, and nothing else.
-use mathlib.Core.Path.{refl}
 use Rattle.paper.specs.Reading.{needs}
 use Rattle.read.proofs.no_room.Goals as goal
 
 pub returns : goal.returns
 unfolding needs
-returns c = refl
+returns c = rw c.number.ensures

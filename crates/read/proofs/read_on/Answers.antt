@@ -9,8 +9,8 @@ judge_file-requires c = search (judging, rules)
 pub accept-requires : goal.accept-requires
 accept-requires c = search (judging, rules)
 
-pub returns-in-Refused : goal.returns-in-Refused
-returns-in-Refused c = search judging
+pub returns-in-Err : goal.returns-in-Err
+returns-in-Err c = search judging
 
 pub returns-else-real_day : goal.returns-else-real_day
 returns-else-real_day c = search judging

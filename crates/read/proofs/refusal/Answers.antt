@@ -1,8 +1,7 @@
 -- `refusal` names its number, line and byte, and nothing else.
-use mathlib.Core.Path.{refl}
 use Rattle.paper.specs.Reading.{refused_at}
 use Rattle.read.proofs.refusal.Goals as goal
 
 pub returns : goal.returns
 unfolding refused_at
-returns c = refl
+returns c = rw c.number.ensures
