@@ -6,8 +6,10 @@ use Rattle.base.proofs.Seek.{seek-le}
 use Rattle.sheet.specs.declared.Sheet.{Sheet}
 use Rattle.paper.specs.Bytes.{space, field_of}
 use Rattle.paper.specs.Batch.{Header, most14}
-use Rattle.paper.specs.Entries.{Kind, kind_of}
-use Rattle.paper.specs.Judge.{State, code}
+use Rattle.paper.specs.Entries.{kind_of}
+use Rattle.paper.specs.Judge.{State}
+use Rattle.scan.specs.declared.kind.LineKind.{LineKind}
+use Rattle.scan.specs.kind.Told.{told}
 use Rattle.tally.specs.Tally.{is_due, is_full}
 use Rattle.judge.specs.declared.group.Open.{Open}
 use Rattle.judge.specs.group.Stands.{open_of, line_in}
@@ -76,10 +78,10 @@ pub at-end : (x : Course) (n k due : ℕ) → ((h : Header) (l : List ℕ) → d
 unfolding early field_number
 at-end x n k due e st words s = rw (earlies n k st, s.numbers) (rw (e s.header s.earlier))
 
--- m is the number of the line's kind, d whether it is due
+-- m is the line's kind, d whether it is due
 module _
-    (sh : Sheet) (today : ℕ) (f : List ℕ) (at stop k : ℕ) (q : stop ≤ length f) (x : Course) (m : ℕ) (g : m ≡ code (kind_of (take (stop - at) (drop at f)))) (d : Bool)
-    (due : (h : Header) (l : List ℕ) (kind : Kind) → m ≡ code kind → d ≡ is_due (numbers_of h l x.stage) kind) (r : Finding) (words : List ℕ) (st : State) (s : Stands x words st)
+    (sh : Sheet) (today : ℕ) (f : List ℕ) (at stop k : ℕ) (q : stop ≤ length f) (x : Course) (m : LineKind) (g : told m ≡ kind_of (take (stop - at) (drop at f))) (d : Bool)
+    (due : (h : Header) (l : List ℕ) → d ≡ is_due (numbers_of h l x.stage) (told m)) (r : Finding) (words : List ℕ) (st : State) (s : Stands x words st)
   where
     abbrev Found : Type 0
     Found = r ≡ why.blame sh today f k (line_in f at stop) (kind_of (take (stop - at) (drop at f))) st
@@ -89,15 +91,15 @@ module _
     by-numbers e = e ∙ sym (rw s.numbers at (blames sh today f k (line_in f at stop) (kind_of (take (stop - at) (drop at f))) st))
 
     is-due : d ≡ is_due (numbers_of s.header s.earlier x.stage) (kind_of (take (stop - at) (drop at f)))
-    is-due = due s.header s.earlier _ g
+    is-due = rw g at due s.header s.earlier
 
     pub other-due : d ≡ false → ((f : List ℕ) → stop ≤ length f → (h : Header) (l : List ℕ) → r ≡ not_due k (line_in f at stop) (numbers_of h l x.stage)) → Found
     unfolding blame
     other-due n e = by-numbers (e f q s.header s.earlier ∙ sym (pick-false _ _ (sym is-due ∙ n)))
 
-    module _ (y : d ≡ true) (b : Bool) (full : (h : Header) (l : List ℕ) (kind : Kind) → m ≡ code kind → b ≡ is_full sh (numbers_of h l x.stage) kind) where
+    module _ (y : d ≡ true) (b : Bool) (full : (h : Header) (l : List ℕ) → b ≡ is_full sh (numbers_of h l x.stage) (told m)) where
       is-full : b ≡ is_full sh (numbers_of s.header s.earlier x.stage) (kind_of (take (stop - at) (drop at f)))
-      is-full = full s.header s.earlier _ g
+      is-full = rw g at full s.header s.earlier
 
       pub one_more : b ≡ true → ((f : List ℕ) → stop ≤ length f → (h : Header) (l : List ℕ) → r ≡ too_many sh k (line_in f at stop) (numbers_of h l x.stage)) → Found
       unfolding blame

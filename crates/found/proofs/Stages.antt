@@ -1,12 +1,10 @@
 -- The answers of the readers of a stage: what is due there, when it is full, the causes, the total and what is known of a line. Assumes nothing.
-use Rattle.std.proofs.Common.{◌≡◌, ℕ, Bool, true, false, eqb, leb, List, ap, ◌∙◌}
+use Rattle.std.proofs.Common.{◌≡◌, ℕ, Bool, true, false, eqb, leb, List, ◌∙◌}
 use Rattle.base.specs.Pick.{pick}
 use Rattle.sheet.specs.declared.Sheet.{Sheet}
 use Rattle.paper.specs.Batch.{Header}
-use Rattle.paper.specs.Entries.{Kind, kind_of}
-use Rattle.paper.specs.Judge.{code}
-use Rattle.scan.specs.declared.kind.LineKind.{LineKind}
-use Rattle.scan.specs.kind.Told.{told}
+use Rattle.paper.specs.Entries.{Kind, head_line, file_line, group_line, item_line, group_end, file_end}
+use Rattle.paper.specs.Judge.{is}
 use Rattle.fileline.specs.declared.seen.Seen.{Seen}
 use Rattle.tally.specs.Tally.{is_due, is_full}
 use Rattle.judge.specs.declared.group.Counts.{Counts}
@@ -23,31 +21,27 @@ use Rattle.course.specs.Stands.{numbers_of}
 use Rattle.found.specs.Numbers.{due_cause, full_cause, full_limit, total_found, at_total}
 use Rattle.found.specs.Bearings.{bearing, bearing_at}
 
--- the kind of a line as a number: r is what was found, v its name
-pub coded : (w : List ℕ) (r : LineKind) → told r ≡ kind_of w → (v : LineKind) → r ≡ v → (n : ℕ) → n ≡ code (told v) → n ≡ code (kind_of w)
-coded w r t v e n q = q ∙ ap code (rw e at t)
-
 module _ (s : Stage) where
   module _ (h : Header) (l : List ℕ) where
-    -- ---- what is due, and when it is full: m is the number of the kind k
-    module _ (m : ℕ) (k : Kind) (q : m ≡ code k) where
-      pub due-first : s ≡ stage.First → eqb 0 m ≡ is_due (numbers_of h l s) k
+    -- ---- what is due, and when it is full: k is the line's kind
+    module _ (k : Kind) where
+      pub due-first : s ≡ stage.First → (r : Bool) → r ≡ is head_line k → r ≡ is_due (numbers_of h l s) k
       unfolding is_due
-      due-first e = rw (e, q)
+      due-first e r f = f ∙ rw e
 
-      pub due-file : (c : Counts) → s ≡ stage.File c → eqb 1 m ≡ is_due (numbers_of h l s) k
+      pub due-file : (c : Counts) → s ≡ stage.File c → (r : Bool) → r ≡ is file_line k → r ≡ is_due (numbers_of h l s) k
       unfolding is_due
-      due-file c e = rw (e, q)
+      due-file c e r f = f ∙ rw e
 
       pub due-group : (c : Counts) (x : Shelf) → s ≡ stage.Group c x → (r : Bool)
-          → r ≡ pick (eqb 2 m) true (pick (eqb 5 m) (pick (eqb x.groups 0) false true) false) → r ≡ is_due (numbers_of h l s) k
+          → r ≡ pick (is group_line k) true (pick (is file_end k) (pick (eqb x.groups 0) false true) false) → r ≡ is_due (numbers_of h l s) k
       unfolding is_due
-      due-group c x e r f = f ∙ rw (e, q)
+      due-group c x e r f = f ∙ rw e
 
       pub due-item : (x : Held) → s ≡ stage.Item x → (r : Bool)
-          → r ≡ pick (eqb 3 m) true (pick (eqb 4 m) (pick (eqb x.opened.count 0) false true) false) → r ≡ is_due (numbers_of h l s) k
+          → r ≡ pick (is item_line k) true (pick (is group_end k) (pick (eqb x.opened.count 0) false true) false) → r ≡ is_due (numbers_of h l s) k
       unfolding is_due
-      due-item x e r f = f ∙ rw (e, q)
+      due-item x e r f = f ∙ rw e
 
       module _ (sh : Sheet) where
         pub full-first : s ≡ stage.First → false ≡ is_full sh (numbers_of h l s) k
@@ -63,9 +57,9 @@ module _ (s : Stage) where
         full-group c x e = rw e
 
         pub full-item : (x : Held) → s ≡ stage.Item x → (r : Bool)
-            → r ≡ pick (eqb 3 m) (pick (leb 99999 x.shelf.items) true (leb sh.fileitems x.counts.items)) false → r ≡ is_full sh (numbers_of h l s) k
+            → r ≡ pick (is item_line k) (pick (leb 99999 x.shelf.items) true (leb sh.fileitems x.counts.items)) false → r ≡ is_full sh (numbers_of h l s) k
         unfolding is_full
-        full-item x e r f = f ∙ rw (e, q)
+        full-item x e r f = f ∙ rw e
 
     -- ---- the causes
 

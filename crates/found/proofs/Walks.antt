@@ -1,5 +1,5 @@
 -- The walk of a line where a pass stands: what is known of it is what it asks, and its offset lies in the line. Assumes nothing.
-use Rattle.std.proofs.Common.{◌≡◌, ℕ, ◌+◌, ◌-◌, ◌%◌, ◌^◌, ◌≤◌, true, List, length, take, drop, sym, refl, ap, ◌∙◌, arith, length-drop, length-take, w64, Fits}
+use Rattle.std.proofs.Common.{◌≡◌, ℕ, ◌+◌, ◌-◌, ◌%◌, ◌^◌, ◌≤◌, true, List, length, take, drop, sym, refl, ap, ◌∙◌, arith, length-drop, length-take, w64, Fits, Ok, Err}
 use Rattle.base.specs.Pick.{pick}
 use Rattle.base.proofs.Seek.{never}
 use Rattle.sheet.specs.declared.Sheet.{Sheet}
@@ -16,10 +16,9 @@ use Rattle.why.specs.Walk.{Walked, passed, stopped, why_as}
 use Rattle.why.specs.Told.{Told, fine, by-rule, by-form}
 use Rattle.why.specs.Finding.{on_walked}
 use Rattle.why.proofs.Lines.{tells}
-use Rattle.fault.specs.declared.line.Walk.{Walk}
-use Rattle.fault.specs.declared.line.Walk.TheVariants.{Passed, Stopped}
+use Rattle.fault.specs.declared.line.Fault.{Fault}
 use Rattle.fault.specs.declared.known.Bearing.{Bearing}
-use Rattle.fault.specs.line.Walks.{walk}
+use Rattle.fault.specs.line.Walks.{Walk, walk}
 use Rattle.fault.specs.known.Bears.{Bears}
 use Rattle.course.specs.declared.Course.{Course}
 use Rattle.course.specs.declared.Stage.{Stage}
@@ -70,20 +69,24 @@ module _ (from to : ℕ) (seen : Seen) (h : Header) (l : List ℕ) (first : h.fr
 
 -- ---- from the walk to the finding
 
-on-passed : (k at : ℕ) (z : Finding) (y : Walked) → Passed ≡ walk y → on_walked y k at z ≡ z
+on-passed : (k at : ℕ) (z : Finding) (y : Walked) → Ok tt ≡ walk y → on_walked y k at z ≡ z
 unfolding on_walked walk
 on-passed k at z passed e = refl
 on-passed k at z (stopped x) e = absurd (let n : ◌≡◌ {A = ℕ} 0 1 = cc in omega arith)
 
-module _ (number why off len name least most byte k at : ℕ) where
-  on-stopped : (z : Finding) (y : Walked) → Stopped number why off len name least most ≡ walk y → (offset_of y ≡ off → byte ≡ at + off)
-      → ◌≡◌ {A = Finding} (record { number = number; cause = why; line = k; byte = byte; length = len; field = name; least = least; most = most }) (on_walked y k at z)
-  unfolding on_walked walk
-  on-stopped z passed e b = absurd (let n : ◌≡◌ {A = ℕ} 0 1 = cc in omega arith)
-  on-stopped z (stopped x) e b =
-      let o : off ≡ x.offset = cc in
-      let g : byte ≡ at + off = b (sym o) in
-      cc
+-- what is found of a fault of line k, at that byte
+abbrev found : ℕ → ℕ → Fault → Finding
+found k byte d =
+    record { number = d.number; cause = d.cause; line = k; byte = byte; length = d.length; field = d.field; least = d.least; most = d.most }
+
+on-stopped : (byte k at : ℕ) (z : Finding) (d : Fault) (y : Walked) → Err d ≡ walk y → (offset_of y ≡ d.offset → byte ≡ at + d.offset)
+    → found k byte d ≡ on_walked y k at z
+unfolding on_walked walk
+on-stopped byte k at z d passed e b = absurd (let n : ◌≡◌ {A = ℕ} 0 1 = cc in omega arith)
+on-stopped byte k at z d (stopped x) e b =
+    let o : d.offset ≡ x.offset = cc in
+    let g : byte ≡ at + d.offset = b (sym o) in
+    cc
 
 module _
     (sh : Sheet) (sane : Sane sh) (today : ℕ) (f : List ℕ) (at stop k : ℕ) (p : at ≤ stop) (q : stop ≤ length f) (x : Course) (seen : Seen) (b : Bearing)
@@ -97,16 +100,15 @@ module _
     walked h l a z holds due =
         t _ (rw g (knows x.from x.to seen h l a z holds (kind_of (take (stop - at) (drop at f))) x.stage due))
 
-    pub by-passed : w ≡ Passed → (r : Finding) → ((h : Header) (l : List ℕ) → r ≡ at_total f (numbers_of h l x.stage)) → Faults sh today f at stop k x seen.words r
+    pub by-passed : w ≡ Ok tt → (r : Finding) → ((h : Header) (l : List ℕ) → r ≡ at_total f (numbers_of h l x.stage)) → Faults sh today f at stop k x seen.words r
     by-passed e r i h l a z holds due = i h l ∙ sym (on-passed k at _ _ (sym e ∙ walked h l a z holds due))
 
-    pub by-fault : (number why off len name least most : ℕ) → w ≡ Stopped number why off len name least most → (byte : ℕ) → byte ≡ (at + off) % 2 ^ 64 → Fits w64 stop
-        → Faults sh today f at stop k x seen.words
-        (record { number = number; cause = why; line = k; byte = byte; length = len; field = name; least = least; most = most })
-    by-fault number why off len name least most e byte i fits h l a z holds due =
+    pub by-fault : (d : Fault) → w ≡ Err d → (byte : ℕ) → byte ≡ (at + d.offset) % 2 ^ 64 → Fits w64 stop
+        → Faults sh today f at stop k x seen.words (found k byte d)
+    by-fault d e byte i fits h l a z holds due =
         let s = take (stop - at) (drop at f) in
         let c = context_of (numbers_of h l x.stage) in
-        on-stopped number why off len name least most byte k at _ _ (sym e ∙ walked h l a z holds due)
+        on-stopped byte k at _ d _ (sym e ∙ walked h l a z holds due)
         λ o. omega (arith, fits.fits, offset-in sh sane today c s, length-take (stop - at) (drop at f), length-drop at f)
 
 pub ruleset walks = (digits_few, by-passed, by-fault)

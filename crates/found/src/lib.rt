@@ -8,8 +8,9 @@ ghost use Rattle.paper.specs.Bytes.{field_of};
 ghost use Rattle.paper.specs.Days.{real_day};
 ghost use Rattle.paper.specs.Batch.{Header};
 ghost use Rattle.paper.specs.Lines.{line as line'};
-ghost use Rattle.paper.specs.Entries.{Kind, kind_of};
-ghost use Rattle.paper.specs.Judge.{State, code};
+ghost use Rattle.paper.specs.Entries.{item_line, kind_of};
+ghost use Rattle.paper.specs.Judge.{State, is};
+ghost use Rattle.scan.specs.kind.Told.{told};
 ghost use Rattle.tally.specs.Tally.{is_due, is_full};
 ghost use Rattle.judge.specs.group.Stands.{open_of, line_in};
 ghost use Rattle.why.specs.Names.{group_total, whole_line};
@@ -20,7 +21,6 @@ ghost use Rattle.found.specs.Bearings.{bearing, bearing_at, Faults};
 
 use course::{Course, Stage};
 use fault::known::Bearing;
-use fault::line::Walk;
 use fileline::seen::Seen;
 use judge::group::Open;
 use scan::kind::LineKind;
@@ -29,23 +29,9 @@ use why::Finding;
 
 // ---- what is due, and when it is full
 
-// The kind of the line s as a number, to compare it.
-fn kind_code(s: &[u8]) -> u64
-    ensures { result ≡ code (kind_of s.now) }
-{
-    match scan::kind::kind_of(s) {
-        LineKind::Head => 0,
-        LineKind::File => 1,
-        LineKind::Group => 2,
-        LineKind::Item => 3,
-        LineKind::GroupEnd => 4,
-        LineKind::FileEnd => 5,
-    }
-}
-
 // Is it a line that opens one more, or, once there are some, one that closes?
-fn more_or_end(kind: u64, more: u64, end: u64, some: u64) -> bool
-    ensures { result ≡ pick (more == kind) true (pick (end == kind) (pick (some == 0) false true) false) }
+fn more_or_end(kind: LineKind, more: LineKind, end: LineKind, some: u64) -> bool
+    ensures { result ≡ pick (is (told more) (told kind)) true (pick (is (told end) (told kind)) (pick (some == 0) false true) false) }
 {
     if more == kind {
         return true;
@@ -60,22 +46,22 @@ fn more_or_end(kind: u64, more: u64, end: u64, some: u64) -> bool
 }
 
 // Is a line of this kind due?
-fn is_due(stage: Stage, kind: u64) -> bool
-    ensures { (h : Header) (l : List ℕ) (k : Kind) → kind ≡ code k → result ≡ is_due (numbers_of h l stage) k }
+fn is_due(stage: Stage, kind: LineKind) -> bool
+    ensures { (h : Header) (l : List ℕ) → result ≡ is_due (numbers_of h l stage) (told kind) }
 {
     match stage {
-        Stage::First => 0 == kind,
-        Stage::File(_) => 1 == kind,
-        Stage::Group(_, s) => more_or_end(kind, 2, 5, s.groups),
-        Stage::Item(x) => more_or_end(kind, 3, 4, x.opened.count),
+        Stage::First => LineKind::Head == kind,
+        Stage::File(_) => LineKind::File == kind,
+        Stage::Group(_, s) => more_or_end(kind, LineKind::Group, LineKind::FileEnd, s.groups),
+        Stage::Item(x) => more_or_end(kind, LineKind::Item, LineKind::GroupEnd, x.opened.count),
     }
 }
 
 // Has an account file so many items that there is no room for one more, or the file?
-fn items_full(kind: u64, inside: u64, items: u64, most: u64) -> bool
-    ensures { result ≡ pick (3 == kind) (pick (nat_le 99999 inside) true (nat_le most items)) false }
+fn items_full(kind: LineKind, inside: u64, items: u64, most: u64) -> bool
+    ensures { result ≡ pick (is item_line (told kind)) (pick (nat_le 99999 inside) true (nat_le most items)) false }
 {
-    if 3 == kind {
+    if LineKind::Item == kind {
         if 99999 <= inside {
             return true;
         }
@@ -85,8 +71,8 @@ fn items_full(kind: u64, inside: u64, items: u64, most: u64) -> bool
 }
 
 // Is there no room for one line more of this kind?
-fn is_full(sh: Sheet, stage: Stage, kind: u64) -> bool
-    ensures { (h : Header) (l : List ℕ) (k : Kind) → kind ≡ code k → result ≡ is_full sh (numbers_of h l stage) k }
+fn is_full(sh: Sheet, stage: Stage, kind: LineKind) -> bool
+    ensures { (h : Header) (l : List ℕ) → result ≡ is_full sh (numbers_of h l stage) (told kind) }
 {
     match stage {
         Stage::First => false,
@@ -295,24 +281,16 @@ fn fault_in(
     let stage = x.stage;
     let known = bearing_at(stage, x.from, x.to, seen);
     match fault::known::walk_line(&f[at..stop], sh, today, known) {
-        Walk::Passed => at_total(f, stage),
-        Walk::Stopped {
-            number,
-            cause,
-            offset,
-            length,
-            field,
-            least,
-            most,
-        } => Finding {
-            number,
-            cause,
+        Ok(()) => at_total(f, stage),
+        Err(fault) => Finding {
+            number: fault.number,
+            cause: fault.cause,
             line,
-            byte: byte_at(at, offset),
-            length: length as u64,
-            field,
-            least,
-            most,
+            byte: byte_at(at, fault.offset),
+            length: fault.length as u64,
+            field: fault.field,
+            least: fault.least,
+            most: fault.most,
         },
     }
 }
@@ -335,7 +313,7 @@ pub fn blame_line(
     ensures { (st : State) → Stands x seen.words st → result ≡ blame sh today f.now line (line' at (take (stop - at) (drop at f.now))) (kind_of (take (stop - at) (drop at f.now))) st }
 {
     let stage = x.stage;
-    let kind = kind_code(&f[at..stop]);
+    let kind = scan::kind::kind_of(&f[at..stop]);
     if is_due(stage, kind) {
         if is_full(sh, stage, kind) {
             return too_many(sh, stage, at, stop, line);

@@ -4,7 +4,7 @@ ghost use Rattle.paper.specs.Entries.{kind_of};
 ghost use Rattle.scan.specs.kind.Told.{told};
 
 // The six kinds of lines.
-#[derive(Clone, Copy)]
+#[derive(Clone, Copy, PartialEq, Eq)]
 pub enum LineKind {
     Head,
     File,

@@ -2,8 +2,8 @@
 use Rattle.found.proofs.Walks.{walks}
 use Rattle.found.proofs.fault_in.Goals as goal
 
-pub returns-in-Passed : goal.returns-in-Passed
-returns-in-Passed c = search walks
+pub returns-in-Ok : goal.returns-in-Ok
+returns-in-Ok c = search walks
 
-pub returns-in-Stopped : goal.returns-in-Stopped
-returns-in-Stopped c = search walks
+pub returns-in-Err : goal.returns-in-Err
+returns-in-Err c = search walks
