@@ -136,7 +136,4 @@ module _ (x : Ruling) (n : Result ℕ Refusal) (long here early : Bool) (ahead t
         → x ≡ ruling (first_broken (due_rules long here early ahead today) s)
     due-term y h = first-kept x s _ _ is-day (first-kept x s (within 11 110 20000101 20991231 (is_real long)) _ (real-is ∙ y) (h long s day-spelled))
 
-pub is-real : (k : Bool) (d : ℕ) → k ≡ real_day d → k ≡ true → real_day d ≡ true
-is-real k d r y = sym r ∙ y
-
-pub ruleset dues = (is-broken, due-broke, due-unreal, due-term, is-real)
+pub ruleset dues = (is-broken, due-broke, due-unreal, due-term)

@@ -1,10 +1,6 @@
 -- `check_due`: DATE: a day that is spelled, real, and among the sheet's days. Assumes nothing.
-use borrow.Author.Rules.{rules}
 use Rattle.fault.proofs.due.Days.{dues}
 use Rattle.fault.proofs.due.check_due.Goals as goal
-
-pub check_term-requires : goal.check_term-requires
-check_term-requires c = search (dues, rules)
 
 pub returns-then-real_day : goal.returns-then-real_day
 returns-then-real_day c = search dues

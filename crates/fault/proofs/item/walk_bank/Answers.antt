@@ -10,9 +10,6 @@ use Rattle.fault.proofs.item.walk_bank.Goals as goal
 pub slice_bounds-check_bank-end : goal.slice_bounds-check_bank-end
 slice_bounds-check_bank-end c = search (items, steps, rules)
 
-pub walk_tail-requires : goal.walk_tail-requires
-walk_tail-requires c = search (items, steps, rules)
-
 pub returns-in_err-in_line : goal.returns-in_err-in_line
 unfolding rules_of field_number
 returns-in_err-in_line c =

@@ -10,9 +10,6 @@ use Rattle.fault.proofs.item.walk_symbol.Goals as goal
 pub slice_bounds-check_symbol-end : goal.slice_bounds-check_symbol-end
 slice_bounds-check_symbol-end c = search (tails, steps, rules)
 
-pub walk_behind-requires : goal.walk_behind-requires
-walk_behind-requires c = search (tails, steps, rules)
-
 pub returns-in_err-in_line : goal.returns-in_err-in_line
 unfolding rules_of field_number
 returns-in_err-in_line c =
