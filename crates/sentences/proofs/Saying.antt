@@ -1,45 +1,34 @@
--- Words by their number, counted: of a number that is known, and of one that a table's first entries do not have. Assumes nothing.
-use mathlib.Core.Path.{◌≡◌, refl}
-use mathlib.Core.Bool.{Bool, true, false}
-use mathlib.Core.List.{List, [], ◌∷◌}
-use Prim.Native.Nat.{ℕ}
-use lib.Dec.{eqb}
-use borrow.Author.Tests.{ne_eqb}
-use Rattle.base.specs.Pick.{pick}
-use Rattle.base.proofs.Cases.{pick-false}
+-- A table looked through for a number: at the row that has it, at another, and at its end. Assumes nothing.
+use Rattle.std.proofs.Common.{◌≡◌, ℕ, ◌+◌, ◌<◌, ◌≤◌, Bor, List, [], ◌∷◌, length, get_or, drop, sym, ◌∙◌}
+use Rattle.std.proofs.lemmas.List.{at_drop_more, at_drop_all}
+use borrow.Author.Tests.{eq-eqb, ne_eqb}
+use Rattle.base.proofs.Cases.{pick_true, pick-false}
 use Rattle.numeral.specs.counted.Counted.{Counted}
 use Rattle.numeral.proofs.counted.Laws.{counted-nothing}
-use Rattle.sentences.specs.Phrases.{Phrase, said}
+use Rattle.sentences.specs.Phrases.{said}
+use Rattle.sentences.specs.Tables.{phrases_of}
 
--- `pick` and `said`, open everywhere, so that the words of a known number are computed
-abbrev chosen : Bool → List ℕ → List ℕ → List ℕ
-chosen true a b = a
-chosen false a b = b
+-- what a table says of n
+abbrev pub in_table : ℕ → List (ℕ × Bor (List ℕ)) → List ℕ
+in_table n ps = said (phrases_of ps) n
 
-abbrev pub words : List Phrase → ℕ → List ℕ
-words [] n = []
-words (p ∷ ps) n = chosen (eqb n p.number) p.words (words ps n)
+module _ (ps : List (ℕ × Bor (List ℕ))) (n i : ℕ) (far : in_table n ps ≡ in_table n (drop i ps)) where
+  module _ (d : ℕ × Bor (List ℕ)) (h : i < length ps) where
+    next : in_table n (drop i ps) ≡ in_table n (get_or ps i d ∷ drop (i + 1) ps)
+    next = at_drop_more (in_table n) ps i d h
 
-chosen_is : (t : Bool) (a b : List ℕ) → pick t a b ≡ chosen t a b
-unfolding pick
-chosen_is true a b = refl
-chosen_is false a b = refl
+    pub said-later : ((get_or ps i d).0 ≡ n → ⊥) → in_table n ps ≡ in_table n (drop (i + 1) ps)
+    unfolding said
+    said-later e = far ∙ next ∙ pick-false _ _ (ne_eqb _ _ (λ z. e (sym z)))
 
-words_are : (ps : List Phrase) (n : ℕ) → said ps n ≡ words ps n
-unfolding said
-words_are [] n = refl
-words_are (p ∷ ps) n = rw (words_are ps n) (chosen_is (eqb n p.number) p.words (words ps n))
+    -- p is the output as it was given, and o what it was when the words were put
+    pub said_here : {p o o1 : List ℕ} {at r : ℕ} → o ≡ p → (get_or ps i d).0 ≡ n → Counted o at (get_or ps i d).1.now o1 r
+        → Counted p at (in_table n ps) o1 r
+    unfolding said
+    said_here same e w = rw (← same, far ∙ next ∙ pick_true _ _ (eq-eqb _ _ (sym e))) w
 
-module _ (n : ℕ) {o o1 : List ℕ} {at r : ℕ} where
-  pub said-known : (ps : List Phrase) (k : ℕ) → n ≡ k → Counted o at (words ps k) o1 r → Counted o at (said ps n) o1 r
-  said-known ps k e w = rw (e, words_are ps k) w
-
-  pub said-past : (p : Phrase) (ps : List Phrase) → (n ≡ p.number → ⊥) → Counted o at (said ps n) o1 r → Counted o at (said (p ∷ ps) n) o1 r
+  pub said-nowhere : {p o : List ℕ} {at : ℕ} → o ≡ p → length ps ≤ i → Counted p at (in_table n ps) o at
   unfolding said
-  said-past p ps e w = rw (pick-false p.words (said ps n) (ne_eqb n p.number e)) w
+  said-nowhere same h = rw (← same, far ∙ at_drop_all (in_table n) ps i h) counted-nothing
 
-pub said-nothing : (n : ℕ) {o : List ℕ} {at : ℕ} → Counted o at (said [] n) o at
-unfolding said
-said-nothing n = counted-nothing
-
-pub ruleset saying = (said-known, said-past, said-nothing)
+pub ruleset saying = (said_here, said-nowhere)

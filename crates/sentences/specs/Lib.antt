@@ -1,4 +1,5 @@
 pub mod Phrases
+pub mod Tables
 pub mod Quoted
 pub mod Allowed
 pub mod Sentences

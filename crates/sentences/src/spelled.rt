@@ -157,22 +157,24 @@ fn put_symbol(out: &mut [u8], at: usize, fixed: bool) -> usize
 }
 
 // The fields that are spelled the same on every sheet.
+static SPELLINGS: [(u64, &[u8]); 10] = [
+    (1, b"six digits, DDMMRR"),
+    (2, b"20 bytes of text"),
+    (3, b"ten digits"),
+    (4, b"three digits"),
+    (5, b"three digits"),
+    (10, b"four digits"),
+    (11, b"six digits"),
+    (12, b"four digits"),
+    (33, b"1 to 10 digits"),
+    (34, b"8 to 10 digits"),
+];
+
+// The words for one of them.
 fn put_spelling(out: &mut [u8], at: usize, field: u64) -> usize
     ensures { Counted out.old at (said spellings field) out.new result }
 {
-    match field {
-        1 => put_bytes(out, at, b"six digits, DDMMRR"),
-        2 => put_bytes(out, at, b"20 bytes of text"),
-        3 => put_bytes(out, at, b"ten digits"),
-        4 => put_bytes(out, at, b"three digits"),
-        5 => put_bytes(out, at, b"three digits"),
-        10 => put_bytes(out, at, b"four digits"),
-        11 => put_bytes(out, at, b"six digits"),
-        12 => put_bytes(out, at, b"four digits"),
-        33 => put_bytes(out, at, b"1 to 10 digits"),
-        34 => put_bytes(out, at, b"8 to 10 digits"),
-        _ => at,
-    }
+    crate::phrases::put_said(out, at, &SPELLINGS, field)
 }
 
 // ---- all of them
