@@ -6,22 +6,20 @@ use native.Mathlib.Nat.{mul-suc}
 use native.Mathlib.Numerals.{add-one}
 use native.Mathlib.Omega.{arith}
 use lib.ListN.{length, take, drop}
+use Rattle.std.specs.Prelude.{Option, Some, Result, Ok, Err}
 use Rattle.base.proofs.Lists.{drop-none}
 use Rattle.gpc.specs.Records.{Record, no_record}
 use Rattle.gpc.specs.Statements.{Spots as Places, Stage, top, within, judge, judge_on}
 use Rattle.record.specs.declared.Entry.{Entry}
 use Rattle.record.specs.Told.{Kept, told}
-use Rattle.statement.specs.declared.run.Run.{Run}
-use Rattle.statement.specs.declared.run.Step.{Step}
-use Rattle.statement.specs.declared.run.Step.TheVariants as step
-use Rattle.statement.specs.declared.run.Judged.{Judged}
-use Rattle.statement.specs.declared.run.Judged.TheVariants as judged
+use Rattle.statement.specs.declared.run.Open.{Open}
+use Rattle.statement.specs.declared.run.Fault.{Fault}
 use Rattle.statement.specs.Forms.{Form, read_all, Passed}
-use Rattle.statement.specs.run.Follows.{Follows, Stood, wrong, outcome, Steps, Leads, Tells, Finishes}
+use Rattle.statement.specs.run.Follows.{Follows, Stood, wrong, wrong_as, outcome, Steps, Leads, Tells, Finishes}
 use Rattle.statement.proofs.Pieces.{from_one, from-none, from-short}
 
 module _ (F : Form) (some : 0 < F.size) (p : Places) (s : List ℕ) where
-  pub passed_first : (x : Run) → Follows x top → Passed F p s x 0 0
+  pub passed_first : (x : Option Open) → Follows x top → Passed F p s x 0 0
   unfolding judge
   passed_first x f =
       record {
@@ -33,21 +31,21 @@ module _ (F : Form) (some : 0 < F.size) (p : Places) (s : List ℕ) where
         count = rw (drop-none s) (omega arith);
       }
 
-  module _ (x : Run) (at k : ℕ) (d : Passed F p s x at k) where
+  module _ (x : Option Open) (at k : ℕ) (d : Passed F p s x at k) where
     pub passed-stood : Stood x k
     passed-stood = record { stage = d.stage; going = d.going }
 
     -- e is what the next piece is read as, and m what it leads to
-    module _ (inside : at + F.size ≤ length s) (κ : Kept) (e : Entry) (q : told κ e ≡ F.read (take F.size (drop at s))) (m : Step) (v : Leads p x e k m) where
+    module _ (inside : at + F.size ≤ length s) (κ : Kept) (e : Entry) (q : told κ e ≡ F.read (take F.size (drop at s))) (m : Result Open Fault) (v : Leads p x e k m) where
       next : read_all F (drop at s) ≡ told κ e ∷ read_all F (drop (at + F.size) s)
       next = from_one F some s at inside ∙ rw q refl
 
-      pub passed-refused : (n j off : ℕ) → m ≡ step.Refused n j off → outcome (judge p (read_all F s)) ≡ wrong n j off
-      passed-refused n j off r =
-          let t : Steps p (told κ e) k d.stage (step.Refused n j off) = rw r at (v.by κ d.stage d.going) in
+      pub passed-refused : (f : Fault) → m ≡ Err f → outcome (judge p (read_all F s)) ≡ wrong_as f
+      passed-refused f r =
+          let t : Steps p (told κ e) k d.stage (Err f) = rw r at (v.by κ d.stage d.going) in
           d.same ∙ ap (λ (l : List Record). outcome (judge_on p k d.stage l)) next ∙ t (read_all F (drop (at + F.size) s))
 
-      pub passed_on : (y : Run) → m ≡ step.On y → Passed F p s y (at + F.size) (k + 1)
+      pub passed_on : (y : Open) → m ≡ Ok y → Passed F p s (Some y) (at + F.size) (k + 1)
       passed_on y r =
           let (st, g, t) = on r in
           record {
@@ -59,7 +57,7 @@ module _ (F : Form) (some : 0 < F.size) (p : Places) (s : List ℕ) where
             count = omega (arith, d.count, ap (λ (l : List Record). length l) next);
           }
         where
-          on : m ≡ step.On y → Steps p (told κ e) k d.stage (step.On y)
+          on : m ≡ Ok y → Steps p (told κ e) k d.stage (Ok y)
           on r = rw r at (v.by κ d.stage d.going)
 
           mul_next : F.size * (k + 1) ≡ F.size * k + F.size
@@ -76,10 +74,10 @@ module _ (F : Form) (some : 0 < F.size) (p : Places) (s : List ℕ) where
         stray (within j h ms) = refl
 
     -- none are
-    tells-same : (r : Judged) → length s ≤ at → Tells k (judge_on p k d.stage []) r → Tells (length (read_all F s)) (judge p (read_all F s)) r
-    tells-same (judged.Accepted n) h (a, b) =
+    tells-same : (r : Result ℕ Fault) → length s ≤ at → Tells k (judge_on p k d.stage []) r → Tells (length (read_all F s)) (judge p (read_all F s)) r
+    tells-same (Ok n) h (a, b) =
         (omega (arith, a, d.count, ap (λ (l : List Record). length l) (from-none F some s at h)), d.same ∙ rw (from-none F some s at h) b)
-    tells-same (judged.Refused n j off) h b = d.same ∙ rw (from-none F some s at h) b
+    tells-same (Err f) h b = d.same ∙ rw (from-none F some s at h) b
 
-    pub passed-end : (r : Judged) → length s ≤ at → Finishes p x k r → Tells (length (read_all F s)) (judge p (read_all F s)) r
+    pub passed-end : (r : Result ℕ Fault) → length s ≤ at → Finishes p x k r → Tells (length (read_all F s)) (judge p (read_all F s)) r
     passed-end r h f = tells-same r h (f.by d.stage d.going.follows)

@@ -5,6 +5,9 @@ use Prim.Native.Nat.{ℕ, suc, ◌+◌, ◌*◌, ◌≤◌, ◌<◌}
 use native.Mathlib.Nat.{mul-suc, mul-zero}
 use native.Mathlib.Omega.{arith}
 use lib.ListN.{length, take, drop, length-append}
+use Rattle.std.specs.Prelude.{Ok, Err}
+use Rattle.refusal.specs.declared.Flaw.{Flaw}
+use Rattle.refusal.specs.Numbers.{number_of}
 use Rattle.base.specs.Put.{put, Wrote}
 use Rattle.base.proofs.Lists.{drop-none}
 use Rattle.base.proofs.Cases.{by-lt}
@@ -42,17 +45,17 @@ said_same strange (a_movement n) e = absurd (let z : ◌≡◌ {A = ℕ} 0 1 = c
 said_same strange strange e = refl
 
 -- what is refused is not said
-never-head : (t : Thing) (off : ℕ) → head_is (no 51 off) ≡ said t → ⊥
+never-head : (t : Thing) (n off : ℕ) → head_is (no n off) ≡ said t → ⊥
 unfolding said
-never-head (a_head h) off e = let z : ◌≡◌ {A = ℕ} 0 1 = cc in omega arith
-never-head (a_movement m) off e = let z : ◌≡◌ {A = ℕ} 0 1 = cc in omega arith
-never-head strange off e = let z : ◌≡◌ {A = ℕ} 0 1 = cc in omega arith
+never-head (a_head h) n off e = let z : ◌≡◌ {A = ℕ} 0 1 = cc in omega arith
+never-head (a_movement m) n off e = let z : ◌≡◌ {A = ℕ} 0 1 = cc in omega arith
+never-head strange n off e = let z : ◌≡◌ {A = ℕ} 0 1 = cc in omega arith
 
-never-movement : (t : Thing) (off : ℕ) → movement_is (no 51 off) ≡ said t → ⊥
+never-movement : (t : Thing) (n off : ℕ) → movement_is (no n off) ≡ said t → ⊥
 unfolding said
-never-movement (a_head h) off e = let z : ◌≡◌ {A = ℕ} 0 1 = cc in omega arith
-never-movement (a_movement m) off e = let z : ◌≡◌ {A = ℕ} 0 1 = cc in omega arith
-never-movement strange off e = let z : ◌≡◌ {A = ℕ} 0 1 = cc in omega arith
+never-movement (a_head h) n off e = let z : ◌≡◌ {A = ℕ} 0 1 = cc in omega arith
+never-movement (a_movement m) n off e = let z : ◌≡◌ {A = ℕ} 0 1 = cc in omega arith
+never-movement strange n off e = let z : ◌≡◌ {A = ℕ} 0 1 = cc in omega arith
 
 first-same : (r q : Record) (rs qs : List Record) → r ∷ rs ≡ q ∷ qs → (r ≡ q) × (rs ≡ qs)
 first-same r q rs qs e = (cc, cc)
@@ -75,11 +78,11 @@ module _ (F : Form) (o : List ℕ) (at : ℕ) (s : List ℕ) (κ : Kept) (e : En
   puts-never : (o1 : List ℕ) (r : ℕ) → ((t : Thing) → told κ e ≡ said t → ⊥) → Puts F o at s o1 r
   puts-never o1 r n = record { by = λ u k. absurd (n u (q ∙ k)) }
 
-  pub head_puts : (x : HeadFields) (o1 : List ℕ) (r : ℕ) → e ≡ entry.Head x → Wrote o at (F.put (a_head (head_of κ x))) o1 r → Puts F o at s o1 r
+  pub head_puts : (x : HeadFields) (o1 : List ℕ) (r : ℕ) → e ≡ entry.Head (Ok x) → Wrote o at (F.put (a_head (head_of κ x))) o1 r → Puts F o at s o1 r
   unfolding said
   head_puts x o1 r h w = puts-as (a_head (head_of κ x)) (ap (told κ) h) o1 r w
 
-  pub movement-puts : (x : MovementFields) (o1 : List ℕ) (r : ℕ) → e ≡ entry.Movement x → Wrote o at (F.put (a_movement (movement_of κ x))) o1 r
+  pub movement-puts : (x : MovementFields) (o1 : List ℕ) (r : ℕ) → e ≡ entry.Movement (Ok x) → Wrote o at (F.put (a_movement (movement_of κ x))) o1 r
       → Puts F o at s o1 r
   unfolding said
   movement-puts x o1 r h w = puts-as (a_movement (movement_of κ x)) (ap (told κ) h) o1 r w
@@ -88,11 +91,11 @@ module _ (F : Form) (o : List ℕ) (at : ℕ) (s : List ℕ) (κ : Kept) (e : En
   unfolding said
   nothing-puts g h l = puts-as strange (ap (told κ) h) o at (rw g (wrote_none o at l))
 
-  pub refused-head-puts : (off : ℕ) → e ≡ entry.HeadRefused off → Puts F o at s o at
-  refused-head-puts off h = puts-never o at (λ t k. never-head t off (sym (ap (told κ) h) ∙ k))
+  pub refused-head-puts : (f : Flaw) → e ≡ entry.Head (Err f) → Puts F o at s o at
+  refused-head-puts f h = puts-never o at (λ t k. never-head t (number_of f.0) f.1 (sym (ap (told κ) h) ∙ k))
 
-  pub refused-movement-puts : (off : ℕ) → e ≡ entry.MovementRefused off → Puts F o at s o at
-  refused-movement-puts off h = puts-never o at (λ t k. never-movement t off (sym (ap (told κ) h) ∙ k))
+  pub refused-movement-puts : (f : Flaw) → e ≡ entry.Movement (Err f) → Puts F o at s o at
+  refused-movement-puts f h = puts-never o at (λ t k. never-movement t (number_of f.0) f.1 (sym (ap (told κ) h) ∙ k))
 
 -- ---- puts one behind the other
 

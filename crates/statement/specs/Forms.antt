@@ -1,13 +1,13 @@
 -- Records of a file and rows of lent bytes are pieces of one size, each read by itself and put as another: what both have in common.
 -- Document 02, W-204. Assumes nothing.
-use Rattle.std.specs.Prelude.{ℕ, ◌+◌, ◌*◌, ◌≤◌, ◌≡◌, List, [], ◌∷◌, ◌++◌, length, drop}
+use Rattle.std.specs.Prelude.{ℕ, ◌+◌, ◌*◌, ◌≤◌, ◌≡◌, Option, List, [], ◌∷◌, ◌++◌, length, drop}
 use Rattle.base.specs.Put.{Wrote}
 use Rattle.gpc.specs.Parts.{pieces}
 use Rattle.gpc.specs.Records.{Thing, Record, said, saids, read_record, spell}
 use Rattle.gpc.specs.StatementRows.{thing_in, tested, thing_row}
 use Rattle.gpc.specs.Statements.{Spots as Places, Stage, judge, judge_on}
 use Rattle.gpcback.specs.Proper.{AllProper}
-use Rattle.statement.specs.declared.run.Run.{Run}
+use Rattle.statement.specs.declared.run.Open.{Open}
 use Rattle.statement.specs.run.Follows.{Going, outcome}
 
 -- a form: how many bytes a piece has, what it is read as, how a thing is put in the other form, and in how many bytes
@@ -40,7 +40,7 @@ puts F [] = []
 puts F (t ∷ ts) = F.put t ++ puts F ts
 
 -- the judging of s has passed k pieces, up to `at`, and stands at a stage from which all comes to the same
-pub record Passed (F : Form) (p : Places) (s : List ℕ) (x : Run) (at k : ℕ) : Type 0 where
+pub record Passed (F : Form) (p : Places) (s : List ℕ) (x : Option Open) (at k : ℕ) : Type 0 where
   pub inside : at ≤ length s
   pub place : at ≡ F.size * k
   pub stage : Stage

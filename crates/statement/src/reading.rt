@@ -1,13 +1,15 @@
 // Reading statements: the file is judged in one pass; if nothing is wrong and there is room, its rows are put in another.
 ghost use Rattle.std.specs.Prelude.{◌≡◌, ◌+◌, ◌*◌, ◌≤◌, ◌<◌, length};
+ghost use Rattle.refusal.specs.Numbers.{number_of};
 ghost use Rattle.gpc.specs.Records.{records_in};
 ghost use Rattle.gpc.specs.Answers.{refused_at, judge_file, statement_answer, statement_rows};
 ghost use Rattle.statement.specs.run.Follows.{Tells};
 ghost use Rattle.statement.specs.Forms.{in_file, Puts, Putable, PutAll};
 ghost use Rattle.statement.specs.reading.Told.{told, Accepted};
 
-use crate::run::{Judged, Spots, Step};
+use crate::run::{Fault, Spots};
 use record::Entry;
+use refusal::{Flaw, Refusal};
 
 // The whole answer: the number, its line and byte; the count of rows; the rows needed where there is no room.
 #[repr(C)]
@@ -28,7 +30,7 @@ const PLACES: Spots = Spots {
 };
 
 // One pass over the file, which only judges. Bytes that are left over are no record.
-fn judge_file(f: &[u8]) -> Judged
+fn judge_file(f: &[u8]) -> Result<u64, Fault>
     ensures { Tells (length (records_in f.now)) (judge_file f.now) result }
 {
     let mut run = crate::run::start();
@@ -37,19 +39,12 @@ fn judge_file(f: &[u8]) -> Judged
     while 130 <= f.len() - at {
         let end = at + 130;
         let e = record::file::read_record(&f[at..end]);
-        match crate::run::next(run, e, k, PLACES) {
-            Step::On(next) => {
-                run = next;
-                at = end;
-                k = k + 1;
-            }
-            Step::Refused(n, j, off) => {
-                return Judged::Refused(n, j, off);
-            }
-        }
+        run = Some(crate::run::next(run, e, k, PLACES)?);
+        at = end;
+        k = k + 1;
     }
     if at < f.len() {
-        return Judged::Refused(50, k, 0);
+        return Err(crate::run::stray(k));
     }
     crate::run::finish(run, k, PLACES)
 }
@@ -60,10 +55,12 @@ fn put_row(rows: &mut [u8], next: usize, s: &[u8]) -> usize
     ensures { Puts in_file rows.old next s.now rows.new result }
 {
     match record::file::read_record(s) {
-        Entry::Movement(x) => { record::row::put_movement(rows, next, x, &s[35..48], &s[71..128]) }
-        Entry::Head(x) => record::row::put_head(rows, next, x, &s[19..45], &s[105..128]),
-        Entry::MovementRefused(off) => next,
-        Entry::HeadRefused(off) => next,
+        Entry::Movement(Ok(x)) => {
+            record::row::put_movement(rows, next, x, &s[35..48], &s[71..128])
+        }
+        Entry::Head(Ok(x)) => record::row::put_head(rows, next, x, &s[19..45], &s[105..128]),
+        Entry::Movement(Err(_)) => next,
+        Entry::Head(Err(_)) => next,
         Entry::Nothing => next,
     }
 }
@@ -82,15 +79,17 @@ fn fill_rows(f: &[u8], rows: &mut [u8])
     }
 }
 
-// A refusal, behind k records, at a place of the next.
-fn refusal(number: u64, k: u64, off: u64) -> AboStatement
-    requires { 130 * k + off < 18446744073709551616 }
-    ensures { told result ≡ refused_at number k off }
+// A refusal: the record counts from 1, the byte from the file's start.
+fn refusal(fault: Fault) -> AboStatement
+    requires { 130 * fault.behind + fault.flaw.1 < 18446744073709551616 }
+    ensures { told result ≡ refused_at (number_of fault.flaw.0) fault.behind fault.flaw.1 }
 {
+    let k = fault.behind;
+    let Flaw(refusal, off) = fault.flaw;
     AboStatement {
-        number,
+        number: refusal.number(),
         line: k + 1,
-        byte: 130 * k + off,
+        byte: 130 * k + off as u64,
         rows: 0,
         needed: 0,
     }
@@ -105,7 +104,7 @@ fn accept(file: &[u8], count: u64, rows: &mut [u8]) -> AboStatement
     let room = rows.len() / 136;
     if (room as u64) < count {
         return AboStatement {
-            number: 16,
+            number: Refusal::NoRoom.number(),
             line: 0,
             byte: 0,
             rows: 0,
@@ -128,7 +127,7 @@ pub fn read_statements(file: &[u8], rows: &mut [u8]) -> AboStatement
     ensures rows_after { rows.new ≡ statement_rows file.now rows.old }
 {
     match judge_file(file) {
-        Judged::Refused(n, k, off) => refusal(n, k, off),
-        Judged::Accepted(count) => accept(file, count, rows),
+        Err(fault) => refusal(fault),
+        Ok(count) => accept(file, count, rows),
     }
 }

@@ -8,8 +8,9 @@ ghost use Rattle.statement.specs.run.Follows.{Tells};
 ghost use Rattle.statement.specs.Forms.{in_rows, Puts, Putable, PutAll};
 ghost use Rattle.statement.specs.writing.Accepted.{Accepted};
 
-use crate::run::{Judged, Spots, Step};
+use crate::run::{Fault, Spots};
 use record::Entry;
+use refusal::{Flaw, Refusal};
 use write::AboWritten;
 
 // In a row, the words that sums are refused at.
@@ -20,7 +21,7 @@ const WORDS: Spots = Spots {
 };
 
 // One pass over the rows, which only judges. Bytes that are left over are no row.
-fn judge_rows(rows: &[u8]) -> Judged
+fn judge_rows(rows: &[u8]) -> Result<u64, Fault>
     ensures { Tells (length (things_in rows.now)) (judge_rows rows.now) result }
 {
     let mut run = crate::run::start();
@@ -29,19 +30,12 @@ fn judge_rows(rows: &[u8]) -> Judged
     while 136 <= rows.len() - at {
         let end = at + 136;
         let e = record::row::read_row(&rows[at..end]);
-        match crate::run::next(run, e, k, WORDS) {
-            Step::On(next) => {
-                run = next;
-                at = end;
-                k = k + 1;
-            }
-            Step::Refused(n, j, field) => {
-                return Judged::Refused(n, j, field);
-            }
-        }
+        run = Some(crate::run::next(run, e, k, WORDS)?);
+        at = end;
+        k = k + 1;
     }
     if at < rows.len() {
-        return Judged::Refused(50, k, 0);
+        return Err(crate::run::stray(k));
     }
     crate::run::finish(run, k, WORDS)
 }
@@ -52,10 +46,12 @@ fn put_record(out: &mut [u8], next: usize, r: &[u8]) -> usize
     ensures { Puts in_rows out.old next r.now out.new result }
 {
     match record::row::read_row(r) {
-        Entry::Movement(x) => { record::file::put_movement(out, next, x, &r[64..77], &r[77..134]) }
-        Entry::Head(x) => record::file::put_head(out, next, x, &r[64..90], &r[90..113]),
-        Entry::MovementRefused(field) => next,
-        Entry::HeadRefused(field) => next,
+        Entry::Movement(Ok(x)) => {
+            record::file::put_movement(out, next, x, &r[64..77], &r[77..134])
+        }
+        Entry::Head(Ok(x)) => record::file::put_head(out, next, x, &r[64..90], &r[90..113]),
+        Entry::Movement(Err(_)) => next,
+        Entry::Head(Err(_)) => next,
         Entry::Nothing => next,
     }
 }
@@ -82,7 +78,7 @@ fn accept(rows: &[u8], count: u64, out: &mut [u8]) -> AboWritten
 {
     let bytes = 130 * count;
     if (out.len() as u64) < bytes {
-        return write::counted(16, bytes);
+        return write::counted(Refusal::NoRoom.number(), bytes);
     }
     fill_file(rows, out);
     write::counted(0, bytes)
@@ -94,7 +90,10 @@ pub fn write_statements(rows: &[u8], out: &mut [u8]) -> AboWritten
     ensures out_after { out.new ≡ output_after out.old (statement_draft rows.now) }
 {
     match judge_rows(rows) {
-        Judged::Refused(n, k, field) => write::refusal(n, k + 1, field),
-        Judged::Accepted(count) => accept(rows, count, out),
+        Err(fault) => {
+            let Flaw(refusal, field) = fault.flaw;
+            write::refusal(refusal.number(), fault.behind + 1, field as u64)
+        }
+        Ok(count) => accept(rows, count, out),
     }
 }

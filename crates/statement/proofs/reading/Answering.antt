@@ -8,6 +8,8 @@ use native.Mathlib.Omega.{arith}
 use lib.Dec.{ltb}
 use lib.ListN.{length}
 use borrow.Author.Tests.{lt-ltb, le-ltb}
+use Rattle.std.specs.Prelude.{Result, Ok, Err}
+use Rattle.refusal.specs.Numbers.{number_of}
 use Rattle.base.proofs.Cases.{pick_true, pick-false}
 use Rattle.gpc.specs.Records.{records_in, saids}
 use Rattle.gpc.specs.Statements.{Statement, things, record_spots, Judged as Answer, accepted, refused}
@@ -15,8 +17,7 @@ use Rattle.gpc.specs.Answers.{StatementAnswer, refused_at, needs, accepted_as, r
 use Rattle.gpcexact.proofs.Main.{exact, counted}
 use Rattle.gpcexact.proofs.Named.{file-placed}
 use Rattle.gpcback.proofs.ManySound.{records-sound, things-known}
-use Rattle.statement.specs.declared.run.Judged.{Judged}
-use Rattle.statement.specs.declared.run.Judged.TheVariants as judged
+use Rattle.statement.specs.declared.run.Fault.{Fault}
 use Rattle.statement.specs.Forms.{in_file, Putable, PutAll}
 use Rattle.statement.specs.run.Follows.{fine, wrong, outcome, Tells}
 use Rattle.statement.specs.reading.Told.{Accepted}
@@ -24,8 +25,8 @@ use Rattle.statement.proofs.Pieces.{file-all, file-puts}
 
 -- ---- `refusal`
 
-pub refusal-told : (n k off : ℕ) → record { number = n; line = k + 1; byte = 130 * k + off; rows = 0; needed = 0 } ≡ refused_at n k off
-refusal-told n k off = rw (add-one k) refl
+pub refusal-told : (n m k off : ℕ) → m ≡ n → record { number = m; line = k + 1; byte = 130 * k + off; rows = 0; needed = 0 } ≡ refused_at n k off
+refusal-told n m k off e = rw (e, add-one k) refl
 
 -- ---- an outcome is one answer's
 
@@ -54,9 +55,9 @@ module _ (f lent : List ℕ) (count : ℕ) (a : Accepted f count) where
     tested : ltb (length lent / 136) (row_count a.statements) ≡ true
     tested = lt-ltb (length lent / 136) (row_count a.statements) (omega (arith, l, a.counted))
 
-    pub no_room : needs count ≡ statement_answer f lent
+    pub no_room : (n : ℕ) → n ≡ 16 → record { number = n; line = 0; byte = 0; rows = 0; needed = count } ≡ statement_answer f lent
     unfolding answered
-    no_room = sym (answer-is ∙ pick_true _ _ tested ∙ ap needs (sym a.counted))
+    no_room n e = rw e (sym (answer-is ∙ pick_true _ _ tested ∙ ap needs (sym a.counted)))
 
     pub left_alone : lent ≡ statement_rows f lent
     unfolding filled
@@ -93,15 +94,15 @@ pub ruleset accepting = (no_room, left_alone, has_room, can-fill, filled-rows)
 
 -- ---- `read_statements`: m is what the file was judged to be
 
-module _ (f lent : List ℕ) (m : Judged) (t : Tells (length (records_in f)) (judge_file f) m) where
-  module _ (n k off : ℕ) (q : m ≡ judged.Refused n k off) where
-    refused-so : judge_file f ≡ refused n k off
-    refused-so = refused_as (judge_file f) n k off (rw q at t)
+module _ (f lent : List ℕ) (m : Result ℕ Fault) (t : Tells (length (records_in f)) (judge_file f) m) where
+  module _ (r : Fault) (q : m ≡ Err r) where
+    refused-so : judge_file f ≡ refused (number_of r.flaw.0) r.behind r.flaw.1
+    refused-so = refused_as (judge_file f) (number_of r.flaw.0) r.behind r.flaw.1 (rw q at t)
 
-    pub refused-inside : length f < 18446744073709551616 → 130 * k + off < 18446744073709551616
-    refused-inside l = omega (arith, file-placed f n k off refused-so)
+    pub refused-inside : length f < 18446744073709551616 → 130 * r.behind + r.flaw.1 < 18446744073709551616
+    refused-inside l = omega (arith, file-placed f (number_of r.flaw.0) r.behind r.flaw.1 refused-so)
 
-    pub refused-told : (a : StatementAnswer) → a ≡ refused_at n k off → a ≡ statement_answer f lent
+    pub refused-told : (a : StatementAnswer) → a ≡ refused_at (number_of r.flaw.0) r.behind r.flaw.1 → a ≡ statement_answer f lent
     unfolding statement_answer answered
     refused-told a e = rw (refused-so, e) refl
 
@@ -109,10 +110,10 @@ module _ (f lent : List ℕ) (m : Judged) (t : Tells (length (records_in f)) (ju
     unfolding statement_rows filled
     refused-kept = rw refused-so refl
 
-  pub accepted-told : (count : ℕ) → m ≡ judged.Accepted count → Accepted f count
+  pub accepted-told : (count : ℕ) → m ≡ Ok count → Accepted f count
   unfolding judge_file
   accepted-told count q =
-      let (n, e) : Tells (length (records_in f)) (judge_file f) (judged.Accepted count) = rw q at t in
+      let (n, e) : Tells (length (records_in f)) (judge_file f) (Ok count) = rw q at t in
       let (ss, s) = accepted-as (judge_file f) e in
       record { statements = ss; judged = s; counted = n ∙ counted record_spots (records_in f) ss s }
 

@@ -4,6 +4,8 @@ use mathlib.Core.List.{List}
 use Prim.Native.Nat.{ℕ, ◌+◌, ◌-◌, ◌≤◌, ◌<◌}
 use native.Mathlib.Omega.{arith}
 use lib.ListN.{length, take, drop}
+use Rattle.std.specs.Prelude.{Result, Ok, Err}
+use Rattle.refusal.specs.declared.Flaw.{Flaw}
 use Rattle.base.specs.Put.{Wrote}
 use Rattle.gpc.specs.Records.{read_record}
 use Rattle.gpc.specs.StatementRows.{thing_row, head_row, movement_row}
@@ -20,20 +22,20 @@ use Rattle.statement.proofs.Putting.{Sane, putting-first, putting-length, puttin
 -- ---- `put_row`
 
 module _ (o : List ℕ) (at : ℕ) (s : List ℕ) (e : Entry) (q : told (kept_in_file s) e ≡ read_record s) where
-  pub head-put : (x : HeadFields) (o1 : List ℕ) (r : ℕ) → e ≡ entry.Head x → Wrote o at (head_row (head_of (kept_in_file s) x)) o1 r → Puts in_file o at s o1 r
+  pub head-put : (x : HeadFields) (o1 : List ℕ) (r : ℕ) → (a : Result HeadFields Flaw) → e ≡ entry.Head a → a ≡ Ok x → Wrote o at (head_row (head_of (kept_in_file s) x)) o1 r → Puts in_file o at s o1 r
   unfolding thing_row
-  head-put x o1 r h w = head_puts in_file o at s _ e q x o1 r h w
+  head-put x o1 r a h i w = head_puts in_file o at s _ e q x o1 r (rw i at h) w
 
-  pub movement-put : (x : MovementFields) (o1 : List ℕ) (r : ℕ) → e ≡ entry.Movement x → Wrote o at (movement_row (movement_of (kept_in_file s) x)) o1 r
+  pub movement-put : (x : MovementFields) (o1 : List ℕ) (r : ℕ) → (a : Result MovementFields Flaw) → e ≡ entry.Movement a → a ≡ Ok x → Wrote o at (movement_row (movement_of (kept_in_file s) x)) o1 r
       → Puts in_file o at s o1 r
   unfolding thing_row
-  movement-put x o1 r h w = movement-puts in_file o at s _ e q x o1 r h w
+  movement-put x o1 r a h i w = movement-puts in_file o at s _ e q x o1 r (rw i at h) w
 
-  pub no-head-put : (off : ℕ) → e ≡ entry.HeadRefused off → Puts in_file o at s o at
-  no-head-put off h = refused-head-puts in_file o at s _ e q off h
+  pub no-head-put : (r : Result HeadFields Flaw) (f : Flaw) → e ≡ entry.Head r → r ≡ Err f → Puts in_file o at s o at
+  no-head-put r f h i = refused-head-puts in_file o at s _ e q f (rw i at h)
 
-  pub no-movement-put : (off : ℕ) → e ≡ entry.MovementRefused off → Puts in_file o at s o at
-  no-movement-put off h = refused-movement-puts in_file o at s _ e q off h
+  pub no-movement-put : (r : Result MovementFields Flaw) (f : Flaw) → e ≡ entry.Movement r → r ≡ Err f → Puts in_file o at s o at
+  no-movement-put r f h i = refused-movement-puts in_file o at s _ e q f (rw i at h)
 
   pub none-put : e ≡ entry.Nothing → at + 136 ≤ length o → Puts in_file o at s o at
   unfolding thing_row

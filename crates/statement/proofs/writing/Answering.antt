@@ -8,6 +8,8 @@ use native.Mathlib.Omega.{arith}
 use lib.Dec.{ltb}
 use lib.ListN.{length, drop}
 use borrow.Author.Tests.{lt-ltb, le-ltb}
+use Rattle.std.specs.Prelude.{Result, Ok, Err}
+use Rattle.refusal.specs.Numbers.{number_of}
 use Rattle.base.proofs.Cases.{either, pick_true, pick-false}
 use Rattle.paper.specs.Bytes.{null}
 use Rattle.paper.specs.Writing.{drafted, WriteAnswer, written_in, output_after}
@@ -23,8 +25,7 @@ use Rattle.gpcexact.proofs.Named.{rows_row}
 use Rattle.gpcback.specs.Proper.{AllProper}
 use Rattle.gpcback.proofs.Many.{spells-length}
 use Rattle.gpcback.proofs.ManySound.{rows-tested}
-use Rattle.statement.specs.declared.run.Judged.{Judged}
-use Rattle.statement.specs.declared.run.Judged.TheVariants as judged
+use Rattle.statement.specs.declared.run.Fault.{Fault}
 use Rattle.statement.specs.Forms.{in_rows, Putable, PutAll}
 use Rattle.statement.specs.run.Follows.{Tells}
 use Rattle.statement.specs.writing.Accepted.{Accepted}
@@ -73,9 +74,9 @@ module _ (rows out : List ℕ) (count : ℕ) (a : Accepted rows count) where
     short : ltb (length out) (length (canon a.statements)) ≡ true
     short = lt-ltb (length out) (length (canon a.statements)) (omega (arith, l, long))
 
-    pub no_room : (b : WriteAnswer) → b ≡ counted_as 16 (130 * count) → b ≡ written_in (length out) (statement_draft rows)
+    pub no_room : (b : WriteAnswer) (n : ℕ) → n ≡ 16 → b ≡ counted_as n (130 * count) → b ≡ written_in (length out) (statement_draft rows)
     unfolding written_in
-    no_room b e = e ∙ rw (draft-is, ← long) (sym (pick_true _ _ short))
+    no_room b n i e = e ∙ rw (i, draft-is, ← long) (sym (pick_true _ _ short))
 
     pub left_alone : out ≡ output_after out (statement_draft rows)
     unfolding output_after
@@ -109,26 +110,26 @@ pub ruleset accepting = (bytes_fit, no_room, left_alone, has_room, can-fill, fil
 
 -- ---- `write_statements`: m is what the rows were judged to be
 
-module _ (rows out : List ℕ) (m : Judged) (t : Tells (length (things_in rows)) (judge_rows rows) m) where
-  module _ (n k off : ℕ) (q : m ≡ judged.Refused n k off) where
-    refused-so : judge_rows rows ≡ refused n k off
-    refused-so = refused_as (judge_rows rows) n k off (rw q at t)
+module _ (rows out : List ℕ) (m : Result ℕ Fault) (t : Tells (length (things_in rows)) (judge_rows rows) m) where
+  module _ (r : Fault) (q : m ≡ Err r) where
+    refused-so : judge_rows rows ≡ refused (number_of r.flaw.0) r.behind r.flaw.1
+    refused-so = refused_as (judge_rows rows) (number_of r.flaw.0) r.behind r.flaw.1 (rw q at t)
 
-    pub refused-inside : length rows < 18446744073709551616 → k + 1 < 18446744073709551616
-    refused-inside l = omega (arith, rows_row rows n k off refused-so, few rows)
+    pub refused-inside : length rows < 18446744073709551616 → r.behind + 1 < 18446744073709551616
+    refused-inside l = omega (arith, rows_row rows (number_of r.flaw.0) r.behind r.flaw.1 refused-so, few rows)
 
-    pub refused-told : (b : WriteAnswer) → b ≡ refused_at n (k + 1) off → b ≡ written_in (length out) (statement_draft rows)
+    pub refused-told : (b : WriteAnswer) (n : ℕ) → n ≡ number_of r.flaw.0 → b ≡ refused_at n (r.behind + 1) r.flaw.1 → b ≡ written_in (length out) (statement_draft rows)
     unfolding statement_draft draft_of written_in
-    refused-told b e = e ∙ rw (refused-so, add-one k) refl
+    refused-told b n i e = e ∙ rw (refused-so, i, add-one r.behind) refl
 
     pub refused-kept : out ≡ output_after out (statement_draft rows)
     unfolding statement_draft draft_of output_after
     refused-kept = rw refused-so refl
 
-  pub accepted-told : (count : ℕ) → m ≡ judged.Accepted count → Accepted rows count
+  pub accepted-told : (count : ℕ) → m ≡ Ok count → Accepted rows count
   unfolding judge_rows
   accepted-told count q =
-      let (n, e) : Tells (length (things_in rows)) (judge_rows rows) (judged.Accepted count) = rw q at t in
+      let (n, e) : Tells (length (things_in rows)) (judge_rows rows) (Ok count) = rw q at t in
       let (ss, s) = accepted-as (judge_rows rows) e in
       let (h, p) = rows-tested rows ss ((exact row_spots (testeds (things_in rows)) ss).0 s).read in
       record { statements = ss; judged = s; counted = n ∙ ap (λ (l : List Thing). length l) h; few = omega (arith, n, few rows) }

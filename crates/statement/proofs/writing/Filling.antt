@@ -4,6 +4,8 @@ use mathlib.Core.List.{List}
 use Prim.Native.Nat.{ℕ, ◌+◌, ◌-◌, ◌≤◌, ◌<◌}
 use native.Mathlib.Omega.{arith}
 use lib.ListN.{length, take, drop}
+use Rattle.std.specs.Prelude.{Result, Ok, Err}
+use Rattle.refusal.specs.declared.Flaw.{Flaw}
 use Rattle.base.specs.Put.{Wrote}
 use Rattle.gpc.specs.Records.{spell, spell_head, spell_movement}
 use Rattle.gpc.specs.StatementRows.{thing_in, tested}
@@ -20,20 +22,20 @@ use Rattle.statement.proofs.Putting.{Sane, putting-first, putting-length, puttin
 -- ---- `put_record`
 
 module _ (o : List ℕ) (at : ℕ) (s : List ℕ) (e : Entry) (q : told (kept_in_row s) e ≡ tested (thing_in s)) where
-  pub head-put : (x : HeadFields) (o1 : List ℕ) (r : ℕ) → e ≡ entry.Head x → Wrote o at (spell_head (head_of (kept_in_row s) x)) o1 r → Puts in_rows o at s o1 r
+  pub head-put : (x : HeadFields) (o1 : List ℕ) (r : ℕ) → (a : Result HeadFields Flaw) → e ≡ entry.Head a → a ≡ Ok x → Wrote o at (spell_head (head_of (kept_in_row s) x)) o1 r → Puts in_rows o at s o1 r
   unfolding spell
-  head-put x o1 r h w = head_puts in_rows o at s _ e q x o1 r h w
+  head-put x o1 r a h i w = head_puts in_rows o at s _ e q x o1 r (rw i at h) w
 
-  pub movement-put : (x : MovementFields) (o1 : List ℕ) (r : ℕ) → e ≡ entry.Movement x → Wrote o at (spell_movement (movement_of (kept_in_row s) x)) o1 r
+  pub movement-put : (x : MovementFields) (o1 : List ℕ) (r : ℕ) → (a : Result MovementFields Flaw) → e ≡ entry.Movement a → a ≡ Ok x → Wrote o at (spell_movement (movement_of (kept_in_row s) x)) o1 r
       → Puts in_rows o at s o1 r
   unfolding spell
-  movement-put x o1 r h w = movement-puts in_rows o at s _ e q x o1 r h w
+  movement-put x o1 r a h i w = movement-puts in_rows o at s _ e q x o1 r (rw i at h) w
 
-  pub no-head-put : (off : ℕ) → e ≡ entry.HeadRefused off → Puts in_rows o at s o at
-  no-head-put off h = refused-head-puts in_rows o at s _ e q off h
+  pub no-head-put : (r : Result HeadFields Flaw) (f : Flaw) → e ≡ entry.Head r → r ≡ Err f → Puts in_rows o at s o at
+  no-head-put r f h i = refused-head-puts in_rows o at s _ e q f (rw i at h)
 
-  pub no-movement-put : (off : ℕ) → e ≡ entry.MovementRefused off → Puts in_rows o at s o at
-  no-movement-put off h = refused-movement-puts in_rows o at s _ e q off h
+  pub no-movement-put : (r : Result MovementFields Flaw) (f : Flaw) → e ≡ entry.Movement r → r ≡ Err f → Puts in_rows o at s o at
+  no-movement-put r f h i = refused-movement-puts in_rows o at s _ e q f (rw i at h)
 
   pub none-put : e ≡ entry.Nothing → at + 130 ≤ length o → Puts in_rows o at s o at
   unfolding spell
@@ -41,9 +43,9 @@ module _ (o : List ℕ) (at : ℕ) (s : List ℕ) (e : Entry) (q : told (kept_in
 
 -- accounts fit their digits
 module _ (e : Entry) (f : Fits e) where
-  module _ (x : HeadFields) (h : e ≡ entry.Head x) where
+  module _ (x : HeadFields) (a : Result HeadFields Flaw) (h : e ≡ entry.Head a) (i : a ≡ Ok x) where
     head-fits : FitsHead x
-    head-fits = rw h at f
+    head-fits = rw (h, i) at f
 
     pub head-prefix : x.prefix < 1000000
     head-prefix = head-fits.0
@@ -51,9 +53,9 @@ module _ (e : Entry) (f : Fits e) where
     pub head-base : x.base < 10000000000
     head-base = head-fits.1
 
-  module _ (x : MovementFields) (h : e ≡ entry.Movement x) where
+  module _ (x : MovementFields) (a : Result MovementFields Flaw) (h : e ≡ entry.Movement a) (i : a ≡ Ok x) where
     movement-fits : FitsMovement x
-    movement-fits = rw h at f
+    movement-fits = rw (h, i) at f
 
     pub movement-prefix : x.prefix < 1000000
     movement-prefix = movement-fits.0

@@ -9,5 +9,5 @@ refusal-requires c = search (answering, rules)
 pub accept-requires : goal.accept-requires
 accept-requires c = search (answering, rules)
 
-pub returns-in-Refused : goal.returns-in-Refused
-returns-in-Refused c = search (answering, rules)
+pub returns-in-Err : goal.returns-in-Err
+returns-in-Err c = search (answering, rules)

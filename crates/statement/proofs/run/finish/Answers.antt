@@ -1,22 +1,15 @@
 -- `finish`: no record is left, so the open statement is over. Assumes nothing.
-use borrow.Author.Rules.{rules}
-use Rattle.statement.proofs.run.Leading.{ending, stages}
+use Rattle.std.proofs.lemmas.Result.{err_from_is_err_and}
+use Rattle.statement.proofs.run.Leading.{ending}
 use Rattle.statement.proofs.run.finish.Goals as goal
 
-pub close-requires : goal.close-requires
-close-requires c = search (stages, rules)
+pub returns-in_default : goal.returns-in_default
+returns-in_default c = search ending
 
-pub enum_told-1 : goal.enum_told-1
-enum_told-1 c = search (stages, rules)
-
-pub enum_known-n : goal.enum_known-n
-enum_known-n c = search (stages, rules)
-
-pub returns-in-Fine : goal.returns-in-Fine
-returns-in-Fine c = search (ending, stages)
-
-pub returns-in-Refused : goal.returns-in-Refused
-returns-in-Refused c = search (ending, stages)
+pub returns-in_err-close : goal.returns-in_err-close
+returns-in_err-close c =
+    let p = err_from_is_err_and c.from_residual.result c.from_residual.ensures.1 in
+    rw (p.1, p.2) (search (ending, c.in_err-close.was))
 
 pub returns : goal.returns
-returns c = search (ending, stages)
+returns c = search (ending, c.in_ok-close.was)
