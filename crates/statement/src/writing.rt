@@ -78,10 +78,10 @@ fn accept(rows: &[u8], count: u64, out: &mut [u8]) -> AboWritten
 {
     let bytes = 130 * count;
     if (out.len() as u64) < bytes {
-        return write::counted(Refusal::NoRoom.number(), bytes);
+        return write::counted(Some(Refusal::NoRoom), bytes);
     }
     fill_file(rows, out);
-    write::counted(0, bytes)
+    write::counted(None, bytes)
 }
 
 // The whole answer of writing the statements that rows hold, and the output, which a refusal leaves as it was.
@@ -92,7 +92,7 @@ pub fn write_statements(rows: &[u8], out: &mut [u8]) -> AboWritten
     match judge_rows(rows) {
         Err(fault) => {
             let Flaw(refusal, field) = fault.flaw;
-            write::refusal(refusal.number(), fault.behind + 1, field as u64)
+            write::refusal(refusal, fault.behind + 1, field as u64)
         }
         Ok(count) => accept(rows, count, out),
     }

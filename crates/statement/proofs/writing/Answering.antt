@@ -74,9 +74,9 @@ module _ (rows out : List ℕ) (count : ℕ) (a : Accepted rows count) where
     short : ltb (length out) (length (canon a.statements)) ≡ true
     short = lt-ltb (length out) (length (canon a.statements)) (omega (arith, l, long))
 
-    pub no_room : (b : WriteAnswer) (n : ℕ) → n ≡ 16 → b ≡ counted_as n (130 * count) → b ≡ written_in (length out) (statement_draft rows)
+    pub no_room : (b : WriteAnswer) → b ≡ counted_as 16 (130 * count) → b ≡ written_in (length out) (statement_draft rows)
     unfolding written_in
-    no_room b n i e = e ∙ rw (i, draft-is, ← long) (sym (pick_true _ _ short))
+    no_room b e = e ∙ rw (draft-is, ← long) (sym (pick_true _ _ short))
 
     pub left_alone : out ≡ output_after out (statement_draft rows)
     unfolding output_after
@@ -118,9 +118,9 @@ module _ (rows out : List ℕ) (m : Result ℕ Fault) (t : Tells (length (things
     pub refused-inside : length rows < 18446744073709551616 → r.behind + 1 < 18446744073709551616
     refused-inside l = omega (arith, rows_row rows (number_of r.flaw.0) r.behind r.flaw.1 refused-so, few rows)
 
-    pub refused-told : (b : WriteAnswer) (n : ℕ) → n ≡ number_of r.flaw.0 → b ≡ refused_at n (r.behind + 1) r.flaw.1 → b ≡ written_in (length out) (statement_draft rows)
+    pub refused-told : (b : WriteAnswer) → b ≡ refused_at (number_of r.flaw.0) (r.behind + 1) r.flaw.1 → b ≡ written_in (length out) (statement_draft rows)
     unfolding statement_draft draft_of written_in
-    refused-told b n i e = e ∙ rw (refused-so, i, add-one r.behind) refl
+    refused-told b e = e ∙ rw (refused-so, add-one r.behind) refl
 
     pub refused-kept : out ≡ output_after out (statement_draft rows)
     unfolding statement_draft draft_of output_after
