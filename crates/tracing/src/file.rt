@@ -11,7 +11,7 @@ use crate::group::Far;
 use course::line::{from_file, from_first, from_group};
 use course::{Course, Stage};
 use fileline::seen::Seen;
-use judge::group::{Counts, Held, Shelf};
+use judge::group::{GroupEnd, Held};
 use scan::line::Cut;
 use sheet::Sheet;
 use std::ops::ControlFlow;
@@ -125,15 +125,19 @@ fn in_group(from: u64, to: u64, held: Held) -> Course
 }
 
 // Behind a group.
-fn behind_group(at: usize, line: u64, from: u64, to: u64, counts: Counts, shelf: Shelf) -> Ahead
-    ensures { result ≡ Continue (record { at = at; line = line; x = at_group from to counts shelf }) }
+fn behind_group(end: GroupEnd, from: u64, to: u64) -> Ahead
+    ensures { result ≡ Continue (record { at = end.at; line = end.line; x = at_group from to end.counts end.shelf }) }
 {
     let x = Course {
         from,
         to,
-        stage: Stage::Group(counts, shelf),
+        stage: Stage::Group(end.counts, end.shelf),
     };
-    Continue(Mark { at, line, x })
+    Continue(Mark {
+        at: end.at,
+        line: end.line,
+        x,
+    })
 }
 
 // The lines of an open group.
@@ -153,12 +157,7 @@ fn whole_group(
     ensures { Steps sh today f.now at words result }
 {
     match crate::group::along(f, sh, today, at, line, held) {
-        Far::Closed {
-            at: next,
-            line: following,
-            counts,
-            shelf,
-        } => behind_group(next, following, from, to, counts, shelf),
+        Far::Closed(end) => behind_group(end, from, to),
         Far::Halt {
             at: there,
             cut,

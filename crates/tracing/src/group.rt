@@ -5,19 +5,15 @@ ghost use Rattle.paper.specs.Days.{real_day};
 ghost use Rattle.judge.specs.group.Stands.{Begun};
 ghost use Rattle.tracing.specs.group.Along.{Closing, Through};
 
-use judge::group::{Counts, GroupEnd, Held, Shelf, Turn};
+use judge::group::{GroupEnd, Held, Turn};
+use judge::refused::Refused;
 use scan::line::Cut;
 use sheet::Sheet;
 
 // How far a pass comes along a group's lines: behind the one that closes it; to one where judging halts; or to the file's end.
 #[derive(Clone, Copy)]
 pub enum Far {
-    Closed {
-        at: usize,
-        line: u64,
-        counts: Counts,
-        shelf: Shelf,
-    },
+    Closed(GroupEnd),
     Halt {
         at: usize,
         cut: Cut,
@@ -32,22 +28,12 @@ pub enum Far {
 }
 
 // What the line there, line `line`, leads to, which closes the group by its own bytes: the group's end may still be refused for its total.
-fn ended(end: GroupEnd, at: usize, cut: Cut, line: u64, held: Held) -> Far
+fn ended(end: Result<GroupEnd, Refused>, at: usize, cut: Cut, line: u64, held: Held) -> Far
     ensures { (sh : Sheet) (today : ℕ) (f : List ℕ) → Sane sh → Closing sh today f at cut line held end → Through sh today f at line held result }
 {
     match end {
-        GroupEnd::Closed {
-            at: next,
-            line: following,
-            counts,
-            shelf,
-        } => Far::Closed {
-            at: next,
-            line: following,
-            counts,
-            shelf,
-        },
-        GroupEnd::Stop(_, _, _) => Far::Halt {
+        Ok(closed) => Far::Closed(closed),
+        Err(_) => Far::Halt {
             at,
             cut,
             line,
@@ -68,17 +54,17 @@ pub fn along(f: &[u8], sh: Sheet, today: u64, at: usize, line: u64, held: Held) 
     let mut held = held;
     while at < f.len() {
         let cut = scan::line::next_line(f, at);
-        match judge::group::item_step(f, sh, banks, at, cut.stop, held) {
-            Turn::Item { amount, warnings } => {
-                held = judge::group::held_more(held, amount, warnings);
+        match judge::group::item_step(f, sh, banks, at, cut.stop, line, held) {
+            Ok(Turn::Item(item)) => {
+                held = judge::group::held_more(held, item.amount, item.warnings);
                 at = cut.next;
                 line = line + 1;
             }
-            Turn::Close => {
+            Ok(Turn::Close) => {
                 let end = judge::group::close_group(sh.strict, cut.next, line + 1, held);
                 return ended(end, at, cut, line, held);
             }
-            Turn::Stop(_, _) => {
+            Err(_) => {
                 return Far::Halt {
                     at,
                     cut,

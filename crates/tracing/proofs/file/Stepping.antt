@@ -16,6 +16,7 @@ use Rattle.scan.specs.line.Cutting.{Cuts}
 use Rattle.judge.specs.declared.group.Counts.{Counts}
 use Rattle.judge.specs.declared.group.Shelf.{Shelf}
 use Rattle.judge.specs.declared.group.Held.{Held}
+use Rattle.judge.specs.declared.group.GroupEnd.{GroupEnd}
 use Rattle.judge.specs.group.Stands.{line_in, Begun}
 use Rattle.why.specs.declared.Finding.{Finding}
 use Rattle.why.specs.Finding.{blame}
@@ -80,8 +81,8 @@ module _ (sh : Sheet) (today : ℕ) (f : List ℕ) (at k from to : ℕ) (x : Hel
     goes : (v : Far) → r ≡ v → Goes sh today f at from to words v
     goes v e = rw e at (through from to words reached)
 
-    pub far-closed : (next j : ℕ) (c : Counts) (s : Shelf) → r ≡ far.Closed next j c s → (v : ControlFlow (Result Tallied Finding) Mark) → v ≡ Continue (record { at = next; line = j; x = at_group from to c s }) → Steps sh today f at words v
-    far-closed next j c s e v q = rw q (goes (far.Closed next j c s) e)
+    pub far-closed : (e : GroupEnd) → r ≡ far.Closed e → (v : ControlFlow (Result Tallied Finding) Mark) → v ≡ Continue (record { at = e.at; line = e.line; x = at_group from to e.counts e.shelf }) → Steps sh today f at words v
+    far-closed e z v q = rw q (goes (far.Closed e) z)
 
     pub far-halt : (there : ℕ) (cut : Cut) (j : ℕ) (y : Held) → r ≡ far.Halt there cut j y → (x : Course) → x ≡ at_item from to y → Met sh today f there cut j x words None
     far-halt there cut j y e x q = rw q (goes (far.Halt there cut j y) e)

@@ -19,17 +19,17 @@ loop-at-smaller c = search (goings, goes-along, rules)
 pub loop-at-preserved : goal.loop-at-preserved
 loop-at-preserved c = (search (goings, c.loop-at.invariant.0, c.next_line-cut.ensures, c.item_step.ensures, c.held_more-held.ensures, c.requires.sane), search (goes-along, c.loop-at.invariant.0, c.loop-at.invariant.1, c.next_line-cut.ensures, c.item_step.ensures, c.held_more-held.ensures, c.requires.sane))
 
-pub overflow_add-line-in-Close : goal.overflow_add-line-in-Close
-overflow_add-line-in-Close c = search (goings, goes-along, rules)
+pub overflow_add-line-in-Ok-Close : goal.overflow_add-line-in-Ok-Close
+overflow_add-line-in-Ok-Close c = search (goings, goes-along, rules)
 
 pub close_group-end-requires : goal.close_group-end-requires
 close_group-end-requires c = search (goings, goes-along, rules)
 
-pub returns-in-Close : goal.returns-in-Close
-returns-in-Close c = search (goings, goes-along, rules)
+pub returns-in-Ok-Close : goal.returns-in-Ok-Close
+returns-in-Ok-Close c = search (goings, goes-along, rules)
 
-pub returns-in-Stop : goal.returns-in-Stop
-returns-in-Stop c = search (goings, goes-along, rules)
+pub returns-in-Err : goal.returns-in-Err
+returns-in-Err c = search (goings, goes-along, rules)
 
 pub returns : goal.returns
 returns c = search (goings, goes-along, rules)

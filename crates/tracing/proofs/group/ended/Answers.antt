@@ -3,8 +3,8 @@ use borrow.Author.Rules.{rules}
 use Rattle.tracing.proofs.group.Going.{group-ends}
 use Rattle.tracing.proofs.group.ended.Goals as goal
 
-pub returns-in-Closed : goal.returns-in-Closed
-returns-in-Closed c = search (group-ends, rules)
+pub returns-in-Ok : goal.returns-in-Ok
+returns-in-Ok c = search (group-ends, rules)
 
-pub returns-in-Stop : goal.returns-in-Stop
-returns-in-Stop c = search (group-ends, rules)
+pub returns-in-Err : goal.returns-in-Err
+returns-in-Err c = search (group-ends, rules)
