@@ -1,5 +1,5 @@
 -- From the judging of a file against a register to the whole answer, the rows and the register that reading leaves. Assumes nothing.
-use Rattle.std.proofs.Common.{Option, Some, None}
+use Rattle.std.proofs.Common.{Option, Some, None, Result, Ok, Err}
 use Prim.Native.Nat.{ℕ, ◌/◌, ◌≤◌}
 use mathlib.Core.Path.{◌≡◌, sym, ap, subst, ◌∙◌}
 use mathlib.Core.Bool.{Bool, true, false, true≢false}
@@ -10,6 +10,7 @@ use lib.ListN.{length}
 use borrow.Author.Tests.{leb-true}
 use Rattle.base.specs.Pick.{pick}
 use Rattle.base.proofs.Cases.{by-test, pick_true, pick-false, pick_same}
+use Rattle.refusal.specs.Numbers.{number_of}
 use Rattle.sheet.specs.declared.Sheet.{Sheet}
 use Rattle.sheet.specs.Sheets.{sheet_of}
 use Rattle.sheet.proofs.Laws.{Sane, sheet-sane}
@@ -20,10 +21,9 @@ use Rattle.paper.specs.Reading.{ReadAnswer, refused_at, needs, accepted_as, row_
 use Rattle.fileline.specs.seen.Bits.{bit}
 use Rattle.tally.specs.Short.{Yes, brief, tally}
 use Rattle.tally.proofs.Short.{tally-is, refused-is}
-use Rattle.judge.specs.declared.file.Head.{Head}
 use Rattle.judge.specs.declared.file.Ended.{Ended}
-use Rattle.judge.specs.declared.file.FileJudged.TheVariants as judged
-use Rattle.judge.specs.file.Answer.{head_of, told, Sound, Kept}
+use Rattle.judge.specs.declared.refused.Refused.{Refused as Rejected}
+use Rattle.judge.specs.file.Answer.{head_of, Sound, KeptEnd}
 use Rattle.register.specs.declared.Loaded.{Loaded}
 use Rattle.register.specs.Marks.{Marks, with}
 use Rattle.register.specs.Register.{Register, malformed, of, register_size, is_laid, register_of, fits, used, laid_in}
@@ -32,7 +32,7 @@ use Rattle.against.specs.Against.{judge_on}
 use Rattle.against.specs.Registered.{registered_with, registered_answer, registered_rows_with, registered_rows, marking, marked, register_with, register_after}
 use Rattle.against.proofs.Exact.{accepted-on}
 use Rattle.against.proofs.Headed.{headed}
-use Rattle.registered.specs.Judged.{Judged}
+use Rattle.registered.specs.Judged.{told_end, Judged}
 
 -- ---- the sheet
 
@@ -121,13 +121,13 @@ long_of lent d p e =
     (λ t. absurd (let z : malformed ≡ of d p = (sym (pick-false _ _ (pick-false _ _ t))) ∙ e in let w : ◌≡◌ {A = ℕ} 0 1 = cc in omega arith))
 
 module _ (reg : Loaded) (register : List ℕ) (g : told_register reg ≡ register_of register) (sh : Sheet) (sane : Sane sh) (i : sh.interval ≡ true) (today : ℕ) (real : real_day today ≡ true)
-    (f lent : List ℕ) (ended : Ended) (j : Judged (told_register reg) sh today f ended) where
+    (f lent : List ℕ) (ended : Result Ended Rejected) (j : Judged (told_register reg) sh today f ended) where
   -- refused
-  module _ (n l p : ℕ) (e : ended.judged ≡ judged.Refused n l p) where
-    judged-no : judge_on (register_of register) sh today f ≡ Refused n l p
-    judged-no = rw g at (refused-is (judge_on (told_register reg) sh today f) n l p (sym j.same ∙ ap (told f) e))
+  module _ (y : Rejected) (e : ended ≡ Err y) where
+    judged-no : judge_on (register_of register) sh today f ≡ Refused (number_of y.refusal) y.line y.byte
+    judged-no = rw g at (refused-is (judge_on (told_register reg) sh today f) _ _ _ (sym j.same ∙ ap (told_end f) e))
 
-    pub refused : (a : ReadAnswer) (room : ℕ) → a ≡ refused_at n l p → a ≡ registered_with (Some sh) today f room (register_of register)
+    pub refused : (a : ReadAnswer) (room : ℕ) → a ≡ refused_at (number_of y.refusal) y.line y.byte → a ≡ registered_with (Some sh) today f room (register_of register)
     unfolding registered_with answered pick
     refused a room h = h ∙ rw (real, judged-no)
 
@@ -139,17 +139,19 @@ module _ (reg : Loaded) (register : List ℕ) (g : told_register reg ≡ registe
     unfolding register_with marked
     refused-register room = sym (pick_true _ _ real ∙ (pick_true _ _ i ∙ rw judged-no))
 
-  -- accepted, as h with n rows and w warnings
-  module _ (h : Head) (n w : ℕ) (e : ended.judged ≡ judged.Accepted h n w) where
-    pub accepted-tally : tally sh today f ≡ Yes (head_of f h) n w
+  -- accepted
+  module _ (x : Ended) (e : ended ≡ Ok x) where
+    pub accepted-tally : tally sh today f ≡ Yes (head_of f x.accepted.head) x.accepted.rows x.accepted.warnings
     unfolding brief
-    accepted-tally = let x = j.numbered h n w e in tally-is sh today f ∙ (ap brief x.alone ∙ ap (λ (r : ℕ). Yes (head_of f h) r w) (sym x.rows_all))
+    accepted-tally =
+        let n = j.numbered x e in
+        tally-is sh today f ∙ (ap brief n.alone ∙ ap (λ (r : ℕ). Yes (head_of f x.accepted.head) r x.accepted.warnings) (sym n.rows_all))
 
-    pub accepted-sound : Sound f h n w
-    accepted-sound = subst (Kept f) e j.kept
+    pub accepted-sound : Sound f x.accepted.head x.accepted.rows x.accepted.warnings
+    accepted-sound = subst (KeptEnd f) e j.kept
 
     agrees : judge_on (register_of register) sh today f ≡ judge sh today f
-    agrees = let x = j.numbered h n w e in rw g at (x.against ∙ sym x.alone)
+    agrees = let n = j.numbered x e in rw g at (n.against ∙ sym n.alone)
 
     pub accepted : (a : ReadAnswer) (room : ℕ) → a ≡ read_with (Some sh) today f room → a ≡ registered_with (Some sh) today f room (register_of register)
     unfolding read_with registered_with
@@ -160,7 +162,7 @@ module _ (reg : Loaded) (register : List ℕ) (g : told_register reg ≡ registe
     accepted-rows o q = q ∙ rw agrees
 
     laid : reg.laid ≡ true
-    laid = let x = j.numbered h n w e in laid_of reg _ ((accepted-on (told_register reg) sh i (headed sh sane i) today f (head_of f h) x.batch w).0 x.against).1
+    laid = let n = j.numbered x e in laid_of reg _ ((accepted-on (told_register reg) sh i (headed sh sane i) today f (head_of f x.accepted.head) n.batch x.accepted.warnings).0 n.against).1
 
     register-is : register_of register ≡ of reg.date (bit reg.set.words)
     unfolding pick
@@ -171,37 +173,37 @@ module _ (reg : Loaded) (register : List ℕ) (g : told_register reg ≡ registe
 
     -- a is what reading answered, with that room
     module _ (a : ReadAnswer) (room : ℕ) (q : a ≡ read_with (Some sh) today f room) where
-      has_room : (b : Bool) → ltb room (row_count (j.numbered h n w e).batch) ≡ b → a.number ≡ pick b 16 0
+      has_room : (b : Bool) → ltb room (row_count (j.numbered x e).batch) ≡ b → a.number ≡ pick b 16 0
       unfolding read_with answered needs accepted_as pick
-      has_room true t = ap (λ (x : ReadAnswer). x.number) q ∙ rw (real, (j.numbered h n w e).alone, t)
-      has_room false t = ap (λ (x : ReadAnswer). x.number) q ∙ rw (real, (j.numbered h n w e).alone, t)
+      has_room true t = ap (λ (r : ReadAnswer). r.number) q ∙ rw (real, (j.numbered x e).alone, t)
+      has_room false t = ap (λ (r : ReadAnswer). r.number) q ∙ rw (real, (j.numbered x e).alone, t)
 
       marking-is : register_with (Some sh) today f room register
-          ≡ pick (ltb room (row_count (j.numbered h n w e).batch)) register (marking register (register_of register) (j.numbered h n w e).batch)
+          ≡ pick (ltb room (row_count (j.numbered x e).batch)) register (marking register (register_of register) (j.numbered x e).batch)
       unfolding register_with marked
-      marking-is = pick_true _ _ real ∙ (pick_true _ _ i ∙ ap (marked room register (register_of register)) (agrees ∙ (j.numbered h n w e).alone))
+      marking-is = pick_true _ _ real ∙ (pick_true _ _ i ∙ ap (marked room register (register_of register)) (agrees ∙ (j.numbered x e).alone))
 
       -- the words hold what was marked and the batch's numbers
-      holds-is : bit ended.seen.words ≡ with (seen (j.numbered h n w e).batch) (bit reg.set.words)
+      holds-is : bit x.seen.words ≡ with (seen (j.numbered x e).batch) (bit reg.set.words)
       unfolding used pick
-      holds-is = (j.numbered h n w e).holds ∙ ap (λ (r : Register). with (seen (j.numbered h n w e).batch) (used r)) (g ∙ register-is)
+      holds-is = (j.numbered x e).holds ∙ ap (λ (r : Register). with (seen (j.numbered x e).batch) (used r)) (g ∙ register-is)
 
       pub marks-none : (a.number ≡ 0 → ⊥) → register ≡ register_with (Some sh) today f room register
       unfolding pick
       marks-none some =
-          let x = j.numbered h n w e in
-          by-test (ltb room (row_count x.batch)) (λ t. sym (marking-is ∙ pick_true _ _ t)) (λ t. absurd (some (has_room false t)))
+          let n = j.numbered x e in
+          by-test (ltb room (row_count n.batch)) (λ t. sym (marking-is ∙ pick_true _ _ t)) (λ t. absurd (some (has_room false t)))
 
       apart : ◌≡◌ {A = ℕ} 0 (pick true 16 0) → ⊥
       unfolding pick
       apart e = omega arith
 
-      pub marks-all : a.number ≡ 0 → laid_in register reg.date (bit ended.seen.words) ≡ register_with (Some sh) today f room register
+      pub marks-all : a.number ≡ 0 → laid_in register reg.date (bit x.seen.words) ≡ register_with (Some sh) today f room register
       unfolding marking
       marks-all zero =
-          let x = j.numbered h n w e in
-          by-test (ltb room (row_count x.batch))
+          let n = j.numbered x e in
+          by-test (ltb room (row_count n.batch))
           (λ t. absurd (apart (sym zero ∙ has_room true t)))
-          (λ t. sym (marking-is ∙ (pick-false _ _ t ∙ (ap (λ (r : Register). marking register r x.batch) register-is ∙ ap (laid_in register reg.date) (sym holds-is)))))
+          (λ t. sym (marking-is ∙ (pick-false _ _ t ∙ (ap (λ (r : Register). marking register r n.batch) register-is ∙ ap (laid_in register reg.date) (sym holds-is)))))
 
 pub ruleset answers = (refused, refused-rows, refused-register, accepted-tally, accepted-sound, accepted, accepted-rows, accepted-long, marks-none, marks-all)

@@ -1,15 +1,16 @@
 -- How the judging of a file against a loaded register ends: early, at the date, with a refusal that is told apart, or accepted. Assumes nothing.
+use Rattle.std.proofs.Common.{Result, Ok, Err}
 use Prim.Native.Nat.{ℕ, ◌-◌}
-use mathlib.Core.Path.{◌≡◌, refl, sym, ap, ◌∙◌}
+use mathlib.Core.Path.{◌≡◌, refl, sym, ap, subst, ◌∙◌}
 use mathlib.Core.Bool.{Bool, true, false}
 use mathlib.Core.List.{List, [], ◌∷◌}
 use native.Mathlib.Omega.{arith}
-use lib.Dec.{eqb}
 use lib.ListN.{length, take, drop}
 use Rattle.base.specs.Pick.{pick}
 use Rattle.base.proofs.Cases.{pick_true, pick-false}
+use Rattle.refusal.specs.declared.Refusal.TheVariants.{BadOrder, BadRegister}
+use Rattle.refusal.specs.Numbers.{number_of}
 use Rattle.sheet.specs.declared.Sheet.{Sheet}
-use Rattle.paper.specs.Batch.{Header}
 use Rattle.paper.specs.Lines.{Line, line, lines_of, lines_from}
 use Rattle.paper.specs.Entries.{head_line, kind_of}
 use Rattle.paper.specs.FileLine.{member}
@@ -17,55 +18,34 @@ use Rattle.paper.specs.Judge.{Refused, at_first, stop, is, is_due, end_of}
 use Rattle.scan.specs.declared.line.Cut.{Cut}
 use Rattle.scan.specs.line.Cutting.{Cuts}
 use Rattle.scan.specs.declared.kind.LineKind.{LineKind}
+use Rattle.scan.specs.declared.kind.LineKind.TheVariants as kind
 use Rattle.scan.specs.kind.Told as kinds
 use Rattle.fileline.specs.seen.Bits.{Holds}
-use Rattle.fileline.specs.declared.seen.Seen.{Seen}
 use Rattle.tally.specs.Tally.{seeded}
-use Rattle.tally.specs.Short.{Brief, No, Yes, brief, tally}
-use Rattle.judge.specs.declared.file.Head.{Head}
+use Rattle.tally.specs.Tally as numbers
+use Rattle.tally.specs.Short.{short, brief, tally}
 use Rattle.judge.specs.declared.file.Ended.{Ended}
-use Rattle.judge.specs.declared.file.FileJudged.{FileJudged}
-use Rattle.judge.specs.declared.file.FileJudged.TheVariants as judged
-use Rattle.judge.specs.file.Answer.{told, Concluded, Kept}
+use Rattle.judge.specs.declared.refused.Refused.{Refused as Rejected}
+use Rattle.judge.specs.file.Answer.{told, Concluded, KeptEnd}
 use Rattle.register.specs.declared.Loaded.{Loaded}
 use Rattle.register.specs.Register.{Register, used}
 use Rattle.register.specs.Told.{told as told_register, Sound}
 use Rattle.against.specs.Against.{day_of, is_other, line_on, step_on, run_on, judge_on}
-use Rattle.against.specs.Turned.{struck, is_nine, turned}
+use Rattle.against.specs.Turned.{struck, turned}
 use Rattle.against.proofs.Outcome.{stopped-on}
 use Rattle.against.proofs.Answers.{strikes, turned-is, grown, marks-list}
-use Rattle.registered.specs.Judged.{Numbered, Judged}
+use Rattle.registered.specs.Judged.{told_end, Numbered, Judged}
 use Rattle.registered.proofs.Judging.{words-hold}
 
 -- a line's bytes in the file
 abbrev top : List ℕ → Cut → List ℕ
 top f cut = take (cut.stop - 0) (drop 0 f)
 
-never : {A : Type 0} {n l p : ℕ} {h : Header} {r w : ℕ} → Yes h r w ≡ No n l p → A
-never e = absurd (let z : ◌≡◌ {A = ℕ} 0 1 = cc in omega arith)
-
--- ---- answers turned
-
-turned-no : (own : Brief) (n l p : ℕ) → (k : ℕ) × (turned own (No n l p) ≡ No k l p)
-unfolding turned pick
-turned-no own n l p = go (eqb n 9) (is_nine l p own)
-  where
-    go : (a b : Bool) → (k : ℕ) × (pick a (pick b (No 9 l p) (No 22 l p)) (No n l p) ≡ No k l p)
-    go true true = (9, refl)
-    go true false = (22, refl)
-    go false b = (n, refl)
-
-turned-yes : (own : Brief) (h : Header) (r w : ℕ) → turned own (Yes h r w) ≡ Yes h r w
-unfolding turned
-turned-yes own h r w = refl
-
--- x tells a refusal: it is one
-no-kept : (f : List ℕ) (x : FileJudged) (n l p : ℕ) → told f x ≡ No n l p → Kept f x
-no-kept f (judged.Refused n' l' p') n l p e = tt
-no-kept f (judged.Accepted h r w) n l p e = never e
-
-no-accepted : {A : Type 0} (f : List ℕ) (x : FileJudged) (n l p : ℕ) → told f x ≡ No n l p → (h : Head) (r w : ℕ) → x ≡ judged.Accepted h r w → A
-no-accepted f x n l p e h r w q = never (ap (told f) (sym q) ∙ e)
+-- what was judged tells the answer
+tells : (f : List ℕ) (a : numbers.Brief) (j : Result Ended Rejected) → Concluded f a j → short a ≡ told_end f j
+unfolding short
+tells f a (Ok e) c = ap short c.2
+tells f a (Err y) c = ap short c
 
 -- ---- the machine stops
 
@@ -79,22 +59,20 @@ module _ (reg : Loaded) (sh : Sheet) (i : sh.interval ≡ true) (today : ℕ) (f
   r = told_register reg
 
   -- a refusal has no numbers
-  refused : (n l p : ℕ) (set : Seen) → judge_on r sh today f ≡ Refused n l p → Judged r sh today f (record { judged = judged.Refused n l p; seen = set })
-  unfolding brief
-  refused n l p set e =
-      record {
-        same = rw e;
-        kept = tt;
-        numbered = λ h rows warnings q. no-accepted f (judged.Refused n l p) n l p refl h rows warnings q;
-      }
+  refused : (y : Rejected) → told f (Err y) ≡ brief (judge_on r sh today f) → Judged r sh today f (Err y)
+  refused y e = record { same = e; kept = tt; numbered = λ _ q. absurd (let z : ◌≡◌ {A = ℕ} 0 1 = cc in omega arith) }
+
+  abbrev out_of_turn : Rejected
+  out_of_turn = record { refusal = BadOrder; line = 1; byte = 0 }
 
   on-empty : length f ≡ 0 → judge_on r sh today f ≡ Refused 3 1 0
   unfolding judge_on
   on-empty e = pick_true _ _ i ∙ no_lines r sh today f e
 
   -- the file is empty
-  pub ends-empty : (set : Seen) → length f ≡ 0 → Judged r sh today f (record { judged = judged.Refused 3 1 0; seen = set })
-  ends-empty set e = refused 3 1 0 set (on-empty e)
+  pub ends-empty : length f ≡ 0 → Judged r sh today f (Err out_of_turn)
+  unfolding brief
+  ends-empty e = refused out_of_turn (rw (on-empty e))
 
   module _ (cut : Cut) (cuts : Cuts f 0 cut) where
     first_step : is head_line (kind_of (top f cut)) ≡ false → step_on r sh today 1 (line 0 (top f cut)) at_first ≡ stop (Refused 3 1 0)
@@ -109,22 +87,31 @@ module _ (reg : Loaded) (sh : Sheet) (i : sh.interval ≡ true) (today : ℕ) (f
     unfolding judge_on lines_from
     on-other e = pick_true _ _ i ∙ (ap (λ (ls : List Line). run_on r sh today (length f) 1 ls at_first) cuts.lines ∙ first_stops e)
 
-    -- 3: k is the kind that was found, v its name
-    pub ends-other : (set : Seen) (k : LineKind) → kinds.told k ≡ kind_of (top f cut) → (v : LineKind) → k ≡ v → is head_line (kinds.told v) ≡ false
-        → Judged r sh today f (record { judged = judged.Refused 3 1 0; seen = set })
-    ends-other set k t v e d = refused 3 1 0 set (on-other (rw (← t, e) d))
+    other_kind : (k : LineKind) → (k ≡ kind.Head → ⊥) → is head_line (kinds.told k) ≡ false
+    other_kind kind.Head i = absurd (i refl)
+    other_kind kind.File i = refl
+    other_kind kind.Group i = refl
+    other_kind kind.Item i = refl
+    other_kind kind.GroupEnd i = refl
+    other_kind kind.FileEnd i = refl
 
-    module _ (kind : kind_of (top f cut) ≡ head_line) (t : Bool) (g : t ≡ is_other r (day_of (top f cut))) where
+    -- k is the kind that was found
+    pub ends-other : (k : LineKind) → kinds.told k ≡ kind_of (top f cut) → (k ≡ kind.Head → ⊥) → Judged r sh today f (Err out_of_turn)
+    unfolding brief
+    ends-other k t d = refused out_of_turn (rw (on-other (rw (← t) (other_kind k d))))
+
+    module _ (first : kind_of (top f cut) ≡ head_line) (t : Bool) (g : t ≡ is_other r (day_of (top f cut))) where
       struck-is : struck r (lines_of 0 f) ≡ t
       unfolding struck lines_from pick
-      struck-is = rw (cuts.lines, kind) (sym g)
+      struck-is = rw (cuts.lines, first) (sym g)
 
       -- 23: t says whether the date is another than the register's
-      pub ends-struck : (set : Seen) → t ≡ true → Judged r sh today f (record { judged = judged.Refused 23 1 4; seen = set })
-      ends-struck set e = refused 23 1 4 set (strikes r sh today f i (struck-is ∙ e))
+      pub ends-struck : t ≡ true → Judged r sh today f (Err (record { refusal = BadRegister; line = 1; byte = 4 }))
+      unfolding brief
+      ends-struck e = refused (record { refusal = BadRegister; line = 1; byte = 4 }) (rw (strikes r sh today f i (struck-is ∙ e)))
 
-      module _ (not : t ≡ false) (sound : Sound reg) (ended : Ended)
-          (concluded : (u : List ℕ) → Holds reg.set.words u → Concluded f (seeded u sh today f) ended.judged ended.seen.words) where
+      module _ (not : t ≡ false) (sound : Sound reg) (j : Result Ended Rejected)
+          (concluded : (u : List ℕ) → Holds reg.set.words u → Concluded f (seeded u sh today f) j) where
         abbrev u : List ℕ
         u = (marks-list reg.set.words).0
 
@@ -134,33 +121,22 @@ module _ (reg : Loaded) (sh : Sheet) (i : sh.interval ≡ true) (today : ℕ) (f
         is-used : (n : ℕ) → used r n ≡ member n u
         is-used n = ap (λ (p : ℕ → Bool). p n) (sym sound) ∙ held n
 
-        answer : brief (judge_on r sh today f) ≡ turned (tally sh today f) (told f ended.judged)
-        answer = turned-is r sh today f i u is-used (struck-is ∙ not) ∙ ap (turned (tally sh today f)) (sym (concluded u held).same)
+        answer : (x : Result Ended Rejected) → j ≡ x → turned (tally sh today f) (told_end f x) ≡ brief (judge_on r sh today f)
+        answer x e = rw (← e) (sym (turned-is r sh today f i u is-used (struck-is ∙ not) ∙ ap (turned (tally sh today f)) (tells f _ j (concluded u held))))
 
         -- refused, and told apart as x
-        pub ends-apart : (n l p : ℕ) → ended.judged ≡ judged.Refused n l p → (x : FileJudged) → told f x ≡ turned (tally sh today f) (No n l p) → (set : Seen)
-            → Judged r sh today f (record { judged = x; seen = set })
-        ends-apart n l p e x a set =
-            let (k, told-no) = turned-no (tally sh today f) n l p in
-            record {
-              same = a ∙ (ap (λ (j : FileJudged). turned (tally sh today f) (told f j)) (sym e) ∙ sym answer);
-              kept = no-kept f x k l p (a ∙ told-no);
-              numbered = λ h rows warnings q. no-accepted f x k l p (a ∙ told-no) h rows warnings q;
-            }
+        pub ends-apart : (y : Rejected) → j ≡ Err y → (x : Rejected) → told f (Err x) ≡ turned (tally sh today f) (told f (Err y)) → Judged r sh today f (Err x)
+        ends-apart y e x a = refused x (a ∙ answer (Err y) e)
 
         -- accepted: what it has seen is what was marked, and its own numbers
-        pub ends-accepted : Kept f ended.judged → (h : Head) (rows warnings : ℕ) → ended.judged ≡ judged.Accepted h rows warnings → Judged r sh today f ended
-        ends-accepted kept h rows warnings e =
-            record {
-              same = ap (told f) e ∙ (sym (turned-yes (tally sh today f) _ rows warnings) ∙ (ap (λ (j : FileJudged). turned (tally sh today f) (told f j)) (sym e) ∙ sym answer));
-              kept = kept;
-              numbered = numbers;
-            }
+        pub ends-accepted : KeptEnd f j → (x : Ended) → j ≡ Ok x → Judged r sh today f (Ok x)
+        unfolding turned
+        ends-accepted kept x e = record { same = answer (Ok x) e; kept = subst (KeptEnd f) e kept; numbered = λ z q. numbers-of z (e ∙ q) }
           where
-            numbers : (h : Head) (rows warnings : ℕ) → ended.judged ≡ judged.Accepted h rows warnings → Numbered r sh today f h rows warnings ended.seen.words
-            numbers h rows warnings e =
-                let (m, holds, accepts) = (concluded u held).holds h rows warnings e in
-                let (b, alone, against, all, own) = grown r sh today f i u is-used (struck-is ∙ not) _ m rows warnings accepts in
-                record { batch = b; alone = alone; against = against; rows_all = all; holds = words-hold ended.seen.words m u b (used r) holds own is-used }
+            numbers-of : (z : Ended) → j ≡ Ok z → Numbered r sh today f z
+            numbers-of z q =
+                let c : Concluded f (seeded u sh today f) (Ok z) = rw q at (concluded u held) in
+                let (b, alone, against, all, own) = grown r sh today f i u is-used (struck-is ∙ not) _ c.0 _ _ c.2 in
+                record { batch = b; alone = alone; against = against; rows_all = all; holds = words-hold z.seen.words c.0 u b (used r) c.1 own is-used }
 
 pub ruleset ends = (ends-empty, ends-other, ends-struck, ends-apart, ends-accepted)

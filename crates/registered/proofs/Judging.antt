@@ -1,55 +1,97 @@
 -- The judging of a file against a loaded register: the date, a refusal told apart, and what an accepted file leaves. Assumes nothing.
+use Rattle.std.proofs.Common.{Result, Ok, Err}
 use Prim.Native.Nat.{ℕ}
-use mathlib.Core.Path.{◌≡◌, refl, ◌∙◌, fun_ext}
-use mathlib.Core.Bool.{Bool, true, false}
+use mathlib.Core.Path.{◌≡◌, refl, sym, ◌∙◌, fun_ext}
+use mathlib.Core.Bool.{Bool, true, false, not, ◌&&◌}
 use mathlib.Core.List.{List, [], ◌∷◌, ◌++◌}
 use lib.Dec.{eqb}
-use borrow.Author.Tests.{eq-eqb, ne_eqb}
+use borrow.Author.Rules.{rules}
 use Rattle.base.specs.Pick.{pick}
 use Rattle.base.proofs.Cases.{by-test}
+use denote.Enum.Bare.{sameb, false_same, differs_true, differs_false}
+use Rattle.refusal.specs.contracts.Refusal.{the_type}
+use Rattle.refusal.specs.declared.Refusal.{Refusal}
+use Rattle.refusal.specs.declared.Refusal.TheVariants.{BadSheet, BadToday, BadOrder, BadField, BadAccount, BadAmount, BadKind, BadPayerBank, BadNumber, BadTotal, BadDay, BadPayeeBank, BadDigit, BadText, TooMany, NoRoom, NotABatch, NotCarried, NumberUsed, BadRegister, NotTaken, BadRecord, BadValue, BadTurnover, BadBalance}
+use Rattle.refusal.specs.Numbers.{number_of}
 use Rattle.paper.specs.Batch.{AccountFile, Batch}
 use Rattle.paper.specs.FileLine.{member, series}
 use Rattle.paper.specs.Judge.{rev_on, seen, is}
 use Rattle.fileline.specs.seen.Bits.{bit, Holds}
 use Rattle.tally.specs.Short.{Brief, No}
 use Rattle.register.specs.Marks.{with}
-use Rattle.judge.specs.declared.file.Head.{Head}
-use Rattle.judge.specs.declared.file.FileJudged.{FileJudged}
-use Rattle.judge.specs.declared.file.FileJudged.TheVariants as judged
+use Rattle.judge.specs.declared.file.Accepted.{Accepted}
+use Rattle.judge.specs.declared.refused.Refused.{Refused}
 use Rattle.judge.specs.file.Answer.{told}
 use Rattle.against.specs.Turned.{is_nine, turned}
 
 -- ---- a refusal told apart: own is the file's own judgement
 
-module _ (f : List ℕ) (own : Brief) (n line byte : ℕ) where
-  pub apart_other : (n ≡ 9 → ⊥) → No n line byte ≡ turned own (No n line byte)
+-- a refusal is compared with a bad number by its number
+nine : (r : Refusal) → sameb the_type BadNumber r ≡ eqb (number_of r) 9
+nine BadSheet = refl
+nine BadToday = refl
+nine BadOrder = refl
+nine BadField = refl
+nine BadAccount = refl
+nine BadAmount = refl
+nine BadKind = refl
+nine BadPayerBank = refl
+nine BadNumber = refl
+nine BadTotal = refl
+nine BadDay = refl
+nine BadPayeeBank = refl
+nine BadDigit = refl
+nine BadText = refl
+nine TooMany = refl
+nine NoRoom = refl
+nine NotABatch = refl
+nine NotCarried = refl
+nine NumberUsed = refl
+nine BadRegister = refl
+nine NotTaken = refl
+nine BadRecord = refl
+nine BadValue = refl
+nine BadTurnover = refl
+nine BadBalance = refl
+
+ands : (a b c : Bool) → pick a (pick b c false) false ≡ (a && (b && c))
+unfolding pick
+ands true true c = refl
+ands true false c = refl
+ands false b c = refl
+
+-- t says whether r is for another rule than that of numbers
+module _ (f : List ℕ) (own : Brief) (r : Refused) (t : Bool) (g : t ≡ not (sameb the_type r.refusal BadNumber)) where
+  pub apart_other : t ≡ true → told f (Err r) ≡ turned own (told f (Err r))
   unfolding turned pick
-  apart_other e = rw (ne_eqb n 9 e)
+  apart_other e =
+      let other : eqb (number_of r.refusal) 9 ≡ false = sym (nine r.refusal) ∙ false_same the_type (search rules) BadNumber r.refusal (λ q. differs_true the_type r.refusal BadNumber (sym g ∙ e) (sym q)) in
+      rw other
 
   -- j is what the file was judged to be
-  module _ (nine : n ≡ 9) (j : FileJudged) (g : told f j ≡ own) where
-    pub apart-accepted : (h : Head) (r w : ℕ) → j ≡ judged.Accepted h r w → No 22 line byte ≡ turned own (No n line byte)
+  module _ (e : t ≡ false) (j : Result Accepted Refused) (h : told f j ≡ own) where
+    number_is : r.refusal ≡ BadNumber
+    number_is = differs_false the_type (search rules) r.refusal BadNumber (sym g ∙ e)
+
+    pub apart-accepted : (x : Accepted) → j ≡ Ok x → No 22 r.line r.byte ≡ turned own (told f (Err r))
     unfolding turned is_nine pick
-    apart-accepted h r w e = rw (← g, e, eq-eqb n 9 nine)
+    apart-accepted x q = rw (← h, q, number_is)
 
-    module _ (m l p : ℕ) (e : j ≡ judged.Refused m l p) where
-      pub apart-same : m ≡ 9 → line ≡ l → byte ≡ p → No 9 line byte ≡ turned own (No n line byte)
-      unfolding turned is_nine pick
-      apart-same a b c = rw (← g, e, eq-eqb n 9 nine, eq-eqb m 9 a, eq-eqb line l b, eq-eqb byte p c)
+    -- s says whether it is the same as the file's own, o
+    module _ (o : Refused) (q : j ≡ Err o) (s : Bool) (k : s ≡ (sameb the_type r.refusal o.refusal && (eqb r.line o.line && eqb r.byte o.byte))) where
+      same-nine : is_nine r.line r.byte (told f (Err o)) ≡ s
+      unfolding is_nine
+      same-nine = rw (← nine o.refusal) (ands (sameb the_type BadNumber o.refusal) (eqb r.line o.line) (eqb r.byte o.byte)) ∙ rw number_is at (sym k)
 
-      pub apart-number : (m ≡ 9 → ⊥) → No 22 line byte ≡ turned own (No n line byte)
-      unfolding turned is_nine pick
-      apart-number a = rw (← g, e, eq-eqb n 9 nine, ne_eqb m 9 a)
+      pub apart-same : s ≡ true → told f (Err r) ≡ turned own (told f (Err r))
+      unfolding turned pick
+      apart-same y = rw (← h, q, same-nine, y, number_is)
 
-      pub apart-line : m ≡ 9 → (line ≡ l → ⊥) → No 22 line byte ≡ turned own (No n line byte)
-      unfolding turned is_nine pick
-      apart-line a b = rw (← g, e, eq-eqb n 9 nine, eq-eqb m 9 a, ne_eqb line l b)
+      pub apart-different : s ≡ false → No 22 r.line r.byte ≡ turned own (told f (Err r))
+      unfolding turned pick
+      apart-different y = rw (← h, q, same-nine, y, number_is)
 
-      pub apart-byte : m ≡ 9 → line ≡ l → (byte ≡ p → ⊥) → No 22 line byte ≡ turned own (No n line byte)
-      unfolding turned is_nine pick
-      apart-byte a b c = rw (← g, e, eq-eqb n 9 nine, eq-eqb m 9 a, eq-eqb line l b, ne_eqb byte p c)
-
-pub ruleset aparts = (apart_other, apart-accepted, apart-same, apart-number, apart-line, apart-byte)
+pub ruleset aparts = (apart_other, apart-accepted, apart-same, apart-different)
 
 -- ---- what is marked: the batch's numbers, in whatever order, besides those that were
 

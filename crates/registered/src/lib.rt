@@ -2,13 +2,13 @@
 // before; what judging has seen by the end of an accepted file is the register afterwards.
 #![tactic(auto)]
 
-ghost use Rattle.std.specs.Prelude.{◌≡◌, true, ◌-◌, ◌/◌, length, take, drop, Some};
+ghost use Rattle.std.specs.Prelude.{◌≡◌, true, ◌-◌, ◌/◌, length, take, drop, Some, Err};
 ghost use Rattle.sheet.proofs.Laws.{Sane};
 ghost use Rattle.paper.specs.Days.{real_day};
 ghost use Rattle.paper.specs.Entries.{head_line, kind_of};
 ghost use Rattle.paper.specs.Rows.{row_size};
 ghost use Rattle.scan.specs.line.Cutting.{Cuts};
-ghost use Rattle.tally.specs.Short.{No, tally};
+ghost use Rattle.tally.specs.Short.{tally};
 ghost use Rattle.judge.specs.file.Answer.{told as told_judged};
 ghost use Rattle.read.specs.Told.{told as told_read};
 ghost use Rattle.register.specs.Register.{register_of};
@@ -18,15 +18,23 @@ ghost use Rattle.against.specs.Turned.{turned};
 ghost use Rattle.against.specs.Registered.{registered_with, registered_answer, registered_rows_with, registered_rows, register_with, register_after};
 ghost use Rattle.registered.specs.Judged.{Judged};
 
-use judge::file::{Ended, FileJudged};
-use numeral::Num;
+use judge::file::Ended;
+use judge::refused::Refused;
 use read::AboAnswer;
+use refusal::Refusal;
 use register::Loaded;
 use scan::kind::LineKind;
 use scan::line::Cut;
 use sheet::Sheet;
 
 // ---- the file judged
+
+// A file that does not begin with a first line.
+const OUT_OF_TURN: Refused = Refused {
+    refusal: Refusal::BadOrder,
+    line: 1,
+    byte: 0,
+};
 
 // Has a first line a date that can be read and that the register is not for?
 fn other_day(s: &[u8], reg: Loaded) -> bool
@@ -36,40 +44,32 @@ fn other_day(s: &[u8], reg: Loaded) -> bool
         return false;
     }
     match calendar::read_day(&s[4..10], false) {
-        Num::Value(date) => if reg.laid { date != reg.date } else { true },
-        Num::Refused(_) => false,
+        Ok(date) => !reg.laid || date != reg.date,
+        Err(_) => false,
     }
 }
 
-// A refusal of the file with the register's numbers seen before. A 9 is the file's own, if the file gets it without them too; else 22.
-fn told_apart(f: &[u8], sh: Sheet, today: u64, n: u64, line: u64, byte: u64) -> FileJudged
+// What a file is refused for with the register's numbers seen before. A bad number is the file's own, if the file gets it without them too; else
+// the number was used.
+fn told_apart(f: &[u8], sh: Sheet, today: u64, refused: Refused) -> Refused
     requires { Sane sh × (real_day today ≡ true) }
-    ensures { told_judged f.now result ≡ turned (tally sh today f.now) (No n line byte) }
+    ensures { told_judged f.now (Err result) ≡ turned (tally sh today f.now) (told_judged f.now (Err refused)) }
 {
-    if n != 9 {
-        return FileJudged::Refused(n, line, byte);
+    if refused.refusal != Refusal::BadNumber {
+        return refused;
     }
     match judge::file::judge_file(f, sh, today) {
-        FileJudged::Refused(own, at, place) => {
-            if own == 9 {
-                if line == at {
-                    if byte == place {
-                        return FileJudged::Refused(9, line, byte);
-                    }
-                }
-            }
-            FileJudged::Refused(22, line, byte)
-        }
-        FileJudged::Accepted {
-            head,
-            rows,
-            warnings,
-        } => FileJudged::Refused(22, line, byte),
+        Err(own) if refused == own => refused,
+        _ => Refused {
+            refusal: Refusal::NumberUsed,
+            line: refused.line,
+            byte: refused.byte,
+        },
     }
 }
 
 // The first line, which is known as one, and everything behind it.
-fn from_first(f: &[u8], sh: Sheet, today: u64, cut: Cut, reg: Loaded) -> Ended
+fn from_first(f: &[u8], sh: Sheet, today: u64, cut: Cut, reg: Loaded) -> Result<Ended, Refused>
     requires sane { Sane sh × (real_day today ≡ true) × (sh.interval ≡ true) }
     requires cuts { Cuts f.now 0 cut }
     requires f_value { kind_of (take (cut.stop - 0) (drop 0 f.now)) ≡ head_line }
@@ -77,54 +77,33 @@ fn from_first(f: &[u8], sh: Sheet, today: u64, cut: Cut, reg: Loaded) -> Ended
     ensures { Judged (told_register reg) sh today f.now result }
 {
     let stop = cut.stop;
-    let set = reg.set;
     if other_day(&f[0..stop], reg) {
-        return Ended {
-            judged: FileJudged::Refused(23, 1, 4),
-            seen: set,
-        };
+        return Err(Refused {
+            refusal: Refusal::BadRegister,
+            line: 1,
+            byte: 4,
+        });
     }
-    let ended = judge::file::from_first(f, sh, today, cut, set);
-    let judged = ended.judged;
-    match judged {
-        FileJudged::Refused(n, line, byte) => {
-            let seen = ended.seen;
-            Ended {
-                judged: told_apart(f, sh, today, n, line, byte),
-                seen,
-            }
-        }
-        FileJudged::Accepted {
-            head,
-            rows,
-            warnings,
-        } => ended,
+    match judge::file::from_first(f, sh, today, cut, reg.set) {
+        Ok(ended) => Ok(ended),
+        Err(refused) => Err(told_apart(f, sh, today, refused)),
     }
 }
 
-// The answer of a whole file on a sheet that looks at the register, with the numbers seen by then.
-fn judge_file(f: &[u8], sh: Sheet, today: u64, reg: Loaded) -> Ended
+// The answer of a whole file on a sheet that looks at the register, with the numbers seen by its end.
+fn judge_file(f: &[u8], sh: Sheet, today: u64, reg: Loaded) -> Result<Ended, Refused>
     requires sane { Sane sh × (real_day today ≡ true) × (sh.interval ≡ true) }
     requires sound { Sound reg }
     ensures { Judged (told_register reg) sh today f.now result }
 {
-    let set = reg.set;
-    let early = Ended {
-        judged: FileJudged::Refused(3, 1, 0),
-        seen: set,
-    };
     if f.len() == 0 {
-        return early;
+        return Err(OUT_OF_TURN);
     }
     let cut = scan::line::next_line(f, 0);
     let stop = cut.stop;
     match scan::kind::kind_of(&f[0..stop]) {
         LineKind::Head => from_first(f, sh, today, cut, reg),
-        LineKind::File => early,
-        LineKind::Group => early,
-        LineKind::Item => early,
-        LineKind::GroupEnd => early,
-        LineKind::FileEnd => early,
+        _ => Err(OUT_OF_TURN),
     }
 }
 
@@ -144,22 +123,15 @@ fn read_numbered(
     ensures register_after { register.new ≡ register_with (Some sh) today file.now (length rows.old / row_size) register.old }
 {
     let reg = register::load(register);
-    let ended = judge_file(file, sh, today, reg);
-    let judged = ended.judged;
-    match judged {
-        FileJudged::Refused(n, line, byte) => read::refusal(n, line, byte),
-        FileJudged::Accepted {
-            head,
-            rows: found,
-            warnings: warned,
-        } => {
-            let answer = read::accept(file, sh, today, head, found, warned, rows);
+    match judge_file(file, sh, today, reg) {
+        Ok(ended) => {
+            let answer = read::accept(file, sh, today, ended.accepted, rows);
             if answer.number == 0 {
-                let seen = ended.seen;
-                register::store(register, reg.date, seen);
+                register::store(register, reg.date, ended.seen);
             }
             answer
         }
+        Err(refused) => read::refusal(refused),
     }
 }
 
@@ -174,7 +146,11 @@ fn read_on(file: &[u8], sh: Sheet, today: u64, rows: &mut [u8], register: &mut [
         if calendar::real_day(today) {
             return read_numbered(file, sh, today, rows, register);
         }
-        return read::refusal(2, 0, 0);
+        return read::refusal(Refused {
+            refusal: Refusal::BadToday,
+            line: 0,
+            byte: 0,
+        });
     }
     read::read_on(file, sh, today, rows)
 }
@@ -193,6 +169,10 @@ pub fn read_registered(
 {
     match sheet::sheet_of(sheet) {
         Some(sh) => read_on(file, sh, today, rows, register),
-        None => read::refusal(1, 0, 0),
+        None => read::refusal(Refused {
+            refusal: Refusal::BadSheet,
+            line: 0,
+            byte: 0,
+        }),
     }
 }

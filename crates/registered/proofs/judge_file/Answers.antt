@@ -10,17 +10,5 @@ returns-then-f-eq0 c = search ends
 pub from_first-requires : goal.from_first-requires
 from_first-requires c = record { sane = c.requires.sane; cuts = search rules; f_value = search (is-kind, rules); sound = c.requires.sound }
 
-pub returns-in-File : goal.returns-in-File
-returns-in-File c = search ends
-
-pub returns-in-Group : goal.returns-in-Group
-returns-in-Group c = search ends
-
-pub returns-in-Item : goal.returns-in-Item
-returns-in-Item c = search ends
-
-pub returns-in-GroupEnd : goal.returns-in-GroupEnd
-returns-in-GroupEnd c = search ends
-
-pub returns-in-FileEnd : goal.returns-in-FileEnd
-returns-in-FileEnd c = search ends
+pub returns-in_default : goal.returns-in_default
+returns-in_default c = search ends

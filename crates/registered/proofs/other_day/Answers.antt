@@ -5,11 +5,11 @@ use Rattle.registered.proofs.other_day.Goals as goal
 pub returns-then-s-lt10 : goal.returns-then-s-lt10
 returns-then-s-lt10 c = search dates
 
-pub returns-then-reg : goal.returns-then-reg
-returns-then-reg c = search dates
+pub returns-then-not-reg : goal.returns-then-not-reg
+returns-then-not-reg c = search dates
 
-pub returns-else-reg : goal.returns-else-reg
-returns-else-reg c = search dates
+pub returns-else-not-reg : goal.returns-else-not-reg
+returns-else-not-reg c = search dates
 
-pub returns-in-Refused : goal.returns-in-Refused
-returns-in-Refused c = search dates
+pub returns-in-Err : goal.returns-in-Err
+returns-in-Err c = search dates

@@ -8,23 +8,23 @@ pub accept-answer-requires : goal.accept-answer-requires
 accept-answer-requires c = search (answers, rules)
 
 pub store-requires : goal.store-requires
-store-requires c = accepted-long _ _ c.load-reg.ensures.result_value _ c.requires.0 c.requires.2 _ c.requires.1 _ c.args.rows.now _ c.judge_file-ended.ensures _ _ _ c.in-Accepted.is
+store-requires c = accepted-long _ _ c.load-reg.ensures.result_value _ c.requires.0 c.requires.2 _ c.requires.1 _ c.args.rows.now _ c.judge_file.ensures _ c.in-Ok.is
 
-pub returns-in-Refused : goal.returns-in-Refused
-returns-in-Refused c = record { result_value = search answers; rows_after = search answers; register_after = search answers }
+pub returns-in-Err : goal.returns-in-Err
+returns-in-Err c = record { result_value = search answers; rows_after = search answers; register_after = search answers }
 
 pub returns-then-answer-eq0 : goal.returns-then-answer-eq0
 returns-then-answer-eq0 c = let loaded = c.load-reg.ensures.result_value in
-    let judged = c.judge_file-ended.ensures in record {
-      result_value = accepted _ _ loaded _ c.requires.0 c.requires.2 _ c.requires.1 _ c.args.rows.now _ judged _ _ _ c.in-Accepted.is _ _ c.accept-answer.ensures.result_value;
-      rows_after = accepted-rows _ _ loaded _ c.requires.0 c.requires.2 _ c.requires.1 _ c.args.rows.now _ judged _ _ _ c.in-Accepted.is _ c.accept-answer.ensures.rows_after;
-      register_after = c.store.ensures ∙ marks-all _ _ loaded _ c.requires.0 c.requires.2 _ c.requires.1 _ c.args.rows.now _ judged _ _ _ c.in-Accepted.is _ _ c.accept-answer.ensures.result_value c.if-answer-eq0.true;
+    let judged = c.judge_file.ensures in record {
+      result_value = accepted _ _ loaded _ c.requires.0 c.requires.2 _ c.requires.1 _ c.args.rows.now _ judged _ c.in-Ok.is _ _ c.accept-answer.ensures.result_value;
+      rows_after = accepted-rows _ _ loaded _ c.requires.0 c.requires.2 _ c.requires.1 _ c.args.rows.now _ judged _ c.in-Ok.is _ c.accept-answer.ensures.rows_after;
+      register_after = c.store.ensures ∙ marks-all _ _ loaded _ c.requires.0 c.requires.2 _ c.requires.1 _ c.args.rows.now _ judged _ c.in-Ok.is _ _ c.accept-answer.ensures.result_value c.if-answer-eq0.true;
     }
 
 pub returns-else-answer-eq0 : goal.returns-else-answer-eq0
 returns-else-answer-eq0 c = let loaded = c.load-reg.ensures.result_value in
-    let judged = c.judge_file-ended.ensures in record {
-      result_value = accepted _ _ loaded _ c.requires.0 c.requires.2 _ c.requires.1 _ c.args.rows.now _ judged _ _ _ c.in-Accepted.is _ _ c.accept-answer.ensures.result_value;
-      rows_after = accepted-rows _ _ loaded _ c.requires.0 c.requires.2 _ c.requires.1 _ c.args.rows.now _ judged _ _ _ c.in-Accepted.is _ c.accept-answer.ensures.rows_after;
-      register_after = marks-none _ _ loaded _ c.requires.0 c.requires.2 _ c.requires.1 _ c.args.rows.now _ judged _ _ _ c.in-Accepted.is _ _ c.accept-answer.ensures.result_value c.if-answer-eq0.false;
+    let judged = c.judge_file.ensures in record {
+      result_value = accepted _ _ loaded _ c.requires.0 c.requires.2 _ c.requires.1 _ c.args.rows.now _ judged _ c.in-Ok.is _ _ c.accept-answer.ensures.result_value;
+      rows_after = accepted-rows _ _ loaded _ c.requires.0 c.requires.2 _ c.requires.1 _ c.args.rows.now _ judged _ c.in-Ok.is _ c.accept-answer.ensures.rows_after;
+      register_after = marks-none _ _ loaded _ c.requires.0 c.requires.2 _ c.requires.1 _ c.args.rows.now _ judged _ c.in-Ok.is _ _ c.accept-answer.ensures.result_value c.if-answer-eq0.false;
     }

@@ -2,20 +2,14 @@
 use Rattle.registered.proofs.Judging.{aparts}
 use Rattle.registered.proofs.told_apart.Goals as goal
 
-pub returns-then-n-ne9 : goal.returns-then-n-ne9
-returns-then-n-ne9 c = search aparts
+pub returns-then-ne : goal.returns-then-ne
+returns-then-ne c = search aparts
 
-pub returns-then-byte-place : goal.returns-then-byte-place
-returns-then-byte-place c = search aparts
+pub returns-in-Err : goal.returns-in-Err
+returns-in-Err c = search aparts
 
-pub returns-else-byte-place : goal.returns-else-byte-place
-returns-else-byte-place c = search aparts
+pub returns-in_default : goal.returns-in_default
+returns-in_default c = search aparts
 
-pub returns-else-line-at : goal.returns-else-line-at
-returns-else-line-at c = search aparts
-
-pub returns-else-own-eq9 : goal.returns-else-own-eq9
-returns-else-own-eq9 c = search aparts
-
-pub returns-in-Accepted : goal.returns-in-Accepted
-returns-in-Accepted c = search aparts
+pub returns-in_default-2 : goal.returns-in_default-2
+returns-in_default-2 c = search aparts
