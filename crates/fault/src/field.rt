@@ -2,7 +2,6 @@
 ghost use Rattle.std.specs.Prelude.{◌≡◌, true, List, [], ◌∷◌, ℕ, ◌≤◌, ◌<◌};
 ghost use Rattle.why.specs.Rule.{within, first_broken};
 ghost use Rattle.paper.specs.Batch.{Header};
-ghost use Rattle.paper.specs.FirstLine.{rest_length};
 ghost use Rattle.paper.specs.FileLine.{series};
 ghost use Rattle.paper.specs.Spells.{after};
 ghost use Rattle.fileline.specs.seen.Bits.{Holds};
@@ -185,18 +184,11 @@ pub fn check_name(f: &[u8], n: usize) -> Result<(), Broken>
     Err(broke(4, 40))
 }
 
-// Whether the first line's rest may have n bytes: twelve, on K (`short`) also six or none.
-fn rest_length(short: bool, n: usize) -> bool
-    ensures { result ≡ rest_length short n }
-{
-    n == 12 || short && (n == 6 || n == 0)
-}
-
 // The first line's rest, of text bytes.
 pub fn check_rest(f: &[u8], short: bool) -> Result<(), Broken>
     ensures { result ≡ ruling (first_broken (rest_rules short) f.now) }
 {
-    if rest_length(short, f.len()) {
+    if firstline::rest_length(f.len(), short) {
         if scan::seek::all_text(f, 0) {
             return Ok(());
         }

@@ -38,22 +38,18 @@ fn is_message(f: &[u8], y: Style) -> bool
 
 // ---- a text that is one part as it stands
 
-// Whether n bytes are not too many, where longer ones are not cut.
-fn is_short(n: usize, y: Style) -> bool
-    ensures { result ≡ pick y.cuts true (leb n 35) }
+// Whether n bytes are no more than `most`, where longer ones are not cut.
+fn is_short(n: usize, most: usize, y: Style) -> bool
+    ensures { result ≡ pick y.cuts true (leb n most) }
 {
-    let cuts = y.cuts;
-    if cuts {
-        return true;
-    }
-    n <= 35
+    y.cuts || n <= most
 }
 
 // Its length, that it holds no `|`, and its bytes.
 fn check_plain(f: &[u8], y: Style) -> Result<(), Broken>
     ensures { result ≡ ruling (first_broken (plain_rules y) f.now) }
 {
-    if is_short(f.len(), y) {
+    if is_short(f.len(), 35, y) {
         let at = scan::find::find_byte(f, 0, 124);
         if at < f.len() {
             return Err(breaks(143, y));
@@ -112,14 +108,7 @@ fn ends_short(y: Style, parts: bool, n: usize, end: usize) -> bool
     requires { end ≤ n }
     ensures { result ≡ pick y.cuts true (pick parts (leb (n - end) 39) false) }
 {
-    let cuts = y.cuts;
-    if cuts {
-        return true;
-    }
-    if parts {
-        return n - end <= 39;
-    }
-    false
+    y.cuts || parts && n - end <= 39
 }
 
 // A message from `from` on: how many parts it has, how long they and the name are, and the parts' bytes.
@@ -145,17 +134,6 @@ fn check_message(f: &[u8], y: Style, from: usize) -> Result<(), Broken>
     Err(breaks(142, y))
 }
 
-// Whether `NP:` and a name have n bytes or fewer than are too many, where longer ones are not cut.
-fn is_short_name(n: usize, y: Style) -> bool
-    ensures { result ≡ pick y.cuts true (leb n 38) }
-{
-    let cuts = y.cuts;
-    if cuts {
-        return true;
-    }
-    n <= 38
-}
-
 // `NP:` and a name alone: one part, which is empty, and how long the name is.
 fn check_named(f: &[u8], y: Style) -> Result<(), Broken>
     requires { is_name y f.now ≡ true }
@@ -166,7 +144,7 @@ fn check_named(f: &[u8], y: Style) -> Result<(), Broken>
         return Err(breaks(141, y));
     }
     // the name stands behind three bytes
-    if is_short_name(f.len(), y) {
+    if is_short(f.len(), 38, y) {
         return Ok(());
     }
     Err(breaks(142, y))

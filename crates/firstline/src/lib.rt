@@ -131,8 +131,8 @@ fn rest_taken(s: &[u8], short: bool) -> bool
     false
 }
 
-// May the rest have n bytes?
-fn rest_length(n: usize, short: bool) -> bool
+// May the rest have n bytes: twelve, on K (`short`) also six or none?
+pub fn rest_length(n: usize, short: bool) -> bool
     ensures { result ≡ rest_length short n }
 {
     n == 12 || short && (n == 6 || n == 0)

@@ -5,8 +5,8 @@ use Rattle.fault.proofs.texts.check_named.Goals as goal
 pub returns-then-most-lt1 : goal.returns-then-most-lt1
 returns-then-most-lt1 c = search names
 
-pub returns-then-is_short_name : goal.returns-then-is_short_name
-returns-then-is_short_name c = search names
+pub returns-then-is_short : goal.returns-then-is_short
+returns-then-is_short c = search names
 
 pub returns : goal.returns
 returns c = search names

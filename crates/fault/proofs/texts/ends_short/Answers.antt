@@ -2,11 +2,11 @@
 use Rattle.base.proofs.Cases.{picks}
 use Rattle.fault.proofs.texts.ends_short.Goals as goal
 
-pub returns-then-cuts : goal.returns-then-cuts
-returns-then-cuts c = search picks
+pub returns-then-y : goal.returns-then-y
+returns-then-y c = search picks
 
 pub returns-then-parts : goal.returns-then-parts
 returns-then-parts c = search picks
 
-pub returns : goal.returns
-returns c = search picks
+pub returns-else-parts : goal.returns-else-parts
+returns-else-parts c = search picks
