@@ -3,7 +3,7 @@ ghost use Rattle.std.specs.Prelude.{◌≡◌, List, ℕ, ◌+◌, ◌≤◌, le
 ghost use Rattle.paper.specs.Batch.{strange};
 ghost use Rattle.paper.specs.Words.{words};
 ghost use Rattle.paper.specs.Rows.{thing_in};
-ghost use Rattle.rows.specs.read.Told.{told, span_here, sides_here, symbols_here, texts_here, item_with, item_here};
+ghost use Rattle.rows.specs.read.Told.{told, told_row, span_here, sides_here, symbols_here, texts_here, item_with, item_here};
 
 use text::span::Span;
 
@@ -56,13 +56,12 @@ pub struct Texts {
     pub name: Span,
 }
 
-// What a row is: an account file's kind and number; a group's due date and its payer's prefix and base; an item; none of them.
+// A row: an account file's, a group's with its due date and its payer's prefix and base, or an item's.
 #[derive(Clone, Copy)]
-pub enum RowRead {
-    File(u64, u64),
-    Group(u64, u64, u64),
+pub enum Row {
+    File { kind: u64, number: u64 },
+    Group { date: u64, prefix: u64, base: u64 },
     Item(ItemRow),
-    Strange,
 }
 
 // Does a text lie inside what was lent? Place and length may be as large as a word, so they are not added.
@@ -172,49 +171,49 @@ fn item_at(rows: &[u8], at: usize) -> ItemRow
     )
 }
 
-// The row that begins at `at`.
-pub fn read_row(rows: &[u8], at: usize) -> RowRead
+// The row that begins at `at`, if it is of a known kind.
+pub fn read_row(rows: &[u8], at: usize) -> Option<Row>
     requires { at + 192 ≤ length rows.now }
     ensures { (t : List ℕ) → told t result ≡ thing_in t (words 24 (drop at rows.now)) }
 {
     let kind = out::word::word_at(rows, at);
     if kind == 3 {
-        return RowRead::Item(item_at(rows, at));
+        return Some(Row::Item(item_at(rows, at)));
     }
     if kind == 2 {
-        return RowRead::Group(
-            out::word::word_at(rows, at + 8),
-            out::word::word_at(rows, at + 16),
-            out::word::word_at(rows, at + 24),
-        );
+        return Some(Row::Group {
+            date: out::word::word_at(rows, at + 8),
+            prefix: out::word::word_at(rows, at + 16),
+            base: out::word::word_at(rows, at + 24),
+        });
     }
     if kind == 1 {
-        return RowRead::File(
-            out::word::word_at(rows, at + 8),
-            out::word::word_at(rows, at + 16),
-        );
+        return Some(Row::File {
+            kind: out::word::word_at(rows, at + 8),
+            number: out::word::word_at(rows, at + 16),
+        });
     }
-    RowRead::Strange
+    None
 }
 
 // The row that begins at `at`, where it was judged before and so is of a known kind: what is neither an item nor a group is an account file.
-pub fn take_row(rows: &[u8], at: usize) -> RowRead
+pub fn take_row(rows: &[u8], at: usize) -> Row
     requires { at + 192 ≤ length rows.now }
-    ensures { (t : List ℕ) → (thing_in t (words 24 (drop at rows.now)) ≡ strange → ⊥) → told t result ≡ thing_in t (words 24 (drop at rows.now)) }
+    ensures { (t : List ℕ) → (thing_in t (words 24 (drop at rows.now)) ≡ strange → ⊥) → told_row t result ≡ thing_in t (words 24 (drop at rows.now)) }
 {
     let kind = out::word::word_at(rows, at);
     if kind == 3 {
-        return RowRead::Item(item_at(rows, at));
+        return Row::Item(item_at(rows, at));
     }
     if kind == 2 {
-        return RowRead::Group(
-            out::word::word_at(rows, at + 8),
-            out::word::word_at(rows, at + 16),
-            out::word::word_at(rows, at + 24),
-        );
+        return Row::Group {
+            date: out::word::word_at(rows, at + 8),
+            prefix: out::word::word_at(rows, at + 16),
+            base: out::word::word_at(rows, at + 24),
+        };
     }
-    RowRead::File(
-        out::word::word_at(rows, at + 8),
-        out::word::word_at(rows, at + 16),
-    )
+    Row::File {
+        kind: out::word::word_at(rows, at + 8),
+        number: out::word::word_at(rows, at + 16),
+    }
 }

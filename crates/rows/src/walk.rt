@@ -9,7 +9,7 @@ ghost use Rattle.rows.specs.read.Told.{told, told_item};
 ghost use Rattle.rows.specs.walk.Walks.{stage_of, before_of, Walks, verdict_of};
 
 use crate::field::{Field, Wrong};
-use crate::read::{ItemRow, RowRead};
+use crate::read::{ItemRow, Row};
 
 // What may come next: an account file, a group, an item, or any of them.
 #[derive(Clone, Copy)]
@@ -132,16 +132,18 @@ pub fn item_proper(texts: &[u8], before: Before, x: ItemRow) -> Result<Before, F
     })
 }
 
-// Any row.
-pub fn row_proper(texts: &[u8], before: Before, row: RowRead) -> Result<Before, Field>
+// Any row; one of no known kind is none of a batch.
+pub fn row_proper(texts: &[u8], before: Before, row: Option<Row>) -> Result<Before, Field>
     requires { before.sum ≤ most14 }
     ensures { Walks before (told texts.now row) result }
 {
+    let Some(row) = row else {
+        return Err(Field::Row);
+    };
     match row {
-        RowRead::Item(x) => item_proper(texts, before, x),
-        RowRead::Group(date, prefix, base) => group_proper(before, date, prefix, base),
-        RowRead::File(kind, number) => file_proper(before, kind, number),
-        RowRead::Strange => Err(Field::Row),
+        Row::Item(x) => item_proper(texts, before, x),
+        Row::Group { date, prefix, base } => group_proper(before, date, prefix, base),
+        Row::File { kind, number } => file_proper(before, kind, number),
     }
 }
 

@@ -12,7 +12,7 @@ ghost use Rattle.spelling.specs.file.Sum.{item_sum};
 ghost use Rattle.spelling.specs.file.Passing.{Passing};
 ghost use Rattle.spelling.specs.file.Lines.{stage_when, Filled};
 
-use rows::read::RowRead;
+use rows::read::Row;
 use sheet::Sheet;
 
 // What a row leaves: where the next line goes, and whether closing lines are due before the next group or account file.
@@ -78,22 +78,21 @@ fn fill_row(
     ensures { Filled sh due (thing_in texts.now (words 24 (drop row rows.now))) (things_from texts.now rows.now (row + 192)) out.old at out.new result }
 {
     match rows::read::take_row(rows, row) {
-        RowRead::File(kind, number) => {
+        Row::File { kind, number } => {
             let e = end_file(out, at, due);
             let next = crate::putlines::put_file_line(out, e, sh, kind, number);
             Step { next, due: false }
         }
-        RowRead::Group(date, prefix, base) => {
+        Row::Group { date, prefix, base } => {
             let total = group_sum(rows, row + 192);
             let e = end_group(out, at, due);
             let next = crate::putlines::put_group_line(out, e, sh, prefix, base, total, date);
             Step { next, due: false }
         }
-        RowRead::Item(x) => {
+        Row::Item(x) => {
             let next = crate::putitem::put_item_line(out, at, sh, texts, x);
             Step { next, due: true }
         }
-        RowRead::Strange => Step { next: at, due },
     }
 }
 

@@ -8,7 +8,7 @@ use Rattle.std.proofs.Common.{Some, None}
 use Rattle.base.specs.Pick.{pick}
 use Rattle.sheet.specs.declared.Sheet.{Sheet}
 use Rattle.paper.specs.Batch.{Header}
-use Rattle.paper.specs.Proper.{fine, check, may_stop, rows_proper}
+use Rattle.paper.specs.Proper.{check, may_stop, rows_proper}
 use Rattle.paper.specs.Carried.{Place, rows_carried}
 use Rattle.roundtrip.specs.flat.Count.{file_closing, count}
 use Rattle.rows.specs.declared.field.Wrong.{Wrong}

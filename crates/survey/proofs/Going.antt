@@ -5,7 +5,7 @@ use Prim.Native.Nat.{ℕ, ◌+◌, ◌*◌, ◌≤◌, ◌<◌}
 use native.Mathlib.Nat.{zero-add}
 use native.Mathlib.Omega.{arith}
 use lib.ListN.{length, drop}
-use Rattle.std.proofs.Common.{◌/◌, Result, Ok, Err}
+use Rattle.std.proofs.Common.{◌/◌, Option, Result, Ok, Err}
 use Rattle.sheet.specs.declared.Sheet.{Sheet}
 use Rattle.paper.specs.Batch.{Header, Thing}
 use Rattle.paper.specs.Proper as paper
@@ -20,9 +20,8 @@ use Rattle.calendar.specs.declared.term.Banks.TheVariants.{Any}
 use Rattle.fileline.specs.seen.Bits.{Holds}
 use Rattle.rows.specs.declared.field.Field.{Field}
 use Rattle.rows.specs.declared.field.Field.TheVariants.{Row}
-use Rattle.rows.specs.field.Numbers.{number_of}
 use Rattle.rows.specs.list.From.{things_from}
-use Rattle.rows.specs.declared.read.RowRead.{RowRead}
+use Rattle.rows.specs.declared.read.Row as read
 use Rattle.rows.specs.read.Told.{told as told_row}
 use Rattle.rows.specs.walk.Walks.{before_of}
 use Rattle.rows.proofs.list.From.{things-step, things-end, things-rest}
@@ -89,7 +88,7 @@ Stepped sh today from to texts rows i all kind banks seen st r =
 
 module _ {sh : Sheet} {today from to : ℕ} {texts rows : List ℕ} {i all kind : ℕ} {banks : Banks} {seen : List ℕ} {st : State}
     (going : Going sh today from to texts rows i all kind banks seen st) where
-  module _ (test : i < length rows / 192) (row : RowRead) (read : (t : List ℕ) → told_row t row ≡ thing_in t (words 24 (drop (i * 192) rows)))
+  module _ (test : i < length rows / 192) (row : Option read.Row) (read : (t : List ℕ) → told_row t row ≡ thing_in t (words 24 (drop (i * 192) rows)))
       (r : Result Step Field) (steps : StepsRead sh today from to all kind banks seen (i + 1) st texts row r) where
     small : LowStep (i + 1) r
     small = (stepped steps _ read).0

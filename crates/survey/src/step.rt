@@ -23,7 +23,7 @@ use crate::state::{State, Step};
 use calendar::term::Banks;
 use fileline::seen::Seen;
 use rows::field::{Field, Wrong};
-use rows::read::{ItemRow, RowRead};
+use rows::read::{ItemRow, Row};
 use rows::walk::Before;
 use sheet::Sheet;
 
@@ -305,9 +305,9 @@ fn item_row(
 
 // ---- any row
 
-// Row k, which was read as `row`.
+// Row k, which was read as `row`; one of no known kind is none of a batch.
 pub fn step_of(
-    row: RowRead,
+    row: Option<Row>,
     texts: &[u8],
     sh: Sheet,
     today: u64,
@@ -324,10 +324,14 @@ pub fn step_of(
     requires low { Low k st }
     ensures { StepsRead sh today from to all kind banks seen.words k st texts.now row result }
 {
+    let Some(row) = row else {
+        return Err(Field::Row);
+    };
     match row {
-        RowRead::Item(x) => item_row(sh, texts, k, all, banks, st, x),
-        RowRead::Group(date, prefix, base) => group_row(sh, today, k, kind, st, date, prefix, base),
-        RowRead::File(other, number) => file_row(sh, from, to, seen, k, st, other, number),
-        RowRead::Strange => Err(Field::Row),
+        Row::Item(x) => item_row(sh, texts, k, all, banks, st, x),
+        Row::Group { date, prefix, base } => {
+            group_row(sh, today, k, kind, st, date, prefix, base)
+        }
+        Row::File { kind, number } => file_row(sh, from, to, seen, k, st, kind, number),
     }
 }

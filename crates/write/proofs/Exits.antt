@@ -24,7 +24,6 @@ use Rattle.refusal.specs.declared.Refusal.{Refusal}
 use Rattle.refusal.specs.declared.Refusal.TheVariants as why
 use Rattle.refusal.specs.Numbers.{number_of}
 use Rattle.rows.specs.declared.field.Field.{Field}
-use Rattle.rows.specs.declared.field.Field.TheVariants as field
 use Rattle.rows.specs.declared.field.Wrong.{Wrong}
 use Rattle.rows.specs.field.Numbers.{number_of as field_number}
 use Rattle.rows.specs.read.After.{after}

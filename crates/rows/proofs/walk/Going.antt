@@ -2,7 +2,7 @@
 use mathlib.Core.Path.{◌≡◌, ap, ◌∙◌}
 use mathlib.Core.Bool.{Bool, true, false}
 use mathlib.Core.List.{List}
-use Prim.Native.Nat.{ℕ, ◌+◌, ◌-◌, ◌*◌, ◌≤◌, ◌<◌}
+use Prim.Native.Nat.{ℕ, ◌+◌, ◌*◌, ◌≤◌, ◌<◌}
 use native.Mathlib.Numerals.{add-one}
 use native.Mathlib.Omega.{arith}
 use lib.ListN.{length, drop}
@@ -12,9 +12,9 @@ use Rattle.paper.specs.Proper as paper
 use Rattle.paper.specs.Proper.{fine, wrong, check, may_stop, rows_proper, batch_proper, at_top}
 use Rattle.paper.specs.Words.{words}
 use Rattle.paper.specs.Rows.{rows_in, thing_in, things_in}
-use Rattle.rows.specs.declared.read.RowRead.{RowRead}
+use Rattle.rows.specs.declared.read.Row.{Row}
 use Rattle.rows.specs.declared.walk.Before.{Before}
-use Rattle.std.proofs.Common.{◌/◌, Result, Ok, Err}
+use Rattle.std.proofs.Common.{◌/◌, Option, Result, Ok, Err}
 use Rattle.rows.specs.declared.field.Field.{Field}
 use Rattle.rows.specs.field.Numbers.{number_of}
 use Rattle.rows.specs.list.From.{things_from}
@@ -40,7 +40,7 @@ going_start texts rows b e =
 
 module _ {texts rows : List ℕ} {i : ℕ} {b : Before} (going : Going texts rows i b) where
   -- the row that was read leads to r
-  module _ (test : i < length rows / 192) (row : RowRead) (read : (t : List ℕ) → told t row ≡ thing_in t (words 24 (drop (i * 192) rows)))
+  module _ (test : i < length rows / 192) (row : Option Row) (read : (t : List ℕ) → told t row ≡ thing_in t (words 24 (drop (i * 192) rows)))
       (r : Result Before Field) (walks : Walks b (told texts row) r) where
     room : i * 192 + 192 ≤ length rows
     room = omega arith

@@ -9,17 +9,16 @@ use borrow.Author.Tests.{ltb-true, not-false}
 use Rattle.base.specs.Pick.{pick}
 use Rattle.base.proofs.Cases.{by-test, pick-both}
 use Rattle.paper.specs.Days.{real_day}
-use Rattle.paper.specs.Accounts.{Account, account, is_nobody}
+use Rattle.paper.specs.Accounts.{Account, is_nobody}
 use Rattle.paper.specs.Batch.{Thing, a_file, a_group}
 use Rattle.paper.specs.Proper as paper
 use Rattle.paper.specs.Proper.{Verdict, check, file_due, group_due, item_due, kind_proper, payer_proper, after_item, item_stands, rows_proper}
 use Rattle.paper.specs.Rows.{reference_proper}
-use Rattle.std.proofs.Common.{Result, Ok, Err}
+use Rattle.std.proofs.Common.{Option, None, Result, Ok, Err}
 use Rattle.rows.specs.declared.field.Field.{Field}
 use Rattle.rows.specs.declared.field.Field.TheVariants.{Row}
 use Rattle.rows.specs.declared.read.ItemRow.{ItemRow}
-use Rattle.rows.specs.declared.read.RowRead.{RowRead}
-use Rattle.rows.specs.declared.read.RowRead.TheVariants as row
+use Rattle.rows.specs.declared.read.Row as read
 use Rattle.rows.specs.declared.walk.Stage.TheVariants as stage
 use Rattle.rows.specs.declared.walk.Before.{Before}
 use Rattle.rows.specs.read.After.{after}
@@ -105,20 +104,8 @@ pub ruleset fits = (file-fits, item-fits, sum_fits)
 
 pub ruleset steps = (file-late, file-wrong, file-on, group-late, group-wrong, group-on, item-late, item-wrong, item_on)
 
--- ---- a row that was read as r leads to w
+-- ---- a row of no known kind
 
-module _ (b : Before) (texts : List ℕ) (r : RowRead) (w : Result Before Field) where
-  pub row-file : (kind number : ℕ) → r ≡ row.File kind number → Walks b (a_file kind number) w → Walks b (told texts r) w
-  row-file kind number e p = rw e p
-
-  pub row-group : (date prefix base : ℕ) → r ≡ row.Group date prefix base → Walks b (a_group date (account prefix base)) w → Walks b (told texts r) w
-  row-group date prefix base e p = rw e p
-
-  pub row-item : (x : ItemRow) → r ≡ row.Item x → Walks b (told_item texts x) w → Walks b (told texts r) w
-  row-item x e p = rw e p
-
-pub row-strange : (b : Before) (texts : List ℕ) (r : RowRead) → r ≡ row.Strange → Walks b (told texts r) (Err Row)
+pub row-strange : (b : Before) (texts : List ℕ) (r : Option read.Row) → r ≡ None → Walks b (told texts r) (Err Row)
 unfolding rows_proper
 row-strange b texts r e = rw e (record { same = λ k ts. refl; leads = tt })
-
-pub ruleset kinds = (row-file, row-group, row-item, row-strange)

@@ -1,5 +1,5 @@
 -- What a decoded row stands for: a thing of the batch, its texts cut from the lent bytes. docs/ROWS.md. Assumes nothing.
-use Rattle.std.specs.Prelude.{ℕ, ◌+◌, List, [], ◌∷◌, leb, length, take, drop}
+use Rattle.std.specs.Prelude.{ℕ, ◌+◌, List, [], ◌∷◌, leb, length, take, drop, Option, Some, None}
 use Rattle.base.specs.Pick.{pick}
 use Rattle.paper.specs.Accounts.{account}
 use Rattle.paper.specs.Batch.{Item, Thing, a_file, a_group, an_item, misnumbered, strange}
@@ -10,8 +10,8 @@ use Rattle.rows.specs.declared.read.ItemRow.{ItemRow}
 use Rattle.rows.specs.declared.read.Sides.{Sides}
 use Rattle.rows.specs.declared.read.Symbols.{Symbols}
 use Rattle.rows.specs.declared.read.Texts.{Texts}
-use Rattle.rows.specs.declared.read.RowRead.{RowRead}
-use Rattle.rows.specs.declared.read.RowRead.TheVariants.{File, Group, Item as AnItem, Strange}
+use Rattle.rows.specs.declared.read.Row.{Row}
+use Rattle.rows.specs.declared.read.Row.TheVariants.{File, Group, Item as AnItem}
 
 -- the text at a place of the lent bytes t; one that lies outside is read as a byte that is no text byte, so that its field is refused
 unfoldable pub text_of_span : List ℕ → Span → List ℕ
@@ -38,11 +38,15 @@ abbrev pub told_item : List ℕ → ItemRow → Thing
 told_item t x = pick (reference_proper x.reference) (an_item (item_of t x)) (misnumbered (item_of t x))
 
 -- what a row says
-abbrev pub told : List ℕ → RowRead → Thing
-told t (File kind number) = a_file kind number
-told t (Group date prefix base) = a_group date (account prefix base)
-told t (AnItem x) = told_item t x
-told t Strange = strange
+abbrev pub told_row : List ℕ → Row → Thing
+told_row t (File kind number) = a_file kind number
+told_row t (Group date prefix base) = a_group date (account prefix base)
+told_row t (AnItem x) = told_item t x
+
+-- .. where it may be of no known kind
+abbrev pub told : List ℕ → Option Row → Thing
+told t (Some r) = told_row t r
+told t None = strange
 
 -- ---- a row in lent bytes
 

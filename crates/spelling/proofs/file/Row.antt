@@ -18,9 +18,9 @@ use Rattle.paper.specs.Words.{words}
 use Rattle.paper.specs.Rows.{thing_in}
 use Rattle.roundtrip.specs.flat.Flat.{line_of, group_ends, file_ends, group_sum, flat}
 use Rattle.rows.specs.declared.read.ItemRow.{ItemRow}
-use Rattle.rows.specs.declared.read.RowRead.{RowRead}
-use Rattle.rows.specs.declared.read.RowRead.TheVariants.{File, Group, Item, Strange}
-use Rattle.rows.specs.read.Told.{item_of, told}
+use Rattle.rows.specs.declared.read.Row.{Row}
+use Rattle.rows.specs.declared.read.Row.TheVariants.{File, Group, Item}
+use Rattle.rows.specs.read.Told.{item_of, told_row}
 use Rattle.rows.specs.read.Sized.{Sized}
 use Rattle.out.specs.word.Places.{rows_from}
 use Rattle.rows.specs.list.From.{things_from}
@@ -57,13 +57,13 @@ module _ (sh : Sheet) (due : Bool) (t rows : List ℕ) (row : ℕ) (here : 192 �
     known : this ≡ strange → ⊥
     known e = pass-known behind (rw e at passed)
 
-    module _ (r : RowRead) (taken : (u : List ℕ) → (thing_in u (words 24 (drop row rows)) ≡ strange → ⊥) → told u r ≡ thing_in u (words 24 (drop row rows))) where
-      said : told t r ≡ this
+    module _ (r : Row) (taken : (u : List ℕ) → (thing_in u (words 24 (drop row rows)) ≡ strange → ⊥) → told_row u r ≡ thing_in u (words 24 (drop row rows))) where
+      said : told_row t r ≡ this
       said = taken t known
 
       module _ (kind number : ℕ) (e : r ≡ File kind number) where
         file-is : this ≡ a_file kind number
-        file-is = sym said ∙ ap (told t) e
+        file-is = sym said ∙ ap (told_row t) e
 
         file-lines : at + length (file_ends (stage_when due) ++ line_of (spell_file sh kind number)) ≤ length o
         unfolding row_lines
@@ -82,7 +82,7 @@ module _ (sh : Sheet) (due : Bool) (t rows : List ℕ) (row : ℕ) (here : 192 �
 
       module _ (date prefix base : ℕ) (e : r ≡ Group date prefix base) where
         group-is : this ≡ a_group date (account prefix base)
-        group-is = sym said ∙ ap (told t) e
+        group-is = sym said ∙ ap (told_row t) e
 
         group-passed : Passing (a_group date (account prefix base) ∷ behind)
         group-passed = rw group-is at passed
@@ -113,7 +113,7 @@ module _ (sh : Sheet) (due : Bool) (t rows : List ℕ) (row : ℕ) (here : 192 �
       module _ (x : ItemRow) (e : r ≡ Item x) where
         item-is : this ≡ an_item (item_of t x)
         item-is =
-            let here = sym said ∙ ap (told t) e in
+            let here = sym said ∙ ap (told_row t) e in
             here ∙ pass-told t x behind (rw here at passed)
 
         pub sized-item : Sized t x
@@ -126,8 +126,5 @@ module _ (sh : Sheet) (due : Bool) (t rows : List ℕ) (row : ℕ) (here : 192 �
         pub fill-item : (o1 : List ℕ) (q : ℕ) → Wrote o at (line_of (spell_item sh (item_of t x))) o1 q → Filled sh due this behind o at o1 (step q true)
         unfolding row_lines due_after
         fill-item o1 q w = rw item-is (record { wrote = w; after = refl })
-
-      pub fill-strange : r ≡ Strange → Filled sh due this behind o at o (step at due)
-      fill-strange e = absurd (known (sym said ∙ ap (told t) e))
 
 pub ruleset asked = (room-file-ends, room-file, sum_low, room-group-ends, room-group, sized-item, room-item)

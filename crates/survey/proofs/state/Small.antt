@@ -1,7 +1,7 @@
 -- The answers of the small questions, with what the code knows at each. Assumes nothing.
 use mathlib.Core.Path.{◌≡◌}
 use Prim.Native.Nat.{ℕ, ◌+◌}
-use Rattle.std.proofs.Common.{Option, Some, None, Result, Ok, Err, refl}
+use Rattle.std.proofs.Common.{Option, Some, None, Result, Ok, Err}
 use lib.ListN.{length}
 use Rattle.paper.specs.Proper.{Verdict, wrong}
 use Rattle.paper.specs.Numerals.{decimal}

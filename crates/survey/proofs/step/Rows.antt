@@ -10,12 +10,12 @@ use Rattle.paper.specs.Rows.{thing_in}
 use Rattle.paper.specs.Carried.{Place}
 use Rattle.calendar.specs.declared.term.Banks.{Banks}
 use Rattle.rows.specs.declared.walk.Before.{Before}
-use Rattle.std.proofs.Common.{Result, Ok, Err}
+use Rattle.std.proofs.Common.{Option, Some, None, Result, Ok, Err}
 use Rattle.rows.specs.declared.field.Field.{Field}
 use Rattle.rows.specs.declared.field.Field.TheVariants.{Row}
 use Rattle.rows.specs.declared.read.ItemRow.{ItemRow}
-use Rattle.rows.specs.declared.read.RowRead.{RowRead}
-use Rattle.rows.specs.declared.read.RowRead.TheVariants as row
+use Rattle.rows.specs.declared.read.Row as read
+use Rattle.rows.specs.declared.read.Row.TheVariants as row
 use Rattle.rows.specs.field.Numbers.{number_of}
 use Rattle.rows.specs.read.Told.{told, item_of, told_item}
 use Rattle.rows.specs.walk.Walks.{Walks}
@@ -72,25 +72,25 @@ item-walks b texts x r w next e =
     let on = walks-on b _ r w next e in
     rw (item-told b next texts x on) at on
 
--- ---- a row that was read as r: s is what it leads to
+-- ---- a row that was read as r, if it is of a known kind: s is what it leads to
 
-module _ (texts : List ℕ) (r : RowRead) (sh : Sheet) (k : ℕ) (st : State) (s : Result Step Field) where
-  pub row-file : (kind number : ℕ) → r ≡ row.File kind number → (from to : ℕ) (seen : List ℕ)
+module _ (texts : List ℕ) (r : Option read.Row) (o : read.Row) (known : r ≡ Some o) (sh : Sheet) (k : ℕ) (st : State) (s : Result Step Field) where
+  pub row-file : (kind number : ℕ) → o ≡ row.File kind number → (from to : ℕ) (seen : List ℕ)
       → ((today all before : ℕ) (banks : Banks) → Steps sh today from to all before banks seen k st (a_file kind number) s)
       → (today all before : ℕ) (banks : Banks) → StepsRead sh today from to all before banks seen k st texts r s
-  row-file kind number e from to seen p today all before banks = record { steps = rw e (p today all before banks) }
+  row-file kind number e from to seen p today all before banks = record { steps = rw (known, e) (p today all before banks) }
 
-  pub row-group : (date prefix base : ℕ) → r ≡ row.Group date prefix base → (today kind : ℕ)
+  pub row-group : (date prefix base : ℕ) → o ≡ row.Group date prefix base → (today kind : ℕ)
       → ((from to all : ℕ) (banks : Banks) (seen : List ℕ) → Steps sh today from to all kind banks seen k st (a_group date (account prefix base)) s)
       → (from to all : ℕ) (banks : Banks) (seen : List ℕ) → StepsRead sh today from to all kind banks seen k st texts r s
-  row-group date prefix base e today kind p from to all banks seen = record { steps = rw e (p from to all banks seen) }
+  row-group date prefix base e today kind p from to all banks seen = record { steps = rw (known, e) (p from to all banks seen) }
 
-  pub row-item : (x : ItemRow) → r ≡ row.Item x → (all : ℕ) (banks : Banks)
+  pub row-item : (x : ItemRow) → o ≡ row.Item x → (all : ℕ) (banks : Banks)
       → ((today from to kind : ℕ) (seen : List ℕ) → Steps sh today from to all kind banks seen k st (told_item texts x) s)
       → (today from to kind : ℕ) (seen : List ℕ) → StepsRead sh today from to all kind banks seen k st texts r s
-  row-item x e all banks p today from to kind seen = record { steps = rw e (p today from to kind seen) }
+  row-item x e all banks p today from to kind seen = record { steps = rw (known, e) (p today from to kind seen) }
 
-pub row-strange : (texts : List ℕ) (r : RowRead) → r ≡ row.Strange
+pub row-strange : (texts : List ℕ) (r : Option read.Row) → r ≡ None
     → (sh : Sheet) (today from to all kind : ℕ) (banks : Banks) (seen : List ℕ) (k : ℕ) (st : State) → StepsRead sh today from to all kind banks seen k st texts r (Err Row)
 row-strange texts r e sh today from to all kind banks seen k st =
     record { steps = rw e (record { low = tt; goes = λ h p f t known. goes-strange sh today h p k st }) }
@@ -98,7 +98,7 @@ row-strange texts r e sh today from to all kind banks seen k st =
 pub ruleset rows = (row-file, row-group, row-item, row-strange)
 
 -- what it was read as is what its words say
-pub stepped : {sh : Sheet} {today from to all kind : ℕ} {banks : Banks} {seen : List ℕ} {k : ℕ} {st : State} {texts : List ℕ} {r : RowRead} {s : Result Step Field}
+pub stepped : {sh : Sheet} {today from to all kind : ℕ} {banks : Banks} {seen : List ℕ} {k : ℕ} {st : State} {texts : List ℕ} {r : Option read.Row} {s : Result Step Field}
     → StepsRead sh today from to all kind banks seen k st texts r s → (words : List ℕ) → ((t : List ℕ) → told t r ≡ thing_in t words)
     → LowStep k s × ((h : Header) (p : Place) → h.from ≡ from → h.to ≡ to → Known sh today all kind banks seen p → Goes sh today h p k st (thing_in texts words) s)
 stepped {sh} {today} {from} {to} {all} {kind} {banks} {seen} {k} {st} {texts} {r} {s} p words read =

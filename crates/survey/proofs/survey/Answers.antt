@@ -1,5 +1,5 @@
 -- `survey` meets its contract: the outcome of all rows is that of the rows that are left. Assumes nothing.
-use Rattle.std.proofs.Common.{◌≡◌, ◌/◌, length, arith, rules}
+use Rattle.std.proofs.Common.{◌≡◌, ◌/◌, length, arith}
 use Rattle.survey.proofs.Going.{goings, going-rest, going_end}
 use Rattle.survey.proofs.survey.Goals as goal
 use Rattle.survey.proofs.survey.Goals.{in-Item, in-Group, in-File}

@@ -1,11 +1,11 @@
 -- What judging one row answers. Assumes nothing.
-use Rattle.std.specs.Prelude.{ℕ, ◌≡◌, List, Result}
+use Rattle.std.specs.Prelude.{ℕ, ◌≡◌, List, Option, Result}
 use Rattle.sheet.specs.declared.Sheet.{Sheet}
 use Rattle.paper.specs.Batch.{Header, Thing}
 use Rattle.paper.specs.Carried.{Place}
 use Rattle.calendar.specs.declared.term.Banks.{Banks}
 use Rattle.rows.specs.declared.field.Field.{Field}
-use Rattle.rows.specs.declared.read.RowRead.{RowRead}
+use Rattle.rows.specs.declared.read.Row.{Row}
 use Rattle.rows.specs.read.Told.{told}
 use Rattle.survey.specs.declared.state.State.{State}
 use Rattle.survey.specs.declared.state.Step.{Step}
@@ -19,5 +19,5 @@ pub record Steps (sh : Sheet) (today from to all kind : ℕ) (banks : Banks) (se
   pub goes : (h : Header) (p : Place) → h.from ≡ from → h.to ≡ to → Known sh today all kind banks seen p → Goes sh today h p k st t r
 
 -- .. where the row was read as `row`, and its texts stand in `texts`
-pub record StepsRead (sh : Sheet) (today from to all kind : ℕ) (banks : Banks) (seen : List ℕ) (k : ℕ) (st : State) (texts : List ℕ) (row : RowRead) (r : Result Step Field) : Type 0 where
+pub record StepsRead (sh : Sheet) (today from to all kind : ℕ) (banks : Banks) (seen : List ℕ) (k : ℕ) (st : State) (texts : List ℕ) (row : Option Row) (r : Result Step Field) : Type 0 where
   pub steps : Steps sh today from to all kind banks seen k st (told texts row) r

@@ -1,6 +1,6 @@
 -- `fill_row` meets its contract: each kind of row has its lines. Assumes nothing.
 use borrow.Author.Rules.{rules}
-use Rattle.spelling.proofs.file.Row.{fill-file, fill-group, fill-item, fill-strange, asked}
+use Rattle.spelling.proofs.file.Row.{fill-file, fill-group, fill-item, asked}
 use Rattle.spelling.proofs.file.fill_row.Goals as goal
 
 pub end_file-e-requires : goal.end_file-e-requires
@@ -29,6 +29,3 @@ returns-in-Group c = search fill-group
 
 pub returns-in-Item : goal.returns-in-Item
 returns-in-Item c = search fill-item
-
-pub returns-in-Strange : goal.returns-in-Strange
-returns-in-Strange c = search fill-strange

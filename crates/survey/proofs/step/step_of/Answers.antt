@@ -2,6 +2,9 @@
 use Rattle.survey.proofs.step.Rows.{rows}
 use Rattle.survey.proofs.step.step_of.Goals as goal
 
+pub returns-in_default : goal.returns-in_default
+returns-in_default c = search rows
+
 pub returns-in-Item : goal.returns-in-Item
 returns-in-Item c = search rows
 
@@ -10,6 +13,3 @@ returns-in-Group c = search rows
 
 pub returns-in-File : goal.returns-in-File
 returns-in-File c = search rows
-
-pub returns-in-Strange : goal.returns-in-Strange
-returns-in-Strange c = search rows
