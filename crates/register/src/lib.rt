@@ -4,12 +4,14 @@
 pub mod questions;
 
 ghost use Rattle.std.specs.Prelude.{◌≡◌, false, ◌≤◌, length, drop};
+ghost use Rattle.refusal.specs.Numbers.{number_of};
 ghost use Rattle.paper.specs.Words.{words};
 ghost use Rattle.fileline.specs.seen.Bits.{bit};
-ghost use Rattle.register.specs.Register.{register_size, none_above, register_of, laid_in, start_answer, start_after, lowest_answer, free_answer, give_answer, give_after};
+ghost use Rattle.register.specs.Register.{register_size, none_above, register_of, laid_in, answer, start_answer, start_after, lowest_answer, free_answer, give_answer, give_after};
 ghost use Rattle.register.specs.Told.{told, Sound, told_answer};
 
 use fileline::seen::Seen;
+use refusal::Refusal;
 
 // A register taken out of lent bytes: whether they are laid out as one, its date, and its numbers.
 #[derive(Clone, Copy)]
@@ -45,10 +47,8 @@ fn numbers_in(lent: &[u8]) -> Seen
     ensures { result.words ≡ words 16 (drop 8 lent.now) }
 {
     let mut set = [0u64; 16];
-    let mut i: usize = 0;
-    while i < 16 {
+    for i in 0..16 {
         set[i] = out::word::word_at(lent, 8 + 8 * i);
-        i = i + 1;
     }
     Seen { words: set }
 }
@@ -94,6 +94,23 @@ pub fn store(lent: &mut [u8], date: u64, set: Seen)
 
 // ---- the calls
 
+// An answer that names a value.
+fn said(value: u64) -> AboRegister
+    ensures { told_answer result ≡ answer 0 value }
+{
+    AboRegister { number: 0, value }
+}
+
+// A refusal, which may name a value too.
+fn refused(refusal: Refusal, value: u64) -> AboRegister
+    ensures { told_answer result ≡ answer (number_of refusal) value }
+{
+    AboRegister {
+        number: refusal.number(),
+        value,
+    }
+}
+
 // Starts a day: no number is marked.
 pub fn start(date: u64, lent: &mut [u8]) -> AboRegister
     ensures result_value { told_answer result ≡ start_answer date lent.old }
@@ -101,21 +118,12 @@ pub fn start(date: u64, lent: &mut [u8]) -> AboRegister
 {
     if calendar::real_day(date) {
         if lent.len() < 136 {
-            return AboRegister {
-                number: 16,
-                value: 136,
-            };
+            return refused(Refusal::NoRoom, 136);
         }
         store(lent, date, Seen::none());
-        return AboRegister {
-            number: 0,
-            value: 0,
-        };
+        return said(0);
     }
-    AboRegister {
-        number: 2,
-        value: 0,
-    }
+    refused(Refusal::BadToday, 0)
 }
 
 // The lowest free number, 1,000 if none is.
@@ -124,15 +132,9 @@ pub fn lowest_number(lent: &[u8]) -> AboRegister
 {
     let r = load(lent);
     if r.laid {
-        return AboRegister {
-            number: 0,
-            value: questions::lowest_free(r.set),
-        };
+        return said(questions::lowest_free(r.set));
     }
-    AboRegister {
-        number: 23,
-        value: 0,
-    }
+    refused(Refusal::BadRegister, 0)
 }
 
 // How many numbers are free.
@@ -141,15 +143,9 @@ pub fn free_numbers(lent: &[u8]) -> AboRegister
 {
     let r = load(lent);
     if r.laid {
-        return AboRegister {
-            number: 0,
-            value: questions::count_free(r.set),
-        };
+        return said(questions::count_free(r.set));
     }
-    AboRegister {
-        number: 23,
-        value: 0,
-    }
+    refused(Refusal::BadRegister, 0)
 }
 
 // Gives the number n back: it is free again.
@@ -162,19 +158,10 @@ pub fn give_back(lent: &mut [u8], n: u64) -> AboRegister
         if n < 1000 {
             if r.set.has(n) {
                 store(lent, r.date, questions::freed(r.set, n));
-                return AboRegister {
-                    number: 0,
-                    value: 0,
-                };
+                return said(0);
             }
         }
-        return AboRegister {
-            number: 24,
-            value: 0,
-        };
+        return refused(Refusal::NotTaken, 0);
     }
-    AboRegister {
-        number: 23,
-        value: 0,
-    }
+    refused(Refusal::BadRegister, 0)
 }

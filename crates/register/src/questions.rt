@@ -12,10 +12,8 @@ pub fn count_free(set: Seen) -> u64
     ensures { result ≡ free (bit set.words) 1000 }
 {
     let mut marked: u64 = 0;
-    let mut i: usize = 0;
-    while i < 16 {
-        marked = marked + u64::count_ones(set.words[i]) as u64;
-        i = i + 1;
+    for word in set.words {
+        marked = marked + u64::count_ones(word) as u64;
     }
     1000 - marked
 }
@@ -26,13 +24,11 @@ pub fn lowest_free(set: Seen) -> u64
     requires { none_above (bit set.words) ≡ true }
     ensures { result ≡ lowest (bit set.words) 1000 }
 {
-    let mut i: usize = 0;
-    while i < 16 {
+    for i in 0..16 {
         let rest = !set.words[i];
         if rest != 0 {
             return (64 * i) as u64 + u64::trailing_zeros(rest) as u64;
         }
-        i = i + 1;
     }
     1000
 }

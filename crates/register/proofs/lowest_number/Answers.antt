@@ -7,7 +7,7 @@ pub lowest_free-requires : goal.lowest_free-requires
 lowest_free-requires c = search (asked, rules)
 
 pub returns-then-r : goal.returns-then-r
-returns-then-r c = search asked
+returns-then-r c = rw c.said.ensures (search asked)
 
 pub returns : goal.returns
-returns c = search asked
+returns c = rw c.refused.ensures (search asked)

@@ -10,9 +10,6 @@ pub loop-i-init : goal.loop-i-init
 unfolding words
 loop-i-init c = search rules
 
-pub loop-i-smaller : goal.loop-i-smaller
-loop-i-smaller c = omega arith
-
 pub loop-i-preserved : goal.loop-i-preserved
 loop-i-preserved c = let inside : c.loop-i.i < 16 = omega arith in search (fills, rules)
 

@@ -6,9 +6,9 @@ use Rattle.register.specs.Marks.{taken}
 use Rattle.register.proofs.questions.Counting.{counts}
 use Rattle.register.proofs.questions.count_free.Goals as goal
 
-pub loop-i-init : goal.loop-i-init
+pub loop-word-init : goal.loop-word-init
 unfolding taken
-loop-i-init c = (omega arith, refl)
+loop-word-init c = refl
 
 pub overflow_cast-marked : goal.overflow_cast-marked
 overflow_cast-marked c = search (counts, rules)
@@ -16,11 +16,8 @@ overflow_cast-marked c = search (counts, rules)
 pub overflow_add-marked : goal.overflow_add-marked
 overflow_add-marked c = search (counts, rules)
 
-pub loop-i-smaller : goal.loop-i-smaller
-loop-i-smaller c = omega arith
-
-pub loop-i-preserved : goal.loop-i-preserved
-loop-i-preserved c = search (counts, rules)
+pub loop-word-preserved : goal.loop-word-preserved
+loop-word-preserved c = search (counts, rules)
 
 pub overflow_sub-result : goal.overflow_sub-result
 overflow_sub-result c = search (counts, rules)

@@ -5,7 +5,7 @@ use Rattle.register.proofs.questions.Lowest.{finds}
 use Rattle.register.proofs.questions.lowest_free.Goals as goal
 
 pub loop-i-init : goal.loop-i-init
-loop-i-init c = (omega arith, λ j l. absurd (omega arith))
+loop-i-init c = λ j l. absurd (omega arith)
 
 pub overflow_cast-result : goal.overflow_cast-result
 overflow_cast-result c = search (finds, rules)
@@ -15,9 +15,6 @@ overflow_add-result c = search (finds, rules)
 
 pub returns-then-rest-ne0 : goal.returns-then-rest-ne0
 returns-then-rest-ne0 c = search (finds, rules)
-
-pub loop-i-smaller : goal.loop-i-smaller
-loop-i-smaller c = omega arith
 
 pub loop-i-preserved : goal.loop-i-preserved
 loop-i-preserved c = search (finds, rules)
