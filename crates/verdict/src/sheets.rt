@@ -75,18 +75,12 @@ pub fn put_sheets(
 {
     let mut next = at;
     let mut k: u64 = 0;
-    loop {
-        match sheet::sheet_of(k + 1) {
-            None => {
-                return next;
-            }
-            Some(sh) => {
-                let said = verdict_at(file, k + 1, today, asked, v);
-                next = put_sheet(out, next, sh.letter, said);
-            }
-        }
+    while let Some(sh) = sheet::sheet_of(k + 1) {
+        let said = verdict_at(file, k + 1, today, asked, v);
+        next = put_sheet(out, next, sh.letter, said);
         k += 1;
     }
+    next
 }
 
 // ---- in bits
@@ -110,17 +104,11 @@ pub fn accepting(file: &[u8], today: u64, asked: u64, v: Verdict) -> u64
     let mut set: u64 = 0;
     let mut bit: u64 = 1;
     let mut place: u64 = 0;
-    loop {
-        match sheet::sheet_of(place + 1) {
-            None => {
-                return set;
-            }
-            Some(_) => {
-                let judged = verdict_at(file, place + 1, today, asked, v);
-                set += bit_if(judged, bit);
-            }
-        }
+    while let Some(_) = sheet::sheet_of(place + 1) {
+        let judged = verdict_at(file, place + 1, today, asked, v);
+        set += bit_if(judged, bit);
         bit *= 2;
         place += 1;
     }
+    set
 }
