@@ -1,2 +1,3 @@
 pub mod Steps
+pub mod Next
 pub mod Onward

@@ -9,7 +9,7 @@ ghost use Rattle.why.specs.Walk.{why_behind, why_open, why_payee, why_item};
 ghost use Rattle.fault.specs.line.Walks.{walk};
 ghost use Rattle.fault.specs.item.Stages.{from_text, from_symbol, from_fixed, from_tail, from_bank, from_variable, from_amount, from_single};
 
-use crate::line::{Fault, in_line, malformed};
+use crate::line::{Fault, in_line, malformed, to_next};
 use sheet::Sheet;
 
 // A text to the line's end.
@@ -53,16 +53,9 @@ fn walk_fixed_symbol(s: &[u8], at: usize, sh: Sheet) -> Result<(), Fault>
     ensures { (today : ℕ) (c : Context) → result ≡ walk (from_fixed sh today c s.now at (drop at s.now)) }
 {
     let end = scan::line::field_end(s, at);
-    in_line(
-        crate::field::check_symbol(&s[at..end], sh.fixedtail),
-        at,
-        end - at,
-        35,
-    )?;
-    if end < s.len() {
-        return walk_text(s, end + 1, sh);
-    }
-    Err(malformed(41, end, 0, 36))
+    let ruling = crate::field::check_symbol(&s[at..end], sh.fixedtail);
+    let next = to_next(s.len(), ruling, at, end, 35)?;
+    walk_text(s, next, sh)
 }
 
 // Whether what stands at `at` is no symbol, where a text may stand for it (`bare`).
@@ -140,16 +133,9 @@ fn walk_variable(
     ensures { (c : Context) → c.kind ≡ kind → c.date ≡ date → result ≡ walk (from_variable sh today c s.now at (drop at s.now)) }
 {
     let end = scan::line::field_end(s, at);
-    in_line(
-        crate::field::check_digits(&s[at..end], 1, 10),
-        at,
-        end - at,
-        33,
-    )?;
-    if end < s.len() {
-        return walk_bank(s, end + 1, sh, today, kind, date);
-    }
-    Err(malformed(41, end, 0, 34))
+    let ruling = crate::field::check_digits(&s[at..end], 1, 10);
+    let next = to_next(s.len(), ruling, at, end, 33)?;
+    walk_bank(s, next, sh, today, kind, date)
 }
 
 // The amount and what follows it.
@@ -168,11 +154,8 @@ fn walk_amount(
 {
     let end = scan::line::field_end(s, at);
     let ruling = crate::field::check_amount(&s[at..end], sh.comma, sh.itemdigits, sh.itemmax);
-    in_line(ruling, at, end - at, 32)?;
-    if end < s.len() {
-        return walk_variable(s, end + 1, sh, today, kind, date);
-    }
-    Err(malformed(41, end, 0, 33))
+    let next = to_next(s.len(), ruling, at, end, 32)?;
+    walk_variable(s, next, sh, today, kind, date)
 }
 
 // The payee's account and what follows it.
@@ -183,16 +166,9 @@ fn walk_payee(s: &[u8], at: usize, sh: Sheet, today: u64, kind: u64, date: u64) 
     ensures { (c : Context) → c.kind ≡ kind → c.date ≡ date → result ≡ walk (why_payee sh today c s.now at (drop at s.now)) }
 {
     let end = scan::line::field_end(s, at);
-    in_line(
-        crate::accounts::check_account(&s[at..end], sh.joined, sh.basemin),
-        at,
-        end - at,
-        31,
-    )?;
-    if end < s.len() {
-        return walk_amount(s, end + 1, sh, today, kind, date);
-    }
-    Err(malformed(41, end, 0, 32))
+    let ruling = crate::accounts::check_account(&s[at..end], sh.joined, sh.basemin);
+    let next = to_next(s.len(), ruling, at, end, 31)?;
+    walk_amount(s, next, sh, today, kind, date)
 }
 
 // The payer's account of an item, and what follows it.
@@ -202,16 +178,9 @@ fn walk_single(s: &[u8], sh: Sheet, today: u64, kind: u64, date: u64) -> Result<
     ensures { (c : Context) → c.kind ≡ kind → c.date ≡ date → result ≡ walk (from_single sh today c s.now 0 s.now) }
 {
     let end = scan::line::field_end(s, 0);
-    in_line(
-        crate::accounts::check_account(&s[0..end], sh.joined, sh.basemin),
-        0,
-        end - 0,
-        30,
-    )?;
-    if end < s.len() {
-        return walk_payee(s, end + 1, sh, today, kind, date);
-    }
-    Err(malformed(41, end, 0, 31))
+    let ruling = crate::accounts::check_account(&s[..end], sh.joined, sh.basemin);
+    let next = to_next(s.len(), ruling, 0, end, 30)?;
+    walk_payee(s, next, sh, today, kind, date)
 }
 
 // An item: the payer's account comes first where the group is single.

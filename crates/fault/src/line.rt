@@ -1,12 +1,12 @@
 // The lines of an account file and of a group walked from their left: the first field whose rules are broken, or the line's form.
-ghost use Rattle.std.specs.Prelude.{◌≡◌, List, true, ℕ, ◌≤◌, length, drop};
+ghost use Rattle.std.specs.Prelude.{◌≡◌, List, true, ℕ, ◌≤◌, ◌<◌, length, drop};
 ghost use Rattle.paper.specs.Days.{real_day};
 ghost use Rattle.paper.specs.Batch.{Header};
 ghost use Rattle.paper.specs.GroupLine.{has_payer};
 ghost use Rattle.paper.specs.Spells.{Context, after};
 ghost use Rattle.fileline.specs.seen.Bits.{Holds};
 ghost use Rattle.why.specs.Walk.{why_file, why_total, why_group};
-ghost use Rattle.fault.specs.line.Walks.{walk, stop, in_line};
+ghost use Rattle.fault.specs.line.Walks.{walk, stop, in_line, to_next};
 ghost use Rattle.fault.specs.line.Stages.{from_code, from_number, from_day, from_payer};
 
 use crate::field::Broken;
@@ -79,6 +79,25 @@ pub fn in_line(
     }
 }
 
+// Where the next field begins behind the field of that number, which stands from `at` to `end` in a line of n bytes: behind a space. A rule that
+// the field breaks is the line's fault, and so is the end of the line.
+pub fn to_next(
+    n: usize,
+    ruling: Result<(), Broken>,
+    at: usize,
+    end: usize,
+    field: u64,
+) -> Result<usize, Fault>
+    requires { (at ≤ end) × (field < 100) }
+    ensures { result ≡ to_next n ruling at end field }
+{
+    in_line(ruling, at, end - at, field)?;
+    if end < n {
+        return Ok(end + 1);
+    }
+    Err(malformed(41, end, 0, field + 1))
+}
+
 // ---- an account file's line
 
 // BANK, and nothing behind it.
@@ -101,11 +120,8 @@ fn walk_number(s: &[u8], at: usize, sh: Sheet, from: u64, to: u64, seen: Seen) -
 {
     let end = scan::line::field_end(s, at);
     let ruling = crate::field::check_number(&s[at..end], sh.interval, from, to, seen);
-    in_line(ruling, at, end - at, 11)?;
-    if end < s.len() {
-        return walk_code(s, end + 1, sh);
-    }
-    Err(malformed(41, end, 0, 12))
+    let next = to_next(s.len(), ruling, at, end, 11)?;
+    walk_code(s, next, sh)
 }
 
 // `1 KIND NUMBER BANK`, of a line that begins so.
@@ -114,11 +130,9 @@ pub fn walk_file(s: &[u8], sh: Sheet, from: u64, to: u64, seen: Seen) -> Result<
     ensures { (today : ℕ) (c : Context) (h : Header) (l : List ℕ) → c.numbers ≡ after h l → Holds seen.words l → h.from ≡ from → h.to ≡ to → result ≡ walk (why_file sh today c s.now) }
 {
     let end = scan::line::field_end(s, 2);
-    in_line(crate::field::check_kind(&s[2..end], sh), 2, end - 2, 10)?;
-    if end < s.len() {
-        return walk_number(s, end + 1, sh, from, to, seen);
-    }
-    Err(malformed(41, end, 0, 11))
+    let ruling = crate::field::check_kind(&s[2..end], sh);
+    let next = to_next(s.len(), ruling, 2, end, 10)?;
+    walk_number(s, next, sh, from, to, seen)
 }
 
 // ---- a group's line
@@ -152,16 +166,9 @@ fn walk_total(s: &[u8], at: usize, sh: Sheet, today: u64, kind: u64) -> Result<(
     ensures { (c : Context) → c.kind ≡ kind → result ≡ walk (why_total sh today c s.now at (drop at s.now)) }
 {
     let end = scan::line::field_end(s, at);
-    in_line(
-        crate::field::check_total(&s[at..end], sh.comma),
-        at,
-        end - at,
-        21,
-    )?;
-    if end < s.len() {
-        return walk_day(s, end + 1, sh, today, kind);
-    }
-    Err(malformed(41, end, 0, 22))
+    let ruling = crate::field::check_total(&s[at..end], sh.comma);
+    let next = to_next(s.len(), ruling, at, end, 21)?;
+    walk_day(s, next, sh, today, kind)
 }
 
 // Whether the line has its payer's field: always (`always`), or where it has three spaces or more.
@@ -188,11 +195,8 @@ fn walk_payer(s: &[u8], sh: Sheet, today: u64, kind: u64) -> Result<(), Fault>
         sh.joined,
         sh.basemin,
     );
-    in_line(ruling, 2, end - 2, 20)?;
-    if end < s.len() {
-        return walk_total(s, end + 1, sh, today, kind);
-    }
-    Err(malformed(41, end, 0, 21))
+    let next = to_next(s.len(), ruling, 2, end, 20)?;
+    walk_total(s, next, sh, today, kind)
 }
 
 // `2 TOTAL DATE`, or with the payer's account before TOTAL, of a line that begins so.

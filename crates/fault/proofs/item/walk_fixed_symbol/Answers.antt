@@ -3,23 +3,23 @@ use borrow.Author.Rules.{rules}
 use Rattle.std.proofs.lemmas.Result.{err_from_is_err_and}
 use Rattle.why.specs.Names.{field_number}
 use Rattle.why.specs.Fields.{rules_of}
-use Rattle.fault.proofs.line.Steps.{steps}
+use Rattle.fault.proofs.line.Steps.{field_in}
+use Rattle.fault.proofs.line.Next.{walking}
 use Rattle.fault.proofs.item.Onward.{tails}
 use Rattle.fault.proofs.item.walk_fixed_symbol.Goals as goal
 
 pub slice_bounds-check_symbol-end : goal.slice_bounds-check_symbol-end
-slice_bounds-check_symbol-end c = search (tails, steps, rules)
+slice_bounds-check_symbol-end c = search (field_in, rules)
 
-pub returns-then-end-s : goal.returns-then-end-s
-unfolding rules_of field_number
-returns-then-end-s c = search (tails, steps, c.in_ok-in_line.was)
+pub walk_text-requires : goal.walk_text-requires
+walk_text-requires c = search (walking, c.in_ok-next.was)
 
-pub returns-in_err-in_line : goal.returns-in_err-in_line
+pub returns-in_err-next : goal.returns-in_err-next
 unfolding rules_of field_number
-returns-in_err-in_line c =
+returns-in_err-next c =
     let p = err_from_is_err_and c.from_residual.result c.from_residual.ensures.1 in
-    rw (p.1, p.2) (search (tails, steps, c.in_err-in_line.was))
+    rw (p.1, p.2) (search (tails, walking, c.in_err-next.was))
 
 pub returns : goal.returns
 unfolding rules_of field_number
-returns c = search (tails, steps, c.in_ok-in_line.was)
+returns c = search (tails, walking, c.in_ok-next.was)
