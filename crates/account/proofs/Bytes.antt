@@ -1,5 +1,5 @@
 -- Zeros in a field, byte after byte. Assumes nothing.
-use Rattle.std.proofs.Common.{◌≡◌, ℕ, Bool, true, false, eqb, List, [], ◌∷◌, refl}
+use Rattle.std.proofs.Common.{◌≡◌, ℕ, eqb, List, [], ◌∷◌, refl}
 use Rattle.std.specs.List.{list_all}
 use Rattle.base.specs.Pick.{pick}
 use Rattle.base.specs.Seek.{all}

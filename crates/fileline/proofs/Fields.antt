@@ -5,7 +5,7 @@ use Prim.Native.Nat.{ℕ, ◌<◌}
 use lib.Dec.{eqb}
 use borrow.Author.Tests.{eq-eqb, ne_eqb}
 use Rattle.base.specs.Pick.{pick}
-use Rattle.std.proofs.Common.{◌≤◌, Result, Ok, Option, Some, None, arith}
+use Rattle.std.proofs.Common.{Result, Ok, Option, Some, None, arith}
 use Rattle.refusal.specs.declared.Refusal.{Refusal}
 use Rattle.refusal.specs.Numbers.{number_of, answered}
 use Rattle.refusal.proofs.Positive.{positive}

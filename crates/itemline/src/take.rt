@@ -205,17 +205,16 @@ fn take_tail(s: &[u8], at: usize, y: Style, fixed: bool, bare: bool, x: Front) -
     let from = at + 1;
     let got = numeral::field::digit_run(s, from, 10);
     let end = got.end;
-    let symbol = got.value;
     if from < end {
         if s.len() <= end {
             return Tail {
-                specific: symbol,
+                specific: got.value,
                 text: None,
             };
         }
         if s[end] == 32 {
             return Tail {
-                specific: symbol,
+                specific: got.value,
                 text: Some(end + 1),
             };
         }
@@ -226,7 +225,7 @@ fn take_tail(s: &[u8], at: usize, y: Style, fixed: bool, bare: bool, x: Front) -
     }
     if fixed {
         return Tail {
-            specific: symbol,
+            specific: got.value,
             text: Some(end + 1),
         };
     }

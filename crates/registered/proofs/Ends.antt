@@ -9,7 +9,6 @@ use lib.ListN.{length, take, drop}
 use Rattle.base.specs.Pick.{pick}
 use Rattle.base.proofs.Cases.{pick_true, pick-false}
 use Rattle.refusal.specs.declared.Refusal.TheVariants.{BadOrder, BadRegister}
-use Rattle.refusal.specs.Numbers.{number_of}
 use Rattle.sheet.specs.declared.Sheet.{Sheet}
 use Rattle.paper.specs.Lines.{Line, line, lines_of, lines_from}
 use Rattle.paper.specs.Entries.{head_line, kind_of}

@@ -67,8 +67,7 @@ pub fn survey(rows: &[u8], texts: &[u8], sh: Sheet, today: u64, from: u64, to: u
     ensures small { Small result }
 {
     let count = rows.len() / 192;
-    let mut all: u64 = 0;
-    let mut kind: u64 = 0;
+    let (mut all, mut kind): (u64, u64) = (0, 0);
     let mut due = Banks::Any;
     let mut seen = Seen::none();
     let mut st = crate::state::start();

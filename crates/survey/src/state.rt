@@ -1,5 +1,5 @@
 // Where the judging of lent rows stands between two rows, and the small questions that each row asks of it.
-ghost use Rattle.std.specs.Prelude.{◌≡◌, ◌≤◌, ◌<◌};
+ghost use Rattle.std.specs.Prelude.{◌≡◌, ◌≤◌};
 ghost use Rattle.roundtrip.specs.flat.Count.{group_closing, file_closing};
 ghost use Rattle.rows.specs.walk.Walks.{stage_of};
 ghost use Rattle.survey.specs.state.Stands.{Tests, Starts};

@@ -1,5 +1,5 @@
 -- `all_zero` answers as its definition does: the test at each byte.
-use Rattle.std.proofs.Common.{sym, ◌∙◌, eqb, rules, tests}
+use Rattle.std.proofs.Common.{◌∙◌, eqb, rules, tests}
 use Rattle.std.proofs.lemmas.Iterator.{YieldsList-from_slice}
 use Rattle.std.proofs.lemmas.Iterator.Search.{all_from_yields_List}
 use Rattle.account.proofs.Bytes.{all-listed}

@@ -20,7 +20,7 @@ use Rattle.why.specs.Forms.{are_digits}
 use Rattle.why.specs.Names.{specific_symbol, field_number}
 use Rattle.why.specs.Fields.{digit_rules, bank_rules}
 use Rattle.why.specs.Walk.{why_fixed, why_behind, why_open, why_payee, why_item}
-use Rattle.fault.specs.field.Ruled.{Ruling, broken, ruling}
+use Rattle.fault.specs.field.Ruled.{Ruling, ruling}
 use Rattle.fault.specs.line.Walks.{Walk, walk, stop}
 use Rattle.fault.specs.item.Stages.{from_text, from_symbol, from_fixed, from_tail, from_bank, from_variable, from_amount, from_single}
 use Rattle.fault.proofs.line.Steps.{is-fault, gap-there, gap-missing}

@@ -28,10 +28,6 @@ pub went-none : (sh : Sheet) (today from to : ℕ) (f : List ℕ) (o : Result Le
 went-none sh today from to f o b words e good =
     record { same = λ h p q l held. (l, held, refl); good = good; less = omega arith }
 
--- a reader that is called has less of the budget
-pub budget-less : (b t : ℕ) → b ≡ t → (b ≡ 0 → ⊥) → b - 1 < t
-budget-less b t e n = omega arith
-
 -- a step led from o to n: a reader went on from n with one less of the budget, or reading stops at n
 module _ {sh : Sheet} {today from to : ℕ} {f : List ℕ} {o n : Result Left Refused} {before between : List ℕ} (same : Same sh today from to f o before between n) (less : to_go f n + 1 ≤ to_go f o) where
   goes-on : {b : ℕ} {after : List ℕ} {r : Result Left Refused} → Went sh today from to f n (b - 1) between after r → Went sh today from to f o b before after r
@@ -54,9 +50,6 @@ found v w e q = rw q at e
 
 -- a step that may change the words
 module _ (sh : Sheet) (from to : ℕ) (f : List ℕ) (o m : Result Left Refused) (before between : List ℕ) (p : Stepped sh from to f o before between m) where
-  pub stepped-group : (v : Left) → m ≡ Ok v → (at k : ℕ) (c : Counts) (s : Shelf) → v ≡ left.Group at k c s → AtGroup f at k c s
-  stepped-group v e at k c s q = let y : Stepped sh from to f o before between (Ok (left.Group at k c s)) = rw (found v _ e q) at p in y.good
-
   module _ (today b : ℕ) where
     stepped : (n : Result Left Refused) → m ≡ n → Stepped sh from to f o before between n
     stepped n e = rw e at p
@@ -130,8 +123,6 @@ module _ (sh : Sheet) (today : ℕ) (f : List ℕ) (o p m : Result Left Refused)
 pub ruleset alongs = (along-start, along-good, along-on, along-found, along-last, along-group, along-less, along-file)
 
 pub ruleset readers = (went-none, stepped-on, stepped-last)
-
-pub ruleset calls = (budget-less, stepped-group)
 
 -- ---- the loop: u was seen before; the words hold some numbers, with which the answer from where reading stands is the file's
 

@@ -1,6 +1,6 @@
 -- `numeral::read_digits` meets its contract. The loop's invariant: the number read so far has at most i digits, and what is left of the
 -- field, read on from it, says what the whole field says. Assumes nothing.
-use Rattle.std.proofs.Common.{◌≡◌, ◌-◌, ◌^◌, ◌<◌, ◌≤◌, length, drop}
+use Rattle.std.proofs.Common.{◌≡◌, ◌^◌, ◌<◌, drop}
 use Rattle.paper.specs.Numerals.{digits_on, digits}
 use Rattle.numeral.proofs.read_digits.Given as goal
 

@@ -1,6 +1,6 @@
 -- A head's and a movement's bytes, field after field, and a whole record: rules for a search. Assumes nothing.
 use mathlib.Core.Path.{◌≡◌, refl, sym, ap, ◌∙◌}
-use mathlib.Core.List.{List, [], ◌∷◌}
+use mathlib.Core.List.{List}
 use Prim.Native.Nat.{ℕ, ◌≤◌}
 use native.Mathlib.Omega.{arith}
 use Rattle.std.specs.Prelude.{Option, Some, None, Result, Ok, Err}
@@ -9,7 +9,7 @@ use Rattle.refusal.specs.declared.Flaw.{Flaw}
 use Rattle.refusal.specs.Numbers.{number_of}
 use Rattle.refusal.specs.Placed.{placed}
 use Rattle.refusal.proofs.Places.{was-ok, was-err}
-use Rattle.paper.specs.Read.{Field, value, fault}
+use Rattle.paper.specs.Read.{Field, value}
 use Rattle.paper.specs.Numerals.{digits}
 use Rattle.paper.specs.Accounts.{account}
 use Rattle.paper.specs.Batch.{most14}
@@ -23,7 +23,6 @@ use Rattle.gpc.specs.Internal.{read_internal}
 use Rattle.gpc.specs.Signed.{Signed as Number, read_digits, balance_plus, turnover_plus}
 use Rattle.gpc.specs.Turnovers.{most12}
 use Rattle.gpc.specs.Records.{head_is, movement_is, no_record, read_code, read_head, read_movement, read_record}
-use Rattle.turnover.specs.declared.signed.Signed.{Signed}
 use Rattle.turnover.specs.signed.Told.{said}
 use Rattle.record.specs.declared.HeadFields.{HeadFields}
 use Rattle.record.specs.declared.MovementFields.{MovementFields}

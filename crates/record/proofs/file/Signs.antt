@@ -21,7 +21,6 @@ use Rattle.gpc.specs.Parts.{slice, or51}
 use Rattle.gpc.specs.Signed.{Signed as Number, signed, read_digits, read_minus, on_signed}
 use Rattle.turnover.specs.declared.signed.Signed.{Signed}
 use Rattle.turnover.specs.signed.Told.{said}
-use Rattle.record.specs.declared.file.Pair.{Pair}
 use Rattle.record.specs.file.Told.{told_signed, SmallSigned, Two, two, pair_at}
 use Rattle.record.proofs.file.Fields.{one_byte}
 

@@ -1,5 +1,5 @@
 -- What the next record leads to, and how the records end; rules for a search. Assumes nothing.
-use mathlib.Core.Path.{◌≡◌, refl, sym, ap, ◌∙◌}
+use mathlib.Core.Path.{◌≡◌, refl, ap}
 use mathlib.Core.List.{List, [], ◌∷◌, ◌++◌}
 use Prim.Native.Nat.{ℕ, suc, ◌+◌, ◌*◌, ◌≤◌}
 use native.Mathlib.Omega.{arith}
@@ -7,13 +7,12 @@ use lib.ListN.{length, length-append}
 use Rattle.std.specs.Prelude.{Option, Some, None, Result, Ok, Err}
 use Rattle.refusal.specs.declared.Flaw.{Flaw}
 use Rattle.refusal.specs.Numbers.{number_of}
-use Rattle.paper.specs.Batch.{most14}
 use Rattle.paper.specs.Entries.{Said, got, no}
 use Rattle.turnover.specs.Counts.{Roomy}
 use Rattle.turnover.proofs.Laws.{room}
 use Rattle.gpc.specs.Turnovers.{most12}
 use Rattle.gpc.specs.Records.{Head, Movement, Record, head_is, movement_is, no_record}
-use Rattle.gpc.specs.Statements.{Statement, statement, moves_of, Spots as Places, closed, Judged as Answer, accepted, refused, on_said, with, Stage, top, within, judge_on}
+use Rattle.gpc.specs.Statements.{Statement, statement, moves_of, Spots as Places, Judged as Answer, accepted, refused, on_said, with, Stage, top, within, judge_on}
 use Rattle.record.specs.declared.HeadFields.{HeadFields}
 use Rattle.record.specs.declared.MovementFields.{MovementFields}
 use Rattle.record.specs.declared.Entry.{Entry}

@@ -6,7 +6,6 @@ use Prim.Native.Nat.{ℕ}
 use Rattle.std.specs.Prelude.{Option, Some, None, Result, Ok, Err}
 use Rattle.refusal.specs.declared.Refusal.{Refusal}
 use Rattle.refusal.specs.declared.Refusal.TheVariants.{BadTurnover, BadBalance}
-use Rattle.refusal.specs.declared.Flaw.{Flaw}
 use Rattle.base.proofs.Cases.{pick_true, pick-false}
 use Rattle.turnover.specs.declared.Turns.{Turns}
 use Rattle.turnover.specs.signed.Told.{said}

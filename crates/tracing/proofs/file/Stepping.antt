@@ -13,8 +13,6 @@ use Rattle.paper.specs.Entries.{kind_of}
 use Rattle.paper.specs.Judge.{State}
 use Rattle.scan.specs.declared.line.Cut.{Cut}
 use Rattle.scan.specs.line.Cutting.{Cuts}
-use Rattle.judge.specs.declared.group.Counts.{Counts}
-use Rattle.judge.specs.declared.group.Shelf.{Shelf}
 use Rattle.judge.specs.declared.group.Held.{Held}
 use Rattle.judge.specs.declared.group.GroupEnd.{GroupEnd}
 use Rattle.judge.specs.group.Stands.{line_in, Begun}

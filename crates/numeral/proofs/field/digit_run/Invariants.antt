@@ -1,6 +1,5 @@
 -- `digit_run` meets its contract. The loop's invariant: what is left of the run, read on from the number so far, says what the whole run says.
 -- Assumes nothing.
-use Rattle.std.proofs.Common.{◌-◌}
 use Rattle.numeral.proofs.field.Turns.{Reads}
 use Rattle.numeral.proofs.field.digit_run.Given as goal
 

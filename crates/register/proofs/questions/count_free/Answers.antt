@@ -1,6 +1,5 @@
 -- `count_free` meets its contract. The loop's invariant: so far the ones are the numbers marked below 64 for each word passed. Assumes nothing.
 use mathlib.Core.Path.{refl}
-use native.Mathlib.Omega.{arith}
 use borrow.Author.Rules.{rules}
 use Rattle.register.specs.Marks.{taken}
 use Rattle.register.proofs.questions.Counting.{counts}

@@ -1,5 +1,5 @@
 -- `find_byte` meets its contract: what is sought from the index on is what is sought from the start. Assumes nothing.
-use Prim.Native.Nat.{◌+◌, ◌-◌, ◌≤◌}
+use Prim.Native.Nat.{◌+◌, ◌≤◌}
 use mathlib.Core.Path.{◌≡◌}
 use mathlib.Core.List.{[], ◌∷◌}
 use lib.ListN.{length, drop}

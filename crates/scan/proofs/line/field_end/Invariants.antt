@@ -1,5 +1,5 @@
 -- `field_end` meets its contract: from the index on, the space is found that is found from the start. Assumes nothing.
-use Prim.Native.Nat.{◌+◌, ◌-◌, ◌≤◌}
+use Prim.Native.Nat.{◌+◌, ◌≤◌}
 use mathlib.Core.Path.{◌≡◌}
 use lib.ListN.{length, drop}
 use Rattle.base.specs.Seek.{seek}

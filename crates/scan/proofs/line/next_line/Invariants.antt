@@ -1,6 +1,4 @@
 -- `next_line` meets its contract: no byte passed ends a line, and each `return` stands at a line's end. Assumes nothing.
-use Prim.Native.Nat.{◌-◌}
-use lib.ListN.{length}
 use Rattle.scan.proofs.line.Cutting.{Passed}
 use Rattle.scan.proofs.line.next_line.Given as goal
 

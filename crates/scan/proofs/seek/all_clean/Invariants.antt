@@ -1,7 +1,6 @@
 -- `scan::seek::all_clean` meets its contract. Assumes nothing.
-use Prim.Native.Nat.{◌-◌, ◌≤◌}
 use mathlib.Core.Path.{◌≡◌}
-use lib.ListN.{length, drop}
+use lib.ListN.{drop}
 use Rattle.base.specs.Seek.{all}
 use Rattle.paper.specs.Bytes.{is_clean}
 use Rattle.scan.proofs.seek.all_clean.Given as goal

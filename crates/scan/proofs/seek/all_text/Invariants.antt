@@ -1,7 +1,6 @@
 -- `scan::seek::all_text` meets its contract. Assumes nothing.
-use Prim.Native.Nat.{◌-◌, ◌≤◌}
 use mathlib.Core.Path.{◌≡◌}
-use lib.ListN.{length, drop}
+use lib.ListN.{drop}
 use Rattle.base.specs.Seek.{all}
 use Rattle.paper.specs.Bytes.{is_text}
 use Rattle.scan.proofs.seek.all_text.Given as goal
