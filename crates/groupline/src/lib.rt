@@ -80,7 +80,9 @@ fn has_payer(s: &[u8], always: bool) -> bool
     3 <= scan::line::spaces(s)
 }
 
-// TOTAL, at `at`, and DATE, behind the payer; the day may be judged here.
+// TOTAL, at `at`, and DATE, behind the payer; the day may be judged here. It is compiled into its caller: called, it would be handed a copy of
+// the sheet, which for groups of one item costs as much as judging the item.
+#[inline(always)]
 fn total_and_date(
     s: &[u8],
     at: usize,

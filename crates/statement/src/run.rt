@@ -110,7 +110,9 @@ fn moved(x: Open, code: u64, amount: u64) -> Open
     Open { turns, ..x }
 }
 
-// The statement that is open behind the next record, which stands behind k others.
+// The statement that is open behind the next record, which stands behind k others. It is compiled into both passes, which else would hand the
+// open statement to and fro for each record.
+#[inline(always)]
 pub fn next(run: Option<Open>, e: Entry, k: u64, p: Spots) -> Result<Open, Fault>
     requires small { Small e }
     requires stood { Stood run k }
