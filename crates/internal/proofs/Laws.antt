@@ -18,7 +18,7 @@ use Rattle.numeral.proofs.given.Given.{given-on, given-value}
 use Rattle.gpc.specs.Parts.{or51}
 use Rattle.gpc.specs.Internal.{taken, inside, outside, internal, edited, account_of, read_internal, spell_internal}
 use Rattle.internal.proofs.Places.{taken-length, taken_twice, count, taken-count, taken-all}
-use Rattle.internal.proofs.Parts.{parts-plain, parts-small, parts-spelled, parts-read, parts_back, refused-by, accepted-by}
+use Rattle.internal.proofs.Parts.{parts-plain, parts-small, parts-spelled, parts-read, parts_back, refused-by, accepted-by, no_other}
 
 -- ---- sixteen elements, digits or not, in one order and back
 
@@ -61,6 +61,10 @@ module _ (s : List ℕ) where
   any-sixteen long h =
       let r = parts-read (edited s) (taken-length outside s) (digits-out s long h) in
       (r.0, accepted r.0 long r.1)
+
+  pub only-51 : (n : ℕ) → read_internal s ≡ fault n → n ≡ 51
+  unfolding read_internal
+  only-51 n e = no_other _ n e
 
   module _ (a : Account) (h : read_internal s ≡ value a) where
     said : (n : ℕ) × (digits 16 16 s ≡ value n) × (account_of (edited s) ≡ value a)

@@ -80,3 +80,8 @@ pub accepted-by : {A : Type 0} (x : Field A) (a : A) → or51 x ≡ value a → 
 unfolding or51
 accepted-by (value b) a e = e
 accepted-by (fault n) a e = value-fault a 51 (sym e)
+
+pub no_other : (x : Field Account) (n : ℕ) → or51 x ≡ fault n → n ≡ 51
+unfolding or51
+no_other (value b) n e = value-fault b n e
+no_other (fault m) n e = cc

@@ -20,7 +20,15 @@ low-start st s =
     }
 
 -- so they fit the code's numbers
-pub low-bytes : (k : ℕ) (st : State) → Low k st → st.bytes ≤ 100000000000
-low-bytes k st low =
-    let few : low.n ≤ 200000000 = few-rows (before_of st.before) low.n low.few in
-    omega (arith, low.bytes)
+pub record Limits (k : ℕ) (st : State) : Type 0 where
+  pub row : k ≤ 200000001
+  pub bytes : st.bytes ≤ 100000000000
+
+module _ (k : ℕ) (st : State) (low : Low k st) where
+  pub limits : Limits k st
+  limits =
+      let few : low.n ≤ 200000000 = few-rows (before_of st.before) low.n low.few in
+      record { row = omega (arith, low.row); bytes = omega (arith, low.bytes) }
+
+  pub low-bytes : st.bytes ≤ 100000000000
+  low-bytes = limits.bytes
