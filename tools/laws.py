@@ -40,7 +40,7 @@ STANDING = {
     "rows/src/walk": ("proper_rows",),
     # worked examples of a statement's fields
     "internal/proofs/Examples": "*",
-    # every refusal of an account's internal form has one number, which a reader of the rules wants to see; the code keeps it in its type
+    # every refusal of an account's internal form has one number, which a reader of the rules wants to see; no proof asks it
     "internal/proofs/Laws": ("only-51",),
     "turnover/proofs/Edges": "*",
     "gpcwhole/proofs/Examples": "*",
