@@ -11,9 +11,8 @@ use Rattle.paper.specs.Batch.{Header}
 use Rattle.paper.specs.Proper.{check, may_stop, rows_proper}
 use Rattle.paper.specs.Carried.{Place, rows_carried}
 use Rattle.roundtrip.specs.flat.Count.{file_closing, count}
-use Rattle.rows.specs.declared.field.Wrong.{Wrong}
-use Rattle.rows.specs.field.Numbers.{number_of}
 use Rattle.rows.specs.walk.Walks.{before_of}
+use Rattle.survey.specs.declared.state.Found.{Found}
 use Rattle.survey.specs.declared.state.State.{State}
 use Rattle.survey.specs.state.Stands.{improper, unfit, fits, kept, survey_of, resume}
 
@@ -25,7 +24,7 @@ module _ (sh : Sheet) (today : ℕ) (h : Header) (p : Place) (k : ℕ) (st : Sta
   end-missing e = rw (← may, not-true stop e)
 
   module _ (e : not stop ≡ false) where
-    pub end-unfit : (w : Wrong) → st.found ≡ Some w → unfit w.row (number_of w.field) ≡ resume sh today h k p st []
+    pub end-unfit : (w : Found) → st.found ≡ Some w → unfit w.row w.field ≡ resume sh today h k p st []
     unfolding resume survey_of kept rows_proper check pick
     end-unfit w f = rw (← may, not-false stop e, f)
 

@@ -14,7 +14,7 @@ use Rattle.survey.specs.declared.Unwritable.TheVariants.{NotABatch, NotCarried}
 abbrev pub told : Result ℕ Unwritable → Outcome
 told (Ok n) = fits n
 told (Err (NotABatch w)) = improper w.row (number_of w.field)
-told (Err (NotCarried w)) = unfit w.row (number_of w.field)
+told (Err (NotCarried w)) = unfit w.row w.field
 
 -- 20 over all rows, then 21 over all rows, then the bytes of their lines
 unfoldable pub judged : Sheet → ℕ → Header → List Thing → Outcome

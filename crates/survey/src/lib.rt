@@ -16,7 +16,7 @@ ghost use Rattle.survey.specs.state.Stands.{resume};
 ghost use Rattle.survey.specs.state.Low.{Low};
 ghost use Rattle.survey.specs.Told.{told, judged, Small};
 
-use crate::state::{State, Step};
+use crate::state::{Found, State, Step};
 use calendar::term::Banks;
 use fileline::seen::Seen;
 use rows::field::{Field, Wrong};
@@ -26,7 +26,7 @@ use sheet::Sheet;
 #[derive(Clone, Copy)]
 pub enum Unwritable {
     NotABatch(Wrong),
-    NotCarried(Wrong),
+    NotCarried(Found),
 }
 
 // What judging ends in: the bytes of all lines behind the first.

@@ -4,8 +4,14 @@ ghost use Rattle.roundtrip.specs.flat.Count.{group_closing, file_closing};
 ghost use Rattle.rows.specs.walk.Walks.{stage_of};
 ghost use Rattle.survey.specs.state.Stands.{Tests, Starts};
 
-use rows::field::{Field, Wrong};
 use rows::walk::{Before, Stage};
+
+// What is wrong first: its row, and the number of its field, whatever that is.
+#[derive(Clone, Copy)]
+pub struct Found {
+    pub row: u64,
+    pub field: u64,
+}
 
 // Before a row: what refusal 20 counts; bytes that the rows before it take, but for the open group's total; the first thing, if any, that the
 // sheet cannot carry (21).
@@ -13,7 +19,7 @@ use rows::walk::{Before, Stage};
 pub struct State {
     pub before: Before,
     pub bytes: u64,
-    pub found: Option<Wrong>,
+    pub found: Option<Found>,
 }
 
 // What a row leads to: the state behind an item; behind a group, with its due date; behind an account file, with its kind and the first three
@@ -62,11 +68,11 @@ pub fn group_closing(stage: Stage, sum: u64) -> u64
 }
 
 // What is found once row k is tested, where nothing was before it.
-pub fn tested(k: u64, c: Result<(), Field>) -> Option<Wrong>
+pub fn tested(k: u64, c: Result<(), u64>) -> Option<Found>
     ensures { Tests k c result }
 {
     match c {
         Ok(()) => None,
-        Err(field) => Some(Wrong { row: k, field }),
+        Err(field) => Some(Found { row: k, field }),
     }
 }

@@ -9,6 +9,7 @@ ghost use Rattle.paper.specs.Carried.{Place, item_carried};
 ghost use Rattle.paper.specs.Proper.{Verdict, check};
 ghost use Rattle.paper.specs.Words.{words};
 ghost use Rattle.calendar.specs.term.Allows.{allows};
+ghost use Rattle.rows.specs.field.Numbers.{numbered};
 ghost use Rattle.rows.specs.read.After.{after};
 ghost use Rattle.rows.specs.read.Sized.{Sized};
 ghost use Rattle.rows.specs.read.Told.{item_of, told_item};
@@ -19,13 +20,23 @@ ghost use Rattle.survey.specs.state.Low.{Low};
 ghost use Rattle.survey.specs.state.Row.{Finds, Adds, Behind};
 ghost use Rattle.survey.specs.step.Steps.{Steps, StepsRead};
 
-use crate::state::{State, Step};
+use crate::state::{Found, State, Step};
 use calendar::term::Banks;
 use fileline::seen::Seen;
-use rows::field::{Field, Wrong};
+use rows::field::Field;
 use rows::read::{ItemRow, Row};
 use rows::walk::Before;
 use sheet::Sheet;
+
+// A test's answer, with the field by its number.
+fn numbered(test: Result<(), Field>) -> Result<(), u64>
+    ensures { result ≡ numbered test }
+{
+    match test {
+        Ok(()) => Ok(()),
+        Err(field) => Err(field.number()),
+    }
+}
 
 // ---- an account file
 
@@ -39,16 +50,16 @@ fn file_found(
     st: State,
     kind: u64,
     number: u64,
-) -> Option<Wrong>
+) -> Option<Found>
     requires number_bound { number < 1000000 }
     ensures { (today : ℕ) (h : Header) (p : Place) → h.from ≡ from → h.to ≡ to → Holds seen.words p.seen → Finds sh today h p k st (a_file kind number) result }
 {
     match st.found {
         Some(found) => Some(found),
-        None => crate::state::tested(
-            k,
-            rows::carried::file_carried(sh, from, to, seen, kind, number),
-        ),
+        None => {
+            let test = rows::carried::file_carried(sh, from, to, seen, kind, number);
+            crate::state::tested(k, numbered(test))
+        }
     }
 }
 
@@ -126,14 +137,17 @@ fn group_found(
     date: u64,
     prefix: u64,
     base: u64,
-) -> Option<Wrong>
+) -> Option<Found>
     requires today_value { real_day today ≡ true }
     requires date_value { real_day date ≡ true }
     ensures { (h : Header) (p : Place) → p.kind ≡ kind → Finds sh today h p k st (a_group date (account prefix base)) result }
 {
     match st.found {
         Some(found) => Some(found),
-        None => crate::state::tested(k, rows::carried::group_carried(sh, today, kind, date)),
+        None => {
+            let test = rows::carried::group_carried(sh, today, kind, date);
+            crate::state::tested(k, numbered(test))
+        }
     }
 }
 
@@ -239,13 +253,16 @@ fn item_found(
     banks: Banks,
     st: State,
     x: ItemRow,
-) -> Option<Wrong>
+) -> Option<Found>
     requires sized { Sized texts.now x }
     ensures { (today : ℕ) (h : Header) (p : Place) → p.items ≡ all → Due sh today banks p.kind p.date → Finds sh today h p k st (an_item (item_of texts.now x)) result }
 {
     match st.found {
         Some(found) => Some(found),
-        None => crate::state::tested(k, item_fits(sh, texts, all, banks, x)),
+        None => {
+            let test = item_fits(sh, texts, all, banks, x);
+            crate::state::tested(k, numbered(test))
+        }
     }
 }
 

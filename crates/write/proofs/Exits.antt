@@ -27,6 +27,7 @@ use Rattle.rows.specs.declared.field.Field.{Field}
 use Rattle.rows.specs.declared.field.Wrong.{Wrong}
 use Rattle.rows.specs.field.Numbers.{number_of as field_number}
 use Rattle.rows.specs.read.After.{after}
+use Rattle.survey.specs.declared.state.Found.{Found}
 use Rattle.survey.specs.declared.Unwritable.{Unwritable}
 use Rattle.survey.specs.declared.Unwritable.TheVariants.{NotABatch, NotCarried}
 use Rattle.survey.specs.Told.{told as surveyed_as, judged as surveyed}
@@ -59,11 +60,12 @@ pub ruleset interval = (no-header, no_interval, interval-wrong, interval-fine)
 
 -- c is what the header's test answered
 module _ (c : Result (Unit {0}) Field) (v : Verdict) (g : after 0 c fine ≡ v) where
-  pub found : (r : Refusal) (f : Field) (d : Draft) → c ≡ Err f → Tells (Err (record { refusal = r; at = record { row = 0; field = f } })) (on_verdict (number_of r) v d)
+  pub found : (r : Refusal) (f : Field) (d : Draft) → c ≡ Err f → (at : Found) → at.row ≡ 0 → at.field ≡ field_number f
+      → Tells (Err (record { refusal = r; at = at })) (on_verdict (number_of r) v d)
   unfolding Tells on_verdict
-  found r f d e =
+  found r f d e at row field =
       let w : v ≡ wrong 0 (field_number f) = sym g ∙ ap (λ (x : Result (Unit {0}) Field). after 0 x fine) e in
-      rw w
+      rw (w, row, field)
 
   passed : c ≡ Ok tt → fine ≡ v
   passed e = sym (ap (λ (x : Result (Unit {0}) Field). after 0 x fine) e) ∙ g
@@ -73,9 +75,10 @@ module _ (c : Result (Unit {0}) Field) (v : Verdict) (g : after 0 c fine ≡ v) 
   next-is n d next e h = rw (← passed e) h
 
 module _ (sh : Sheet) (from to : ℕ) (next : Result ℕ Refused) (c : Result (Unit {0}) Field) (g : (h : Header) → h.from ≡ from → h.to ≡ to → after 0 c fine ≡ pick sh.header (header_carried sh.interval h) fine) where
-  pub carry-found : (f : Field) → c ≡ Err f → (h : Header) (d : Draft) → h.from ≡ from → h.to ≡ to → Tells next d
-      → Tells (Err (record { refusal = why.NotCarried; at = record { row = 0; field = f } })) (on_verdict 21 (pick sh.header (header_carried sh.interval h) fine) d)
-  carry-found f e h d from to n = found c _ (g h from to) why.NotCarried f d e
+  pub carry-found : (f : Field) → c ≡ Err f → (at : Found) → at.row ≡ 0 → at.field ≡ field_number f
+      → (h : Header) (d : Draft) → h.from ≡ from → h.to ≡ to → Tells next d
+      → Tells (Err (record { refusal = why.NotCarried; at = at })) (on_verdict 21 (pick sh.header (header_carried sh.interval h) fine) d)
+  carry-found f e at row field h d from to n = found c _ (g h from to) why.NotCarried f d e at row field
 
   pub carry-next : c ≡ Ok tt → (h : Header) (d : Draft) → h.from ≡ from → h.to ≡ to → Tells next d
       → Tells next (on_verdict 21 (pick sh.header (header_carried sh.interval h) fine) d)
@@ -95,10 +98,11 @@ module _ (sh : Sheet) (today from to : ℕ) (ts : List Thing) (s : Result ℕ Un
   Before next r =
       (h : Header) (d : Draft) → h.from ≡ from → h.to ≡ to → Tells next d → Tells r (on_verdict 21 (pick sh.header (header_carried sh.interval h) fine) d)
 
-  pub row-improper : (u : Unwritable) → s ≡ Err u → (w : Wrong) → u ≡ NotABatch w → Judges (Err (record { refusal = why.NotABatch; at = w }))
-  row-improper u e w i h f t _ = laws.rows-improper sh today h ts w (sym (ap surveyed_as (e ∙ ap Err i)) ∙ g h f t)
+  pub row-improper : (u : Unwritable) → s ≡ Err u → (w : Wrong) → u ≡ NotABatch w → (at : Found) → at.row ≡ w.row → at.field ≡ field_number w.field
+      → Judges (Err (record { refusal = why.NotABatch; at = at }))
+  row-improper u e w i at row field h f t _ = laws.rows-improper sh today h ts at (rw (row, field) (sym (ap surveyed_as (e ∙ ap Err i)) ∙ g h f t))
 
-  pub row-unfit : (u : Unwritable) → s ≡ Err u → (w : Wrong) → u ≡ NotCarried w → (r : Result ℕ Refused)
+  pub row-unfit : (u : Unwritable) → s ≡ Err u → (w : Found) → u ≡ NotCarried w → (r : Result ℕ Refused)
       → Before (Err (record { refusal = why.NotCarried; at = w })) r → Judges r
   row-unfit u e w i r k h f t _ = laws.rows-unfit sh today h ts w (sym (ap surveyed_as (e ∙ ap Err i)) ∙ g h f t) r (λ d. k h d f t)
 
@@ -115,7 +119,7 @@ pub ruleset judging = (row-improper, row-unfit, rows_fit)
 -- ---- the batch
 
 module _ (sh : Sheet) (today : ℕ) (h : Header) (ts : List Thing) (c : Result (Unit {0}) Field) (g : after 0 c fine ≡ pick sh.header (header_proper h) fine) where
-  pub head-wrong : (f : Field) → c ≡ Err f → Tells (Err (record { refusal = why.NotABatch; at = record { row = 0; field = f } })) (draft_of sh today h ts)
+  pub head-wrong : (f : Field) → c ≡ Err f → (at : Found) → at.row ≡ 0 → at.field ≡ field_number f → Tells (Err (record { refusal = why.NotABatch; at = at })) (draft_of sh today h ts)
   unfolding draft_of
   head-wrong f e = found c _ g why.NotABatch f _ e
 
@@ -177,9 +181,8 @@ module _ (sh : Sheet) (today : ℕ) (h : Header) (ts : List Thing) (a : WriteAns
 
   -- j is what the batch was judged to be
   module _ (j : Result ℕ Refused) (g : Tells j (draft_of sh today h ts)) where
-    pub refused : (r : Refused) → j ≡ Err r → (field : ℕ) → field ≡ field_number r.at.field → a ≡ refused_at (number_of r.refusal) r.at.row field
-        → a ≡ written_in room (draft_of sh today h ts)
-    refused r e field f k = k ∙ (rw f (laws.refused-answer r _ (rw e at g) room))
+    pub refused : (r : Refused) → j ≡ Err r → a ≡ refused_at (number_of r.refusal) r.at.row r.at.field → a ≡ written_in room (draft_of sh today h ts)
+    refused r e k = k ∙ laws.refused-answer r _ (rw e at g) room
 
     pub refused-output : (r : Refused) → j ≡ Err r → o ≡ output_after o (draft_of sh today h ts)
     refused-output r e = laws.refused-output r _ (rw e at g) o

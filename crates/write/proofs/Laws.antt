@@ -22,13 +22,12 @@ use Rattle.roundtrip.proofs.linesound.FirstLine.{headless}
 use Rattle.roundtrip.specs.flat.Flat.{line_of, flat}
 use Rattle.roundtrip.proofs.flat.Canon.{canon-flat}
 use Rattle.roundtrip.proofs.flat.Lengths.{canon-length}
+use Rattle.survey.specs.declared.state.Found.{Found}
 use Rattle.survey.specs.state.Stands.{improper, unfit, fits, survey_of}
 use Rattle.survey.specs.Told.{judged as surveyed}
 use Rattle.std.proofs.Common.{Result, Ok, Err}
 use Rattle.refusal.specs.declared.Refusal.TheVariants.{NotABatch, NotCarried}
 use Rattle.refusal.specs.Numbers.{number_of}
-use Rattle.rows.specs.declared.field.Wrong.{Wrong}
-use Rattle.rows.specs.field.Numbers.{number_of as field_number}
 use Rattle.write.specs.declared.Refused.{Refused}
 use Rattle.write.specs.Told.{refused_at, counted_as, Named, before, Tells, rows_draft}
 
@@ -82,20 +81,20 @@ first-length sh r f h n = first_by sh sh.header refl r f h n
 
 module _ (sh : Sheet) (today : ℕ) (h : Header) (ts : List Thing) where
   -- 20 of a row comes before 21, of the header too
-  pub rows-improper : (w : Wrong) → improper w.row (field_number w.field) ≡ surveyed sh today h ts → Tells (Err (record { refusal = NotABatch; at = w })) (rows_draft sh today h ts)
+  pub rows-improper : (w : Found) → improper w.row w.field ≡ surveyed sh today h ts → Tells (Err (record { refusal = NotABatch; at = w })) (rows_draft sh today h ts)
   unfolding surveyed rows_draft on_verdict Tells
-  rows-improper w e = rw (improper-rows (batch_proper ts) (batch_carried sh today h ts) _ w.row (field_number w.field) e)
+  rows-improper w e = rw (improper-rows (batch_proper ts) (batch_carried sh today h ts) _ w.row w.field e)
 
   -- what judging says of the header's 21, whatever comes behind it
   abbrev pub Carries : Result ℕ Refused → Result ℕ Refused → Type 0
   Carries next r = (d : Draft) → Tells next d → Tells r (on_verdict 21 (pick sh.header (header_carried sh.interval h) fine) d)
 
   -- behind 21 of the header comes that of a row
-  pub rows-unfit : (w : Wrong) → unfit w.row (field_number w.field) ≡ surveyed sh today h ts → (r : Result ℕ Refused)
+  pub rows-unfit : (w : Found) → unfit w.row w.field ≡ surveyed sh today h ts → (r : Result ℕ Refused)
       → Carries (Err (record { refusal = NotCarried; at = w })) r → Tells r (rows_draft sh today h ts)
   unfolding surveyed rows_draft on_verdict Tells
   rows-unfit w e r f =
-      let (p, q) = unfit-rows (batch_proper ts) (batch_carried sh today h ts) _ w.row (field_number w.field) e in
+      let (p, q) = unfit-rows (batch_proper ts) (batch_carried sh today h ts) _ w.row w.field e in
       rw p (f (on_verdict 21 (batch_carried sh today h ts) (drafted (canon sh h (batch_of ts)))) (rw q))
 
   -- or nothing, and the file has the first line's bytes, CR LF, and those of the rows
@@ -116,7 +115,7 @@ bytes-verdict n k (wrong row field) d (s, e, l) = absurd (let z : ◌≡◌ {A =
 
 -- a refusal: its number, row and field, and the output as it was
 module _ (r : Refused) (d : Draft) (e : Tells (Err r) d) where
-  pub refused-answer : (room : ℕ) → refused_at (number_of r.refusal) r.at.row (field_number r.at.field) ≡ written_in room d
+  pub refused-answer : (room : ℕ) → refused_at (number_of r.refusal) r.at.row r.at.field ≡ written_in room d
   unfolding Tells written_in
   refused-answer room = rw e
 

@@ -9,7 +9,6 @@ use Rattle.paper.specs.Canonical.{canon}
 use Rattle.paper.specs.Writing.{Draft, drafted, refusal, on_verdict, WriteAnswer}
 use Rattle.write.specs.declared.AboWritten.{AboWritten}
 use Rattle.refusal.specs.Numbers.{number_of}
-use Rattle.rows.specs.field.Numbers.{number_of as field_number}
 use Rattle.write.specs.declared.Refused.{Refused}
 
 -- "The batch": the header of these numbers and this name
@@ -38,7 +37,7 @@ before s old = s ++ drop (length s) old
 
 -- what judging a batch tells of its draft: the number, row and field that it is refused with; or how many bytes its file has
 unfoldable pub Tells : Result ℕ Refused → Draft → Type 0
-Tells (Err r) d = d ≡ refusal (number_of r.refusal) r.at.row (field_number r.at.field)
+Tells (Err r) d = d ≡ refusal (number_of r.refusal) r.at.row r.at.field
 Tells (Ok n) d = (s : List ℕ) × (d ≡ drafted s) × (n ≡ length s)
 
 -- behind the header's 20: the rows' 20, the header's 21, the rows' 21

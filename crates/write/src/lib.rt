@@ -13,6 +13,7 @@ ghost use Rattle.paper.specs.FirstLine.{spell_first};
 ghost use Rattle.paper.specs.Rows.{rows_in, things_in};
 ghost use Rattle.paper.specs.Canonical.{canon};
 ghost use Rattle.paper.specs.Writing.{Draft, on_verdict, draft_of, draft_with, draft, written_in, output_after};
+ghost use Rattle.rows.specs.field.Numbers.{number_of as field_number};
 ghost use Rattle.rows.specs.read.After.{after};
 ghost use Rattle.write.specs.Told.{header_of, told, refused_at, counted_as, Tells, rows_draft, Named, before};
 
@@ -20,6 +21,7 @@ use refusal::Refusal;
 use rows::field::{Field, Wrong};
 use sheet::Sheet;
 use survey::Unwritable;
+use survey::state::Found;
 
 // The whole answer of writing: the number, its row and field; the bytes written or, where there is no room, needed.
 #[repr(C)]
@@ -35,7 +37,7 @@ pub struct AboWritten {
 #[derive(Clone, Copy)]
 pub struct Refused {
     pub refusal: Refusal,
-    pub at: Wrong,
+    pub at: Found,
 }
 
 // A refusal writes nothing and names no bytes.
@@ -63,6 +65,17 @@ pub fn counted(refusal: Option<Refusal>, bytes: u64) -> AboWritten
         row: 0,
         field: 0,
         bytes,
+    }
+}
+
+// What is wrong, with its field by its number.
+fn by_number(wrong: Wrong) -> Found
+    ensures row { result.row ≡ wrong.row }
+    ensures field { result.field ≡ field_number wrong.field }
+{
+    Found {
+        row: wrong.row,
+        field: wrong.field.number(),
     }
 }
 
@@ -105,7 +118,7 @@ fn carry(sh: Sheet, from: u64, to: u64, next: Result<u64, Refused>) -> Result<u6
     match header_carried(sh, from, to) {
         Err(field) => Err(Refused {
             refusal: Refusal::NotCarried,
-            at: Wrong { row: 0, field },
+            at: by_number(Wrong { row: 0, field }),
         }),
         Ok(()) => next,
     }
@@ -132,8 +145,9 @@ fn judge_rows(
     ensures { (h : Header) → h.from ≡ from → h.to ≡ to → Named sh h → Tells result (rows_draft sh today h (things_in texts.now (rows_in rows.now))) }
 {
     match survey::survey(rows, texts, sh, today, from, to) {
-        Err(Unwritable::NotABatch(at)) => {
+        Err(Unwritable::NotABatch(wrong)) => {
             let refusal = Refusal::NotABatch;
+            let at = by_number(wrong);
             Err(Refused { refusal, at })
         }
         Err(Unwritable::NotCarried(at)) => {
@@ -162,7 +176,7 @@ fn judge(
     match header_proper(sh, date, name, client, from, to) {
         Err(field) => Err(Refused {
             refusal: Refusal::NotABatch,
-            at: Wrong { row: 0, field },
+            at: by_number(Wrong { row: 0, field }),
         }),
         Ok(()) => judge_rows(rows, texts, sh, today, from, to),
     }
@@ -231,7 +245,7 @@ fn write_on(
 {
     if calendar::real_day(today) {
         match judge(rows, texts, date, name, client, from, to, sh, today) {
-            Err(refused) => refusal(refused.refusal, refused.at.row, refused.at.field.number()),
+            Err(refused) => refusal(refused.refusal, refused.at.row, refused.at.field),
             Ok(bytes) => accept(
                 rows, texts, date, name, client, from, to, sh, today, bytes, out,
             ),

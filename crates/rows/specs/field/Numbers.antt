@@ -1,5 +1,5 @@
 -- The number of each field: docs/ROWS.md, the first word of a row's field, and the header's fields in their order. Assumes nothing.
-use Rattle.std.specs.Prelude.{ℕ}
+use Rattle.std.specs.Prelude.{ℕ, Result, Ok, Err}
 use Rattle.rows.specs.declared.field.Field.{Field}
 use Rattle.rows.specs.declared.field.Field.TheVariants.{Row, HeaderDate, HeaderName, HeaderClient, HeaderFrom, HeaderTo, FileKind, FileNumber, GroupDue, GroupPayer, ItemPayer, ItemPayee, ItemBank, ItemAmount, ItemVariable, ItemSpecific, ItemConstant, ItemPriority, ItemPart1, ItemPart2, ItemPart3, ItemPart4, ItemName, ItemReference}
 
@@ -28,3 +28,8 @@ number_of ItemPart3 = 15
 number_of ItemPart4 = 17
 number_of ItemName = 19
 number_of ItemReference = 21
+
+-- a test's answer, with the field told by its number
+abbrev pub numbered : Result (Unit {0}) Field → Result (Unit {0}) ℕ
+numbered (Ok u) = Ok u
+numbered (Err f) = Err (number_of f)

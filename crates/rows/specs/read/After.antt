@@ -2,9 +2,13 @@
 use Rattle.std.specs.Prelude.{ℕ, Result, Ok, Err}
 use Rattle.paper.specs.Proper.{Verdict, wrong}
 use Rattle.rows.specs.declared.field.Field.{Field}
-use Rattle.rows.specs.field.Numbers.{number_of}
+use Rattle.rows.specs.field.Numbers.{numbered}
 
--- row k has passed, and the rest is judged; or its field f is wrong
+-- row k has passed, and the rest is judged; or its field of this number is wrong
+abbrev pub after_number : ℕ → Result (Unit {0}) ℕ → Verdict → Verdict
+after_number k (Ok u) rest = rest
+after_number k (Err n) rest = wrong k n
+
+-- .. where the test names the field
 abbrev pub after : ℕ → Result (Unit {0}) Field → Verdict → Verdict
-after k (Ok u) rest = rest
-after k (Err f) rest = wrong k (number_of f)
+after k c rest = after_number k (numbered c) rest

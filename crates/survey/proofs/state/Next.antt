@@ -14,12 +14,12 @@ use Rattle.roundtrip.proofs.flat.Few.{few-file, few-group, few-item}
 use Rattle.rows.specs.declared.read.ItemRow.{ItemRow}
 use Rattle.rows.specs.declared.walk.Before.{Before}
 use Rattle.std.proofs.Common.{Option, Ok}
-use Rattle.rows.specs.declared.field.Wrong.{Wrong}
 use Rattle.rows.specs.read.Sized.{Sized}
 use Rattle.rows.specs.read.Told.{item_of}
 use Rattle.rows.specs.walk.Walks.{before_of, Walks}
 use Rattle.rows.proofs.walk.Passed.{file-passed, group-passed, item-passed, walk-sum}
 use Rattle.fileline.specs.seen.Bits.{Holds}
+use Rattle.survey.specs.declared.state.Found.{Found}
 use Rattle.survey.specs.declared.state.State.{State}
 use Rattle.survey.specs.state.Known.{Due}
 use Rattle.survey.specs.state.Low.{Low}
@@ -41,7 +41,7 @@ module _ (b next : Before) where
 -- ---- its numbers stay small
 
 module _ (k : ℕ) (st : State) (low : Low k st) where
-  module _ (next : Before) (f : Option Wrong) (n : ℕ) (more : n ≤ st.bytes + 500) where
+  module _ (next : Before) (f : Option Found) (n : ℕ) (more : n ≤ st.bytes + 500) where
     pub low-file : (kind number : ℕ) → Walks st.before (a_file kind number) (Ok next) → Low (k + 1) (record { before = next; bytes = n; found = f })
     low-file kind number w =
         let p = file-passed st.before next kind number w in
@@ -76,7 +76,7 @@ module _ (k : ℕ) (st : State) (low : Low k st) where
 
 -- ---- it stands behind the row
 
-module _ (sh : Sheet) (k : ℕ) (st : State) (next : Before) (f : Option Wrong) (n : ℕ) where
+module _ (sh : Sheet) (k : ℕ) (st : State) (next : Before) (f : Option Found) (n : ℕ) where
   pub behind-file : (from to : ℕ) (seen : List ℕ) (kind number : ℕ) → Walks st.before (a_file kind number) (Ok next)
       → ((today : ℕ) (h : Header) (p : Place) → h.from ≡ from → h.to ≡ to → Holds seen p.seen → Finds sh today h p k st (a_file kind number) f)
       → ((sh : Sheet) (kind number : ℕ) → Adds sh st (a_file kind number) n)

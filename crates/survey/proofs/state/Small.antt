@@ -6,12 +6,10 @@ use lib.ListN.{length}
 use Rattle.paper.specs.Proper.{Verdict, wrong}
 use Rattle.paper.specs.Numerals.{decimal}
 use Rattle.roundtrip.specs.flat.Count.{group_closing, file_closing}
-use Rattle.rows.specs.declared.field.Field.{Field}
-use Rattle.rows.specs.declared.field.Wrong.{Wrong}
-use Rattle.rows.specs.field.Numbers.{number_of}
 use Rattle.rows.specs.declared.walk.Stage.{Stage}
 use Rattle.rows.specs.declared.walk.Stage.TheVariants as stage
 use Rattle.rows.specs.walk.Walks.{stage_of}
+use Rattle.survey.specs.declared.state.Found.{Found}
 use Rattle.survey.specs.state.Stands.{kept, Tests}
 
 -- ---- bytes that close what is open
@@ -53,21 +51,21 @@ module _ (st : Stage) (sum : ℕ) where
 
 -- ---- what was found
 
-module _ (f : Option Wrong) (v : Verdict) where
+module _ (f : Option Found) (v : Verdict) where
   pub kept-none : f ≡ None → kept f v ≡ v
   unfolding kept
   kept-none e = rw e
 
-  pub kept_at : (w : Wrong) → f ≡ Some w → kept f v ≡ wrong w.row (number_of w.field)
+  pub kept_at : (w : Found) → f ≡ Some w → kept f v ≡ wrong w.row w.field
   unfolding kept
   kept_at w e = rw e
 
-module _ (k : ℕ) (c : Result (Unit {0}) Field) where
+module _ (k : ℕ) (c : Result (Unit {0}) ℕ) where
   pub tests-fine : c ≡ Ok tt → Tests k c None
   unfolding kept
   tests-fine e = record { same = λ v. rw e }
 
-  pub tests-wrong : (field : Field) → c ≡ Err field → Tests k c (Some (record { row = k; field = field }))
+  pub tests-wrong : (field : ℕ) → c ≡ Err field → Tests k c (Some (record { row = k; field = field }))
   unfolding kept
   tests-wrong field e = record { same = λ v. rw e }
 

@@ -1,5 +1,5 @@
 -- What was found for 21 behind a row: the first fault stays, else the row's own is found. Assumes nothing.
-use mathlib.Core.Path.{◌≡◌, refl, sym, ◌∙◌}
+use mathlib.Core.Path.{◌≡◌, refl, sym, ap, ◌∙◌}
 use mathlib.Core.Bool.{true, false}
 use mathlib.Core.List.{List}
 use Prim.Native.Nat.{ℕ, ◌≤◌, ◌<◌}
@@ -20,12 +20,13 @@ use Rattle.calendar.specs.declared.term.Banks.TheVariants as which
 use Rattle.calendar.specs.term.Allows.{allows}
 use Rattle.std.proofs.Common.{Option, Some, None, Result}
 use Rattle.rows.specs.declared.field.Field.{Field}
-use Rattle.rows.specs.declared.field.Wrong.{Wrong}
-use Rattle.rows.specs.read.After.{after}
+use Rattle.rows.specs.field.Numbers.{numbered}
+use Rattle.rows.specs.read.After.{after_number, after}
 use Rattle.rows.proofs.read.Fields.{passes, fails, below, beyond}
 use Rattle.fileline.specs.seen.Bits.{Holds}
+use Rattle.survey.specs.declared.state.Found.{Found}
 use Rattle.survey.specs.declared.state.State.{State}
-use Rattle.survey.specs.state.Stands.{Tests}
+use Rattle.survey.specs.state.Stands.{kept, Tests}
 use Rattle.survey.specs.state.Known.{Due}
 use Rattle.survey.specs.state.Row.{Finds}
 use Rattle.survey.proofs.state.Small.{kept-none, kept_at}
@@ -55,18 +56,21 @@ pub ruleset allowing = (any-allowed, own-allowed, none_allowed)
 
 module _ (sh : Sheet) (k : ℕ) (st : State) where
   -- what was found before stays
-  pub stays : (w : Wrong) → st.found ≡ Some w → (today : ℕ) (h : Header) (p : Place) (t : Thing) → Finds sh today h p k st t (Some w)
+  pub stays : (w : Found) → st.found ≡ Some w → (today : ℕ) (h : Header) (p : Place) (t : Thing) → Finds sh today h p k st t (Some w)
   stays w e today h p t = record { same = λ ts. kept_at (Some w) _ w refl ∙ sym (kept_at st.found _ w e) }
 
-  -- nothing was found before; row k is judged by the test d, which finds g
-  module _ (none : st.found ≡ None) (d : Result (Unit {0}) Field) (g : Option Wrong) (tests : Tests k d g) where
+  -- nothing was found before; row k is judged by the test d, which by numbers is n and finds g
+  module _ (none : st.found ≡ None) (d : Result (Unit {0}) Field) (n : Result (Unit {0}) ℕ) (told : n ≡ numbered d) (g : Option Found) (tests : Tests k n g) where
+    finds : (v : Verdict) → kept g v ≡ after k d v
+    finds v = tests.same v ∙ ap (λ (c : Result (Unit {0}) ℕ). after_number k c v) told
+
     pub file-finds : (from to : ℕ) (seen : List ℕ) (kind number : ℕ)
         → ((h : Header) (l : List ℕ) → h.from ≡ from → h.to ≡ to → Holds seen l → (k : ℕ) (rest : Verdict)
         → after k d rest ≡ check k 1 (kind_allowed sh kind) (check k 2 (number_allowed sh.interval h l number) rest))
         → (today : ℕ) (h : Header) (p : Place) → h.from ≡ from → h.to ≡ to → Holds seen p.seen → Finds sh today h p k st (a_file kind number) g
     unfolding rows_carried
     file-finds from to seen kind number carried today h p f t holds =
-        record { same = λ ts. tests.same _ ∙ (carried h p.seen f t holds k _ ∙ sym (kept-none st.found _ none)) }
+        record { same = λ ts. finds _ ∙ (carried h p.seen f t holds k _ ∙ sym (kept-none st.found _ none)) }
 
     pub group-finds : (today kind date : ℕ)
         → ((k : ℕ) (rest : Verdict) → after k d rest ≡ check k 1 (due_allowed (day_here sh kind) sh.early sh.ahead today date) rest)
@@ -74,7 +78,7 @@ module _ (sh : Sheet) (k : ℕ) (st : State) where
     unfolding rows_carried
     group-finds today kind date carried payer h p e =
         let here : (k : ℕ) (rest : Verdict) → after k d rest ≡ check k 1 (due_allowed (day_here sh p.kind) sh.early sh.ahead today date) rest = rw e carried in
-        record { same = λ ts. tests.same _ ∙ (here k _ ∙ sym (kept-none st.found _ none)) }
+        record { same = λ ts. finds _ ∙ (here k _ ∙ sym (kept-none st.found _ none)) }
 
     pub item-finds : (all : ℕ) (banks : Banks) (x : Item)
         → ((k : ℕ) (rest : Verdict)
@@ -84,6 +88,6 @@ module _ (sh : Sheet) (k : ℕ) (st : State) where
     item-finds all banks x carried today h p e due =
         let here : (k : ℕ) (rest : Verdict)
         → after k d rest ≡ check k 0 (ltb p.items sh.fileitems) (check k 5 (bank_due sh today p.kind p.date x.bank) (item_carried sh k x rest)) = rw (e, ← due x.bank) carried in
-        record { same = λ ts. tests.same _ ∙ (here k _ ∙ sym (kept-none st.found _ none)) }
+        record { same = λ ts. finds _ ∙ (here k _ ∙ sym (kept-none st.found _ none)) }
 
 pub ruleset finding = (file-finds, group-finds, item-finds)

@@ -4,8 +4,8 @@ use Rattle.sheet.specs.declared.Sheet.{Sheet}
 use Rattle.paper.specs.Batch.{Header, Thing, a_file, a_group, an_item, misnumbered, strange}
 use Rattle.paper.specs.Carried.{Place, behind_file, behind_group, behind_item, rows_carried}
 use Rattle.roundtrip.specs.flat.Count.{count}
-use Rattle.rows.specs.declared.field.Wrong.{Wrong}
 use Rattle.rows.specs.walk.Walks.{before_of, behind, Walks}
+use Rattle.survey.specs.declared.state.Found.{Found}
 use Rattle.survey.specs.declared.state.State.{State}
 use Rattle.survey.specs.state.Stands.{kept}
 
@@ -20,7 +20,7 @@ place_behind p strange = p
 -- ---- the row t, before which st stands
 
 -- 21: f is what was found once row k, which is t and stands at p, is tested besides
-pub record Finds (sh : Sheet) (today : ℕ) (h : Header) (p : Place) (k : ℕ) (st : State) (t : Thing) (f : Option Wrong) : Type 0 where
+pub record Finds (sh : Sheet) (today : ℕ) (h : Header) (p : Place) (k : ℕ) (st : State) (t : Thing) (f : Option Found) : Type 0 where
   pub same : (ts : List Thing) → kept f (rows_carried sh today h (suc k) (place_behind p t) ts) ≡ kept st.found (rows_carried sh today h k p (t ∷ ts))
 
 -- n are the bytes so far, with those of its line and of what it closes

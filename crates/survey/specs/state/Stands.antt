@@ -5,21 +5,19 @@ use Rattle.paper.specs.Batch.{Header, Thing}
 use Rattle.paper.specs.Proper as paper
 use Rattle.paper.specs.Carried.{Place, rows_carried}
 use Rattle.roundtrip.specs.flat.Count.{count}
-use Rattle.rows.specs.declared.field.Field.{Field}
-use Rattle.rows.specs.declared.field.Wrong.{Wrong}
-use Rattle.rows.specs.field.Numbers.{number_of}
-use Rattle.rows.specs.read.After.{after}
+use Rattle.rows.specs.read.After.{after_number}
 use Rattle.rows.specs.walk.Walks.{before_of}
+use Rattle.survey.specs.declared.state.Found.{Found}
 use Rattle.survey.specs.declared.state.State.{State}
 
 -- refusal 21: a fault that was found stays, whatever comes behind it
-unfoldable pub kept : Option Wrong → paper.Verdict → paper.Verdict
-kept (Some w) v = paper.wrong w.row (number_of w.field)
+unfoldable pub kept : Option Found → paper.Verdict → paper.Verdict
+kept (Some w) v = paper.wrong w.row w.field
 kept None v = v
 
 -- f is what the test c of row k finds
-pub record Tests (k : ℕ) (c : Result (Unit {0}) Field) (f : Option Wrong) : Type 0 where
-  pub same : (v : paper.Verdict) → kept f v ≡ after k c v
+pub record Tests (k : ℕ) (c : Result (Unit {0}) ℕ) (f : Option Found) : Type 0 where
+  pub same : (v : paper.Verdict) → kept f v ≡ after_number k c v
 
 -- before the first row
 pub record Starts (st : State) : Type 0 where
